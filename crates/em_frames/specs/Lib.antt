@@ -1,0 +1,4 @@
+pub mod Device
+pub mod Frames
+pub mod Memory
+pub mod Pool

@@ -1,0 +1,9 @@
+pub mod DiskShelf
+pub mod Feed
+pub mod MemShelf
+pub mod MemSink
+pub mod MemTexts
+pub mod Printer
+pub mod Shelf
+pub mod Sink
+pub mod StdSink

@@ -1,0 +1,5 @@
+pub mod Ascending
+pub mod MapLaws
+pub mod QueueLaws
+mod Rows
+pub mod StabLaws

@@ -1,0 +1,54 @@
+-- Worked rows: lists of commands and their answers, which the definitions compute.
+use Rattle.std.proofs.Common.{◌≡◌, [], ◌∷◌, refl, Some, None}
+use Rattle.em_model.specs.declared.command.Command.TheVariants.{Put, Del, Get, Push, Pop, Interval, Stab}
+use Rattle.em_model.specs.Map.{map_answers}
+use Rattle.em_model.specs.Queue.{queue_answers}
+use Rattle.em_model.specs.Stab.{stab_answers}
+
+-- a get answers the last put before it, and none behind a del
+map_of_one_key :
+    map_answers (Put 5 10 ∷ Get 5 ∷ Put 5 11 ∷ Get 5 ∷ Del 5 ∷ Get 5 ∷ [])
+    ≡ Some 10 ∷ Some 11 ∷ None ∷ []
+map_of_one_key = refl
+
+-- keys are told apart, from the least to the greatest
+map_of_the_ends :
+    map_answers (Get 0 ∷ Put 0 7 ∷ Put 18446744073709551615 8 ∷ Del 9 ∷ Get 18446744073709551615
+    ∷ Get 0 ∷ [])
+    ≡ None ∷ Some 8 ∷ Some 7 ∷ []
+map_of_the_ends = refl
+
+-- elements of one key leave in the order of their pushes, whatever their values
+queue_of_one_key :
+    queue_answers (Push 4 1 ∷ Push 4 2 ∷ Pop ∷ Push 4 0 ∷ Pop ∷ Pop ∷ Pop ∷ [])
+    ≡ Some (4, 1) ∷ Some (4, 2) ∷ Some (4, 0) ∷ None ∷ []
+queue_of_one_key = refl
+
+-- the least key leaves first
+queue_of_two_keys :
+    queue_answers (Push 9 1 ∷ Push 0 2 ∷ Pop ∷ Pop ∷ Pop ∷ [])
+    ≡ Some (0, 2) ∷ Some (9, 1) ∷ None ∷ []
+queue_of_two_keys = refl
+
+-- both ends belong to an interval
+stab_of_three :
+    stab_answers (Stab 5 ∷ Interval 5 5 ∷ Interval 7 18446744073709551615 ∷ Stab 5 ∷ Stab 6
+    ∷ Stab 18446744073709551615 ∷ Interval 0 5 ∷ Stab 5 ∷ [])
+    ≡ [] ∷ (0 ∷ []) ∷ [] ∷ (1 ∷ []) ∷ (0 ∷ 2 ∷ []) ∷ []
+stab_of_three = refl
+
+-- a stab sees the earlier intervals alone
+stab_before_interval : stab_answers (Stab 5 ∷ Interval 0 9 ∷ []) ≡ [] ∷ []
+stab_before_interval = refl
+
+-- the commands of the other two files change nothing and answer nothing
+map_of_others : map_answers (Push 5 1 ∷ Interval 5 5 ∷ Get 5 ∷ Pop ∷ Stab 5 ∷ []) ≡ None ∷ []
+map_of_others = refl
+
+queue_of_others :
+    queue_answers (Put 5 1 ∷ Interval 5 5 ∷ Get 5 ∷ Pop ∷ Del 5 ∷ Stab 5 ∷ []) ≡ None ∷ []
+queue_of_others = refl
+
+stab_of_others :
+    stab_answers (Put 5 1 ∷ Push 5 1 ∷ Get 5 ∷ Pop ∷ Del 5 ∷ Stab 5 ∷ []) ≡ [] ∷ []
+stab_of_others = refl

@@ -1,0 +1,4 @@
+pub mod Calls
+pub mod Cost
+pub mod Count
+pub mod Shape

@@ -1,0 +1,15 @@
+//! What all crates share: records, the shape of a machine, and the words for what fails.
+#![tactic(auto)]
+
+mod calls;
+mod fault;
+mod record;
+mod shape;
+
+pub use calls::Calls;
+pub use fault::{Failed, NoMemory, ShapeFault};
+pub use record::Record;
+pub use shape::Shape;
+
+#[cfg(test)]
+mod tests;

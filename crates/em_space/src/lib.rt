@@ -1,0 +1,13 @@
+//! The rig: a device's blocks in use, and the frames of a run.
+#![tactic(auto)]
+
+mod fault;
+mod refused;
+mod rig;
+
+pub use fault::EmFault;
+pub use refused::OpenRefused;
+pub use rig::Rig;
+
+#[cfg(test)]
+mod tests;

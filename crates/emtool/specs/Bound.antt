@@ -1,0 +1,15 @@
+-- The stated bounds of a run, by the size of the run: the commands taken, where this much of the
+-- text is left.
+use Rattle.std.specs.Prelude.{ℕ, ◌+◌, ◌*◌, List}
+use Rattle.em_record.specs.Cost.{cost}
+use Rattle.emtool.specs.declared.job.Job.{Job}
+use Rattle.emtool.specs.declared.text.FileKind.TheVariants.{Map}
+use Rattle.emtool.specs.RunSize.{commands_taken}
+
+-- the block transfers that a run may make
+abbrev pub transfer_bound : Job → List ℕ → List ℕ → ℕ
+transfer_bound job text left = cost job.shape (commands_taken Map text left)
+
+-- the blocks that are enough for a run: one for each transfer, and four for each frame
+abbrev pub stated_room : Job → List ℕ → List ℕ → ℕ
+stated_room job text left = transfer_bound job text left + 4 * job.shape.frames

@@ -1,0 +1,57 @@
+-- The message of each status, one line on the error stream: docs/FORMATS.md, "Exit codes and
+-- messages".
+use Rattle.std.specs.Prelude.{ℕ, List, [], ◌∷◌, ◌++◌, codes, decimal, Option, Some, None}
+use Rattle.emtool.specs.declared.text.TextKind.{TextKind}
+use Rattle.emtool.specs.declared.text.TextKind.TheVariants.{BadNumber, TooLarge, BadSeparator, Unknown, EmptyLine, LowAboveHigh, TooLong}
+use Rattle.emtool.specs.declared.status.Malform.{Malform}
+use Rattle.emtool.specs.declared.status.Malform.TheVariants.{Text}
+use Rattle.emtool.specs.declared.status.UsageKind.{UsageKind}
+use Rattle.emtool.specs.declared.status.UsageKind.TheVariants.{NoCommand, UnknownCommand, UnknownOption, MissingOperand, ExtraOperand}
+use Rattle.emtool.specs.declared.status.Status.{Status}
+use Rattle.emtool.specs.declared.status.Status.TheVariants.{Done, Usage, Malformed, ReadFault, WriteFault, DeviceFault, Full, NoMemory}
+
+-- the name of a fault of a line
+abbrev pub text_kind_name : TextKind → List ℕ
+text_kind_name BadNumber = codes "BadNumber"
+text_kind_name TooLarge = codes "TooLarge"
+text_kind_name BadSeparator = codes "BadSeparator"
+text_kind_name Unknown = codes "Unknown"
+text_kind_name EmptyLine = codes "EmptyLine"
+text_kind_name LowAboveHigh = codes "LowAboveHigh"
+text_kind_name TooLong = codes "TooLong"
+
+-- the name of what is wrong with an input
+abbrev pub malform_name : Malform → List ℕ
+malform_name (Text kind) = text_kind_name kind
+
+-- the name of a usage fault
+abbrev pub usage_kind_name : UsageKind → List ℕ
+usage_kind_name NoCommand = codes "NoCommand"
+usage_kind_name UnknownCommand = codes "UnknownCommand"
+usage_kind_name UnknownOption = codes "UnknownOption"
+usage_kind_name MissingOperand = codes "MissingOperand"
+usage_kind_name ExtraOperand = codes "ExtraOperand"
+
+-- a number in decimal, or nothing
+abbrev pub digits_of : Option ℕ → List ℕ
+digits_of None = []
+digits_of (Some n) = decimal n
+
+-- a line: some words, a name, more words, a number, and a last word
+abbrev pub line_of : List ℕ → List ℕ → List ℕ → Option ℕ → List ℕ → List ℕ
+line_of start name link number last =
+    ((((start ++ name) ++ link) ++ digits_of number) ++ last) ++ 10 ∷ []
+
+-- the message of a status
+abbrev pub message_of : Status → List ℕ
+message_of Done = []
+message_of (Usage kind word) =
+    line_of (codes "emtool: usage: ") (usage_kind_name kind) (codes " at word ") (Some word) []
+message_of (Malformed kind place) =
+    line_of (codes "emtool: malformed: ") (malform_name kind) (codes " at ") (Some place) []
+message_of ReadFault = line_of (codes "emtool: an input could not be read") [] [] None []
+message_of WriteFault = line_of (codes "emtool: the output could not be written") [] [] None []
+message_of DeviceFault = line_of (codes "emtool: the scratch device failed") [] [] None []
+message_of (Full used) =
+    line_of (codes "emtool: the scratch device is full at ") [] [] (Some used) (codes " blocks")
+message_of NoMemory = line_of (codes "emtool: no memory for the frames") [] [] None []

@@ -1,0 +1,101 @@
+-- What a run leaves of the outside.
+use Rattle.std.specs.Prelude.{◌≡◌, ℕ, ◌+◌, ◌-◌, ◌*◌, ◌<◌, ◌≤◌, ◌^◌, ◌⊎◌, Bool, true, IsTrue, IsSome, List, [], is_none}
+use Rattle.em_record.specs.Count.{Rose}
+use Rattle.em_io.specs.Sink.{SentPart}
+use Rattle.em_io.specs.Shelf.{SlotState, Stand, Leaves}
+use Rattle.em_io.specs.declared.shelf.Shelf.{Ghosts as ShelfGhosts}
+use Rattle.em_io.specs.declared.shelf.Slot.TheVariants.{First}
+use Rattle.em_io.specs.declared.sink.Sink.{Ghosts as SinkGhosts}
+use Rattle.em_frames.specs.Device.{DeviceState}
+use Rattle.em_space.specs.declared.fault.EmFault.{EmFault}
+use Rattle.em_space.specs.declared.fault.EmFault.TheVariants as em
+use Rattle.emtool.specs.declared.status.Status.{Status}
+use Rattle.emtool.specs.declared.status.Status.TheVariants.{Done, Malformed, ReadFault, WriteFault, DeviceFault, Full}
+use Rattle.emtool.specs.declared.text.FileKind.TheVariants.{Map}
+use Rattle.emtool.specs.Bound.{stated_room}
+use Rattle.emtool.specs.declared.job.Job.{Job}
+use Rattle.emtool.specs.Due.{due_status, output_text}
+use Rattle.emtool.specs.RunSize.{commands_taken}
+use Rattle.emtool.specs.Status.{OnEnd, OnDone, IfEndsFull}
+
+-- The outside at one moment: the device, the state of the output, the first slot of the shelf, and
+-- how often shelf and output failed.
+pub record Outside : Type 0 where
+  pub device : DeviceState
+  pub output : List ℕ
+  pub slot : SlotState
+  pub read_faults : ℕ
+  pub write_faults : ℕ
+
+-- the outside, from what the shelf, the device and the output tell of themselves
+abbrev pub outside : {H W : Type 0} → ShelfGhosts H → SinkGhosts W → DeviceState → H → W → Outside
+outside h w device shelf out = record {
+  device = device;
+  output = w.state out;
+  slot = (h.stand shelf).slot First;
+  read_faults = h.faults shelf;
+  write_faults = w.faults out;
+}
+
+-- the status of a fault of the rig
+abbrev pub em_status : EmFault → Status
+em_status em.DeviceFault = DeviceFault
+em_status (em.Full used) = Full used
+
+-- The slot was opened with Ok, and nothing of its text is left.
+pub record IsAllRead (tells : Bool) (slot : SlotState) : Type 0 where
+  pub opened : slot.ready ≡ true
+  pub nothing_left : IsTrue tells → slot.left ≡ []
+
+-- The end of a run over this text, on a device of so many blocks of which none was in use or moved
+-- before.
+pub record Ended (tells : Bool) (took : List ℕ → List ℕ → List ℕ) (text : List ℕ) (block blocks : ℕ)
+    (old new : Outside) (status : Status) : Type 0 where
+  pub answers : IsTrue tells → IsTrue old.device.told
+      → OnEnd status
+      ((status ≡ due_status text) × (new.output ≡ took old.output (output_text text)))
+  pub prefix : IsTrue tells → IsTrue old.device.told
+      → SentPart took old.output (output_text text) new.output
+  pub all_read : OnDone status (IsAllRead tells new.slot)
+  pub full : IfEndsFull status (λ used. used ≡ blocks)
+  pub paid : IfEndsFull status (λ used. (2 ^ 64 - 1 ≤ new.device.moves) ⊎ (used ≤ new.device.moves))
+  pub size : IsTrue tells
+      → IfEndsFull status (λ used. used * block ≤ commands_taken Map text new.slot.left)
+
+-- The device still tells what it told, and no count of faults fell.
+pub record GoesOn (old new : Outside) : Type 0 where
+  pub told : new.device.told ≡ old.device.told
+  pub read : old.read_faults ≤ new.read_faults
+  pub write : old.write_faults ≤ new.write_faults
+  pub device : old.device.faults ≤ new.device.faults
+
+-- No count of faults rose.
+pub record IsQuiet (old new : Outside) : Type 0 where
+  pub read : Rose old.read_faults new.read_faults → ⊥
+  pub write : Rose old.write_faults new.write_faults → ⊥
+  pub device : Rose old.device.faults new.device.faults → ⊥
+
+-- A status that names the outside has its cause there: its count of faults rose.
+pub record Caused (old new : Outside) (status : Status) : Type 0 where
+  pub goes_on : GoesOn old new
+  pub read : status ≡ ReadFault → Rose old.read_faults new.read_faults
+  pub write : status ≡ WriteFault → Rose old.write_faults new.write_faults
+  pub device : status ≡ DeviceFault → Rose old.device.faults new.device.faults
+
+-- The first slot was opened on this name, at most once, and no other. It is lost only where the
+-- name isn't there, and then the run is neither done nor is the input malformed.
+pub record OpensOnly (tells : Bool) (name : List ℕ) (old new : Stand) (status : Status)
+    : Type 0 where
+  pub leaves : Leaves First old new
+  pub lost : IsTrue tells → (new.slot First).lost ≡ true → is_none (old.text First name) ≡ true
+  pub there : IsTrue tells → OnEnd status (IsSome (old.text First name))
+
+-- The device was full of blocks in use: their number is that of the job's blocks. It is below the
+-- moves that were made plus four for each frame, where the count of moves isn't at its end, and
+-- below the stated room.
+pub record IsFull (tells : Bool) (job : Job) (text : List ℕ) (old new : Outside) (used : ℕ)
+    : Type 0 where
+  pub all : used ≡ job.blocks
+  pub moves : new.device.moves < 2 ^ 64 - 1
+      → used + old.device.moves < new.device.moves + 4 * job.shape.frames
+  pub room : IsTrue tells → used < stated_room job text new.slot.left

@@ -1,0 +1,48 @@
+-- How a run ends: docs/FORMATS.md, "Exit codes and messages".
+use Rattle.std.specs.Prelude.{ℕ, Option, Some, None}
+use Rattle.emtool.specs.declared.status.Usage.{Usage}
+use Rattle.emtool.specs.declared.status.Status.{Status}
+use Rattle.emtool.specs.declared.status.Status.TheVariants.{Done, Malformed, ReadFault, WriteFault, DeviceFault, Full, NoMemory}
+use Rattle.emtool.specs.declared.status.Status.TheVariants as status
+
+-- the exit code
+abbrev pub code_of : Status → ℕ
+code_of Done = 0
+code_of (status.Usage kind word) = 1
+code_of (Malformed kind place) = 2
+code_of ReadFault = 3
+code_of WriteFault = 4
+code_of DeviceFault = 5
+code_of (Full used) = 6
+code_of NoMemory = 7
+
+-- the refusal of the words, where the status is one
+abbrev pub refusal_of : Status → Option Usage
+refusal_of (status.Usage kind word) = Some (record { kind = kind; word = word })
+refusal_of other = None
+
+-- P, where the words were refused
+abbrev pub OnUsage : Status → Type 0 → Type 0
+OnUsage (status.Usage kind word) P = P
+OnUsage other P = Unit {0}
+
+-- P, where all was answered
+abbrev pub OnDone : Status → Type 0 → Type 0
+OnDone Done P = P
+OnDone other P = Unit {0}
+
+-- P, where the input was read to its end or to its first fault
+abbrev pub OnEnd : Status → Type 0 → Type 0
+OnEnd Done P = P
+OnEnd (Malformed kind place) P = P
+OnEnd other P = Unit {0}
+
+-- P, where there was no memory
+abbrev pub OnNoMemory : Status → Type 0 → Type 0
+OnNoMemory NoMemory P = P
+OnNoMemory other P = Unit {0}
+
+-- P of the number of blocks, where the device was full
+abbrev pub IfEndsFull : Status → (ℕ → Type 0) → Type 0
+IfEndsFull (Full used) P = P used
+IfEndsFull other P = Unit {0}

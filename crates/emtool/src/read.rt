@@ -1,0 +1,73 @@
+ghost use Rattle.std.specs.Prelude.{◌≡◌, ◌<◌, ◌≤◌, true, [], length, OnOk, IsTrue};
+ghost use Rattle.em_io.specs.Feed.{rest};
+ghost use Rattle.em_space.specs.Rig.{Sound, Goes};
+ghost use Rattle.em_space.specs.Seen.{seen};
+ghost use Rattle.emtool.specs.CommandLine.{first_fault, good_commands};
+ghost use Rattle.emtool.specs.CommandList.{IsList, commands};
+ghost use Rattle.emtool.specs.Reads.{Reads};
+ghost use Rattle.emtool.specs.ReadAll.{ReadsAll, StopsReading};
+
+use crate::command_list::CommandList;
+use crate::line::take_line;
+use crate::text::{FileKind, LineStop, TextKind};
+use em_frames::Device;
+use em_io::{Feed, Shelf};
+use em_space::{EmFault, Rig};
+
+/// Why the commands weren't all read.
+#[derive(Clone, Copy, Debug, PartialEq, Eq, Drop)]
+pub enum ReadStop {
+    /// The line of this number, from 1, is faulty.
+    Fault { kind: TextKind, line: u64 },
+    /// The shelf failed: its count of faults rose.
+    Read,
+    /// A call on the rig gave up.
+    Em(EmFault),
+}
+
+/// Reads all commands of a map file into a list that has none, up to the first fault.
+pub fn read_all<D: Device, H: Shelf>(
+    rig: &mut Rig<'_, D>,
+    list: &mut CommandList,
+    feed: &mut Feed,
+    shelf: &mut H,
+) -> Result<(), ReadStop>
+    requires sound { Sound (seen D.state rig.old) }
+    requires free { 0 < (seen D.state rig.old).pool.free }
+    requires is { IsList (seen D.state rig.old) list.old }
+    requires none { list.old.count ≡ 0 }
+    requires commands { commands (seen D.state rig.old) list.old ≡ [] }
+    requires ready { ((H.stand shelf.old).slot feed.old.slot).ready ≡ true }
+    requires place { feed.old.place ≡ 0 }
+    ensures goes { Goes [] (seen D.state rig.old) (seen D.state rig.new) }
+    ensures frame { length list.new.frame ≡ length list.old.frame }
+    ensures is { OnOk result (IsList (seen D.state rig.new) list.new) }
+    ensures reads { Reads H.tells feed.old (H.stand shelf.old) feed.new (H.stand shelf.new) }
+    ensures later { H.faults shelf.old ≤ H.faults shelf.new }
+    ensures whole { IsTrue H.tells → OnOk result
+        (ReadsAll (rest feed.old (H.stand shelf.old)) (rest feed.new (H.stand shelf.new))) }
+    ensures commands { IsTrue H.tells → IsTrue (seen D.state rig.old).device.told → OnOk result
+        (commands (seen D.state rig.new) list.new
+        ≡ good_commands FileKind.Map (rest feed.old (H.stand shelf.old))) }
+    ensures stop { StopsReading H.tells (rest feed.old (H.stand shelf.old))
+        ((H.stand shelf.new).slot feed.old.slot).left (H.faults shelf.old) (H.faults shelf.new)
+        (seen D.state rig.old) (seen D.state rig.new) result }
+{
+    let mut number: u64 = 1;
+    loop {
+        let next = match take_line(FileKind::Map, feed, shelf, number) {
+            Ok(next) => next,
+            Err(LineStop::Read) => return Err(ReadStop::Read),
+            Err(LineStop::Fault(kind)) => {
+                return Err(ReadStop::Fault { kind, line: number });
+            }
+        };
+        let Some(command) = next else {
+            return Ok(());
+        };
+        if let Err(fault) = list.append(rig, command) {
+            return Err(ReadStop::Em(fault));
+        }
+        number += 1;
+    }
+}

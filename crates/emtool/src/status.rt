@@ -1,0 +1,73 @@
+ghost use Rattle.std.specs.Prelude.{◌≡◌};
+ghost use Rattle.emtool.specs.Status.{code_of};
+
+use crate::text::TextKind;
+
+/// Why the words name no job.
+#[derive(Clone, Copy, Debug, PartialEq, Eq, Drop)]
+pub enum UsageKind {
+    /// There is no word.
+    NoCommand,
+    /// The first word is no command.
+    UnknownCommand,
+    /// The word is no option of the command.
+    UnknownOption,
+    /// The command wants one operand more.
+    MissingOperand,
+    /// The word is one operand too many.
+    ExtraOperand,
+}
+
+/// Why the words name no job, and the number, from 0, of the word at which that shows.
+#[derive(Clone, Copy, Debug, PartialEq, Eq, Drop)]
+pub struct Usage {
+    pub kind: UsageKind,
+    pub word: u64,
+}
+
+/// What is wrong with an input.
+#[derive(Clone, Copy, Debug, PartialEq, Eq, Drop)]
+pub enum Malform {
+    /// A line of a command file; the place is the line's number, from 1.
+    Text(TextKind),
+}
+
+/// How a run ended.
+#[derive(Clone, Copy, Debug, PartialEq, Eq, Drop)]
+pub enum Status {
+    /// All answers were printed.
+    Done,
+    /// The words name no job. Nothing was read, moved or printed.
+    Usage { kind: UsageKind, word: u64 },
+    /// The input has a fault. What comes before it was answered as far as the command prints early.
+    Malformed { kind: Malform, place: u64 },
+    /// The shelf failed: its count of faults rose.
+    ReadFault,
+    /// The output failed: its count of faults rose.
+    WriteFault,
+    /// The device failed: its count of faults rose.
+    DeviceFault,
+    /// A block was needed, and all `used` blocks of the device were in use.
+    Full { used: u64 },
+    /// There was no memory for the frames, or for what the device keeps. Nothing was read or
+    /// printed.
+    NoMemory,
+}
+
+impl Status {
+    /// The exit code of the program.
+    pub fn code(&self) -> u8
+        ensures { result ≡ code_of self.now }
+    {
+        match self {
+            Status::Done => 0,
+            Status::Usage { kind: _, word: _ } => 1,
+            Status::Malformed { kind: _, place: _ } => 2,
+            Status::ReadFault => 3,
+            Status::WriteFault => 4,
+            Status::DeviceFault => 5,
+            Status::Full { used: _ } => 6,
+            Status::NoMemory => 7,
+        }
+    }
+}

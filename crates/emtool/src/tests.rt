@@ -1,0 +1,361 @@
+//! Whole runs over the outside in memory.
+ghost use Rattle.std.specs.Prelude.{◌<◌};
+
+use crate::job::Job;
+use crate::status::{Malform, Status, UsageKind};
+use crate::text::TextKind;
+use crate::top::{emtool, run_pool};
+use em_frames::{Grant, MemDevice};
+use em_io::{MemShelf, MemSink};
+use em_record::Shape;
+use std::test::Fail;
+
+/// The file of the first worked run, of 42 bytes.
+const FIRST: &[u8] = b"put 5 10\nget 5\nput 5 11\nget 5\ndel 5\nget 5\n";
+
+/// A file with the least and the greatest key, of 77 bytes; its last line has no newline.
+const ENDS: &[u8] =
+    b"get 0\nput 0 7\nput 18446744073709551615 8\ndel 9\nget 18446744073709551615\nget 0";
+
+/// The outside of a run: the most bytes that a call of the output takes, and the numbers of the
+/// calls of each part that fail.
+#[derive(Clone, Copy)]
+struct Setting<'a> {
+    piece: usize,
+    device_fails: &'a [u64],
+    shelf_fails: &'a [u64],
+    out_fails: &'a [u64],
+    err_fails: &'a [u64],
+}
+
+const PLAIN: Setting<'static> = Setting {
+    piece: 1000,
+    device_fails: &[],
+    shelf_fails: &[],
+    out_fails: &[],
+    err_fails: &[],
+};
+
+/// How a run over a shelf with the file `a` ended, what the output took and what the error stream
+/// took. A read of the shelf gives at most 5 bytes, and a call of the error stream takes at most 7.
+fn run(
+    rt: &HostRuntime,
+    words: &[&str],
+    text: &[u8],
+    setting: Setting<'_>,
+) -> Result<(Status, MemSink, MemSink), Fail>
+    requires { 0 < setting.piece }
+{
+    let alloc = rt.alloc();
+    let mut given = Vec::new(alloc);
+    for word in words {
+        given.push(String::from_str(alloc, word)?)?;
+    }
+    let mut device = MemDevice::new(alloc, setting.device_fails)?;
+    let mut shelf = MemShelf::new(alloc, 5, setting.shelf_fails)?;
+    shelf.add("a", text)?;
+    let mut out = MemSink::new(alloc, setting.piece, setting.out_fails)?;
+    let mut err = MemSink::new(alloc, 7, setting.err_fails)?;
+    let status = emtool(
+        &given,
+        Grant::new(alloc),
+        &mut device,
+        &mut shelf,
+        &mut out,
+        &mut err,
+    );
+    Ok((status, out, err))
+}
+
+/// The status of a faulty line.
+fn malformed(kind: TextKind, place: u64) -> Status {
+    Status::Malformed {
+        kind: Malform::Text(kind),
+        place,
+    }
+}
+
+#[test]
+fn map_files_are_answered(rt: HostRuntime) -> Result<(), Fail> {
+    let cases: [(&[u8], &[u8]); 3] = [(FIRST, b"10\n11\n-\n"), (b"", b""), (ENDS, b"-\n8\n7\n")];
+    for (text, output) in cases {
+        let (status, out, err) = run(&rt, &["map", "a"], text, PLAIN)?;
+        assert!(rt; status == Status::Done);
+        assert_eq!(rt; out.bytes(), output);
+        assert_eq!(rt; err.bytes(), b"".as_slice());
+    }
+    Ok(())
+}
+
+#[test]
+fn faulty_lines_are_named_and_nothing_is_printed(rt: HostRuntime) -> Result<(), Fail> {
+    let cases: [(&[u8], TextKind, u64, &[u8]); 6] = [
+        (
+            b"put 1 2\nget 1\nput 1 18446744073709551616\n",
+            TextKind::TooLarge,
+            3,
+            b"emtool: malformed: TooLarge at 3\n",
+        ),
+        (
+            b"put 1 2\nget  1\nbogus\n",
+            TextKind::BadSeparator,
+            2,
+            b"emtool: malformed: BadSeparator at 2\n",
+        ),
+        (
+            b"get 1\nbogus\n",
+            TextKind::Unknown,
+            2,
+            b"emtool: malformed: Unknown at 2\n",
+        ),
+        (
+            b"get 1\n\n",
+            TextKind::EmptyLine,
+            2,
+            b"emtool: malformed: EmptyLine at 2\n",
+        ),
+        (
+            b"get 000000000000000000001\n",
+            TextKind::BadNumber,
+            1,
+            b"emtool: malformed: BadNumber at 1\n",
+        ),
+        (
+            b"pop\n",
+            TextKind::Unknown,
+            1,
+            b"emtool: malformed: Unknown at 1\n",
+        ),
+    ];
+    for (text, kind, line, message) in cases {
+        let (status, out, err) = run(&rt, &["map", "a"], text, PLAIN)?;
+        assert!(rt; status == malformed(kind, line));
+        assert_eq!(rt; out.bytes(), b"".as_slice());
+        assert_eq!(rt; err.bytes(), message);
+    }
+    Ok(())
+}
+
+#[test]
+fn words_that_name_no_job_are_refused(rt: HostRuntime) -> Result<(), Fail> {
+    let cases: [(&[&str], UsageKind, u64, &[u8]); 7] = [
+        (
+            &[],
+            UsageKind::NoCommand,
+            0,
+            b"emtool: usage: NoCommand at word 0\n",
+        ),
+        (
+            &["mop", "a"],
+            UsageKind::UnknownCommand,
+            0,
+            b"emtool: usage: UnknownCommand at word 0\n",
+        ),
+        (
+            &["map"],
+            UsageKind::MissingOperand,
+            1,
+            b"emtool: usage: MissingOperand at word 1\n",
+        ),
+        (
+            &["map", "--stats", "a"],
+            UsageKind::UnknownOption,
+            1,
+            b"emtool: usage: UnknownOption at word 1\n",
+        ),
+        (
+            &["map", "--"],
+            UsageKind::UnknownOption,
+            1,
+            b"emtool: usage: UnknownOption at word 1\n",
+        ),
+        (
+            &["map", "a", "b"],
+            UsageKind::ExtraOperand,
+            2,
+            b"emtool: usage: ExtraOperand at word 2\n",
+        ),
+        (
+            &["map", "a", "--stats"],
+            UsageKind::ExtraOperand,
+            2,
+            b"emtool: usage: ExtraOperand at word 2\n",
+        ),
+    ];
+    for (words, kind, word, message) in cases {
+        let (status, out, err) = run(&rt, words, FIRST, PLAIN)?;
+        assert!(rt; status == Status::Usage { kind, word });
+        assert_eq!(rt; out.bytes(), b"".as_slice());
+        assert_eq!(rt; err.bytes(), message);
+    }
+    Ok(())
+}
+
+#[test]
+fn a_name_that_is_not_there_is_a_read_fault(rt: HostRuntime) -> Result<(), Fail> {
+    let (status, out, err) = run(&rt, &["map", "b"], FIRST, PLAIN)?;
+    assert!(rt; status == Status::ReadFault);
+    assert_eq!(rt; out.bytes(), b"".as_slice());
+    assert_eq!(rt;
+        err.bytes(),
+        b"emtool: an input could not be read\n".as_slice()
+    );
+    Ok(())
+}
+
+/// Call 0 begins the device, and files so small move no block: there is no call 1.
+#[test]
+fn each_failing_call_of_the_device_is_a_device_fault(rt: HostRuntime) -> Result<(), Fail> {
+    let failed: &[u8] = b"emtool: the scratch device failed\n";
+    let cases: [(&[u8], u64, Status, &[u8], &[u8]); 4] = [
+        (FIRST, 0, Status::DeviceFault, b"", failed),
+        (FIRST, 1, Status::Done, b"10\n11\n-\n", b""),
+        (ENDS, 0, Status::DeviceFault, b"", failed),
+        (ENDS, 1, Status::Done, b"-\n8\n7\n", b""),
+    ];
+    for (text, call, status, output, message) in cases {
+        let failing = [call];
+        let setting = Setting {
+            device_fails: &failing,
+            ..PLAIN
+        };
+        let (got, out, err) = run(&rt, &["map", "a"], text, setting)?;
+        assert!(rt; got == status);
+        assert_eq!(rt; out.bytes(), output);
+        assert_eq!(rt; err.bytes(), message);
+    }
+    Ok(())
+}
+
+/// Call 0 opens the file. The first file's 42 bytes come in 9 reads, and one more finds its end.
+/// The other's 77 bytes come in 16 reads, and its end is found three times: by the last number, by
+/// the last line, and where the next line would begin.
+#[test]
+fn each_failing_call_of_the_shelf_is_a_read_fault(rt: HostRuntime) -> Result<(), Fail> {
+    let cases: [(&[u8], u64, &[u8]); 2] = [(FIRST, 11, b"10\n11\n-\n"), (ENDS, 20, b"-\n8\n7\n")];
+    for (text, calls, output) in cases {
+        for call in 0..calls + 1 {
+            let failing = [call];
+            let setting = Setting {
+                shelf_fails: &failing,
+                ..PLAIN
+            };
+            let (status, out, _) = run(&rt, &["map", "a"], text, setting)?;
+            if call < calls {
+                assert!(rt; status == Status::ReadFault);
+                assert_eq!(rt; out.bytes(), b"".as_slice());
+            } else {
+                assert!(rt; status == Status::Done);
+                assert_eq!(rt; out.bytes(), output);
+            }
+        }
+    }
+    Ok(())
+}
+
+/// The output takes three bytes a call, so each line of the files goes out in one.
+#[test]
+fn each_failing_write_leaves_the_lines_before_it(rt: HostRuntime) -> Result<(), Fail> {
+    let cases: [(&[u8], u64, Status, &[u8]); 8] = [
+        (FIRST, 0, Status::WriteFault, b""),
+        (FIRST, 1, Status::WriteFault, b"10\n"),
+        (FIRST, 2, Status::WriteFault, b"10\n11\n"),
+        (FIRST, 3, Status::Done, b"10\n11\n-\n"),
+        (ENDS, 0, Status::WriteFault, b""),
+        (ENDS, 1, Status::WriteFault, b"-\n"),
+        (ENDS, 2, Status::WriteFault, b"-\n8\n"),
+        (ENDS, 3, Status::Done, b"-\n8\n7\n"),
+    ];
+    for (text, call, status, output) in cases {
+        let failing = [call];
+        let setting = Setting {
+            piece: 3,
+            out_fails: &failing,
+            ..PLAIN
+        };
+        let (got, out, _) = run(&rt, &["map", "a"], text, setting)?;
+        assert!(rt; got == status);
+        assert_eq!(rt; out.bytes(), output);
+    }
+    Ok(())
+}
+
+#[test]
+fn a_failing_error_stream_changes_no_status(rt: HostRuntime) -> Result<(), Fail> {
+    let cases: [(u64, &[u8]); 2] = [(0, b""), (1, b"emtool:")];
+    for (call, message) in cases {
+        let failing = [call];
+        let setting = Setting {
+            err_fails: &failing,
+            ..PLAIN
+        };
+        let (status, _, err) = run(&rt, &["map", "b"], FIRST, setting)?;
+        assert!(rt; status == Status::ReadFault);
+        assert_eq!(rt; err.bytes(), message);
+    }
+    Ok(())
+}
+
+/// The keys 0 to 2049, each with the value 3 above it, fill the blocks 0 and 1, and the last two
+/// wait in the frame with the gets. Calls 1 and 2 of the device write the blocks, 3 and 4 read them
+/// in search of gets, and each of the three gets reads both: there is no call 11.
+#[test]
+fn a_map_of_several_blocks_is_answered(rt: HostRuntime) -> Result<(), Fail> {
+    let alloc = rt.alloc();
+    let mut text = Vec::new(alloc);
+    for key in 0..2050u64 {
+        let line = format!(in alloc; "put {} {}\n", key, key + 3)?;
+        text.extend_from_slice(line.as_bytes())?;
+    }
+    text.extend_from_slice(b"get 5\nget 2047\nget 2050\n")?;
+    let cases: [(u64, Status, &[u8]); 9] = [
+        (1, Status::DeviceFault, b""),
+        (2, Status::DeviceFault, b""),
+        (3, Status::DeviceFault, b""),
+        (4, Status::DeviceFault, b""),
+        (6, Status::DeviceFault, b""),
+        (7, Status::DeviceFault, b"8\n"),
+        (9, Status::DeviceFault, b"8\n2050\n"),
+        (10, Status::DeviceFault, b"8\n2050\n"),
+        (11, Status::Done, b"8\n2050\n-\n"),
+    ];
+    for (call, status, output) in cases {
+        let failing = [call];
+        let setting = Setting {
+            device_fails: &failing,
+            ..PLAIN
+        };
+        let (got, out, _) = run(&rt, &["map", "a"], &text, setting)?;
+        assert!(rt; got == status);
+        assert_eq!(rt; out.bytes(), output);
+    }
+    Ok(())
+}
+
+/// Four blocks of commands over a device of three: the fourth block isn't there.
+#[test]
+fn a_small_device_is_full(rt: HostRuntime) -> Result<(), Fail> {
+    let alloc = rt.alloc();
+    let mut text = Vec::new(alloc);
+    for _ in 0..4096 {
+        text.extend_from_slice(b"put 1 2\n")?;
+    }
+    text.extend_from_slice(b"get 1\n")?;
+    let mut shelf = MemShelf::new(alloc, 4096, &[])?;
+    shelf.add("a", &text)?;
+    let mut device = MemDevice::new(alloc, &[])?;
+    let mut out = MemSink::new(alloc, 10, &[])?;
+    let Ok(shape) = Shape::new(1024, 256) else {
+        unreachable!()
+    };
+    let pool = Grant::new(alloc).pool(shape)?;
+    let job = Job {
+        shape,
+        blocks: 3,
+        file: 1,
+    };
+    let status = run_pool(&job, "a", pool, &mut device, &mut shelf, &mut out);
+    assert!(rt; status == Status::Full { used: 3 });
+    assert_eq!(rt; out.bytes(), b"".as_slice());
+    Ok(())
+}

@@ -1,0 +1,194 @@
+ghost use Rattle.std.specs.Prelude.{◌≡◌, ◌<◌, ◌≤◌, ◌^◌, ◌⊎◌, length, IsTrue};
+ghost use Rattle.std.specs.Result.{result_err};
+ghost use Rattle.em_record.specs.Count.{Rose};
+ghost use Rattle.em_io.specs.Shelf.{IsFresh};
+ghost use Rattle.em_io.specs.Sink.{SentPart};
+ghost use Rattle.em_frames.specs.Pool.{fresh_pool};
+ghost use Rattle.emtool.specs.Bound.{stated_room};
+ghost use Rattle.emtool.specs.Due.{text_of, due_status, output_text, ForText};
+ghost use Rattle.emtool.specs.Job.{texts_of, job_of, file_name, ForJob, IsJob};
+ghost use Rattle.emtool.specs.Report.{message_of};
+ghost use Rattle.emtool.specs.Run.{outside, Ended, Caused, GoesOn, IsAllRead, IsFull, IsQuiet, OpensOnly};
+ghost use Rattle.emtool.specs.Status.{refusal_of, IfEndsFull, OnDone, OnEnd, OnNoMemory, OnUsage};
+
+use crate::job::{Job, read_job};
+use crate::report::report;
+use crate::run::run_map;
+use crate::status::Status;
+use em_frames::{BeginFault, Device, Grant, Pool};
+use em_io::{Shelf, Sink, Slot};
+use em_space::Rig;
+
+/// Runs a job with a pool of its shape, which it gives up. The name is that of the job's file.
+pub fn run_pool<D: Device, H: Shelf, W: Sink>(
+    job: &Job,
+    name: &str,
+    pool: Pool,
+    device: &mut D,
+    shelf: &mut H,
+    out: &mut W,
+) -> Status
+    requires pool { pool ≡ fresh_pool job.now.shape }
+    requires blocks_low { 0 < job.now.blocks }
+    requires blocks_high { job.now.blocks ≤ 2 ^ 40 }
+    requires device { (D.state device.old).blocks ≡ 0 }
+    requires shelf { IsFresh (H.stand shelf.old) }
+    ensures ended { Ended H.tells W.took (text_of (H.stand shelf.old) name.now)
+        job.now.shape.block job.now.blocks
+        (outside H.Shelf W.Sink (D.state device.old) shelf.old out.old)
+        (outside H.Shelf W.Sink (D.state device.new) shelf.new out.new) result }
+    ensures caused { Caused
+        (outside H.Shelf W.Sink (D.state device.old) shelf.old out.old)
+        (outside H.Shelf W.Sink (D.state device.new) shelf.new out.new) result }
+    ensures opens { OpensOnly H.tells name.now (H.stand shelf.old) (H.stand shelf.new) result }
+    ensures none_moved { (D.state device.old).moves ≡ 0 }
+    ensures no_memory { OnNoMemory result ((shelf.new ≡ shelf.old) × (out.new ≡ out.old)
+        × ((D.state device.new).moves ≡ 0)) }
+    ensures no_usage { OnUsage result ⊥ }
+{
+    match Rig::open(job.shape, job.blocks, device, pool) {
+        Ok(mut rig) => {
+            let status = run_map(&mut rig, shelf, name, out);
+            let pool = rig.close();
+            pool.end();
+            status
+        }
+        Err(refused) => {
+            let (pool, fault) = refused.take();
+            pool.end();
+            match fault {
+                BeginFault::Failed => Status::DeviceFault,
+                BeginFault::NoMemory => Status::NoMemory,
+            }
+        }
+    }
+}
+
+/// Runs the job that the words name, and writes nothing on the error stream.
+fn run_words<D: Device, H: Shelf, W: Sink>(
+    words: &[String],
+    grant: Grant,
+    device: &mut D,
+    shelf: &mut H,
+    out: &mut W,
+) -> Status
+    requires device { (D.state device.old).blocks ≡ 0 }
+    requires shelf { IsFresh (H.stand shelf.old) }
+    ensures words { refusal_of result ≡ result_err (job_of (texts_of words.now)) }
+    ensures as_before { OnUsage result
+        ((device.new ≡ device.old) × (shelf.new ≡ shelf.old) × (out.new ≡ out.old)) }
+    ensures ended { ForJob (texts_of words.now) (λ job. Ended H.tells W.took
+        (text_of (H.stand shelf.old) (file_name (texts_of words.now) job))
+        job.shape.block job.blocks
+        (outside H.Shelf W.Sink (D.state device.old) shelf.old out.old)
+        (outside H.Shelf W.Sink (D.state device.new) shelf.new out.new) result) }
+    ensures caused { Caused
+        (outside H.Shelf W.Sink (D.state device.old) shelf.old out.old)
+        (outside H.Shelf W.Sink (D.state device.new) shelf.new out.new) result }
+    ensures opens { ForJob (texts_of words.now) (λ job. OpensOnly H.tells
+        (file_name (texts_of words.now) job) (H.stand shelf.old) (H.stand shelf.new) result) }
+    ensures is { ForJob (texts_of words.now) (IsJob (length words.now)) }
+    ensures none_moved { IfEndsFull result (λ _. (D.state device.old).moves ≡ 0) }
+    ensures no_memory { OnNoMemory result ((shelf.new ≡ shelf.old) × (out.new ≡ out.old)
+        × ((D.state device.new).moves ≡ (D.state device.old).moves)) }
+{
+    let job = match read_job(words) {
+        Ok(job) => job,
+        Err(usage) => {
+            return Status::Usage {
+                kind: usage.kind,
+                word: usage.word,
+            };
+        }
+    };
+    let Ok(pool) = grant.pool(job.shape) else {
+        return Status::NoMemory;
+    };
+    run_pool(
+        &job,
+        words[job.file as usize].as_str(),
+        pool,
+        device,
+        shelf,
+        out,
+    )
+}
+
+/// Runs the job that the words name: `words` are those behind the program's name. Answers of the
+/// map file go to `out`, the message of a status other than `Done` to `err`, and commands that
+/// don't fit into the frames of `grant` to `device`. A fault of `err` changes nothing: writing
+/// there stops.
+///
+/// Clauses on what texts and blocks hold are said of a shelf and a device that tell it, as each
+/// clause says; those on words, counts and numbers of every one.
+pub fn emtool<D: Device, H: Shelf, W: Sink, E: Sink>(
+    words: &[String],
+    grant: Grant,
+    device: &mut D,
+    shelf: &mut H,
+    out: &mut W,
+    err: &mut E,
+) -> Status
+    requires device { (D.state device.old).blocks ≡ 0 }
+    requires shelf { IsFresh (H.stand shelf.old) }
+
+    // Words: a usage fault comes exactly where the words name no job, and leaves device, shelf and
+    // output as they were.
+    ensures words { refusal_of result ≡ result_err (job_of (texts_of words.now)) }
+    ensures as_before { OnUsage result
+        ((device.new ≡ device.old) × (shelf.new ≡ shelf.old) × (out.new ≡ out.old)) }
+
+    // Answers: where the input was read to its end or to its first fault, status and output are
+    // what is due.
+    ensures answers { ForText (texts_of words.now) (H.stand shelf.old) (λ text.
+        IsTrue H.tells → IsTrue (D.state device.old).told → OnEnd result ((result ≡ due_status text)
+        × (W.state out.new ≡ W.took (W.state out.old) (output_text text)))) }
+    ensures all_read { ForJob (texts_of words.now) (λ job.
+        OnDone result (IsAllRead H.tells ((H.stand shelf.new).slot Slot.First))) }
+
+    // Prefix: at every end the output took a front of what is due.
+    ensures prefix { ForText (texts_of words.now) (H.stand shelf.old) (λ text.
+        IsTrue H.tells → IsTrue (D.state device.old).told
+        → SentPart W.took (W.state out.old) (output_text text) (W.state out.new)) }
+
+    // Causes, one for each status. None of them is a fault of the error stream.
+    ensures opens { ForJob (texts_of words.now) (λ job. OpensOnly H.tells
+        (file_name (texts_of words.now) job) (H.stand shelf.old) (H.stand shelf.new) result) }
+    ensures read_fault { result ≡ Status.ReadFault
+        → Rose (H.faults shelf.old) (H.faults shelf.new) }
+    ensures write_fault { result ≡ Status.WriteFault
+        → Rose (W.faults out.old) (W.faults out.new) }
+    ensures device_fault { result ≡ Status.DeviceFault
+        → Rose (D.state device.old).faults (D.state device.new).faults }
+    ensures full { ForJob (texts_of words.now) (λ job. IfEndsFull result (IsFull H.tells job
+        (text_of (H.stand shelf.old) (file_name (texts_of words.now) job))
+        (outside H.Shelf W.Sink (D.state device.old) shelf.old out.old)
+        (outside H.Shelf W.Sink (D.state device.new) shelf.new out.new))) }
+    ensures no_memory { OnNoMemory result ((shelf.new ≡ shelf.old) × (out.new ≡ out.old)
+        × ((D.state device.new).moves ≡ (D.state device.old).moves)) }
+    ensures goes_on { GoesOn
+        (outside H.Shelf W.Sink (D.state device.old) shelf.old out.old)
+        (outside H.Shelf W.Sink (D.state device.new) shelf.new out.new) }
+
+    // Completeness: where nothing failed and the device has the stated room, the status is the one
+    // due.
+    ensures complete { ForJob (texts_of words.now) (λ job.
+        IsTrue H.tells → IsTrue (D.state device.old).told → IsQuiet
+        (outside H.Shelf W.Sink (D.state device.old) shelf.old out.old)
+        (outside H.Shelf W.Sink (D.state device.new) shelf.new out.new)
+        → stated_room job (text_of (H.stand shelf.old) (file_name (texts_of words.now) job))
+        ((H.stand shelf.new).slot Slot.First).left ≤ job.blocks
+        → (result ≡ due_status (text_of (H.stand shelf.old) (file_name (texts_of words.now) job)))
+        ⊎ (result ≡ Status.NoMemory)) }
+
+    // Frames and the error stream: memory comes by the grant alone, which is consumed here; and
+    // what the error stream gets, all of the status's message or a front of it.
+    ensures message { (Rose (E.faults err.old) (E.faults err.new) → ⊥)
+        → E.state err.new ≡ E.took (E.state err.old) (message_of result) }
+    ensures message_part { SentPart E.took (E.state err.old) (message_of result) (E.state err.new) }
+    ensures message_later { E.faults err.old ≤ E.faults err.new }
+{
+    let status = run_words(words, grant, device, shelf, out);
+    let _told = report(err, &status);
+    status
+}
