@@ -1,4 +1,4 @@
-use crate::{Calls, Record, Shape, ShapeFault};
+use crate::{Calls, Record, Shape, ShapeFault, blocks_of, cost, lev, room};
 use std::test::Fail;
 
 #[test]
@@ -67,5 +67,24 @@ fn calls_fail_by_their_numbers(rt: HostRuntime) -> Result<(), Fail> {
     calls.refuse();
     assert_eq!(rt; calls.faults(), 3);
     assert_eq!(rt; calls.refused(), 1);
+    Ok(())
+}
+
+/// 20001 records in blocks of 128 fill 157 blocks, and 157 over 16 is 10, over 16 is 1: two levels.
+#[test]
+fn a_shape_bounds_a_run(rt: HostRuntime) -> Result<(), Fail> {
+    let shape = Shape::new(128, 64)?;
+    assert_eq!(rt; (blocks_of(&shape, 20001), lev(&shape, 157)), (157, 2));
+    assert_eq!(rt;
+        (cost(&shape, 20001), room(&shape, 20001)),
+        (970_752, 15_808)
+    );
+    assert_eq!(rt; (blocks_of(&shape, 200_000), lev(&shape, 1563)), (1563, 3));
+    assert_eq!(rt; cost(&shape, 200_000), 12_812_288);
+    assert_eq!(rt;
+        (blocks_of(&shape, 0), lev(&shape, 0), lev(&shape, 1)),
+        (0, 0, 0)
+    );
+    assert_eq!(rt; (cost(&shape, 0), room(&shape, 0)), (2048, 480));
     Ok(())
 }

@@ -1,8 +1,8 @@
 -- What the top call says of a job, from how its run ended.
-use Rattle.std.proofs.Common.{◌≡◌, ℕ, ◌+◌, ◌-◌, ◌*◌, ◌/◌, ◌<◌, ◌≤◌, ◌^◌, ◌⊎◌, inl, inr, ⊎_elim, Bool, List, refl, sym, ap, ◌∙◌, subst, arith, IsTrue, Result, Ok, Err}
-use Rattle.std.specs.Prelude.{IfOk, None, Some, Option}
-use Rattle.std.specs.Result.{result_err}
-use Rattle.std.proofs.lemmas.Nat.{le-div}
+use Rattle.std.proofs.Common.{◌≡◌, ℕ, ◌+◌, ◌-◌, ◌*◌, ◌<◌, ◌≤◌, ◌^◌, ◌⊎◌, inl, inr, ⊎_elim, Bool, List, refl, arith, IsTrue, Result, Ok, Err}
+use Rattle.std.specs.Prelude.{IfOk, None}
+use Rattle.std.proofs.lemmas.Grind.{div_ceil_times}
+use Rattle.std.proofs.Math.Nat.{le_of_mul-le-mul_right}
 use Rattle.em_record.specs.Cost.{blocks_of, lev, cost}
 use Rattle.em_record.specs.Shape.{ShapeNumbers, IsShape}
 use Rattle.emtool.specs.declared.job.Job.{Job}
@@ -41,8 +41,10 @@ pub full_small : (shape : ShapeNumbers) (used n : ℕ) → IsShape shape → use
     → used < cost shape n
 full_small shape used n is h =
     let low : 0 < shape.block = omega (arith, is.block_low) in
+    let enough = div_ceil_times n shape.block low in
     let least : used ≤ blocks_of shape n =
-    le-div used (n + shape.block - 1) shape.block low (omega (arith, h)) in
+    le_of_mul-le-mul_right {m = used} {n = blocks_of shape n} {k = shape.block}
+    (omega (arith, h, enough.0)) low in
     let more = more_times (2048 * (blocks_of shape n + 1)) (lev shape (blocks_of shape n)) in
     omega (arith, least, more)
 

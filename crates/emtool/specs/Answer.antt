@@ -1,9 +1,8 @@
 -- What is printed for the commands of a map file.
-use Rattle.std.specs.Prelude.{◌≡◌, ℕ, ◌≤◌, List, [], ◌∷◌, ◌++◌, map, Option, Some, None, decimal, codes}
+use Rattle.std.specs.Prelude.{◌≡◌, ℕ, List, [], ◌∷◌, ◌++◌, map, Option, Some, None, decimal, codes}
 use Rattle.std.specs.List.{flat_map}
 use Rattle.em_record.specs.declared.record.Record.{Record}
 use Rattle.em_model.specs.Map.{Map, no_keys, state_after, answer_of, map_answers, map_answers_from}
-use Rattle.em_model.specs.declared.command.Command.{Command}
 use Rattle.em_space.specs.Rig.{RigState, Goes}
 use Rattle.emtool.specs.CommandRecord.{command_in}
 use Rattle.emtool.specs.CommandList.{front_commands}

@@ -1,5 +1,5 @@
 -- Commands as records: docs/FORMATS.md, "Records of commands".
-use Rattle.std.specs.Prelude.{ℕ, ◌==◌, if◌then◌else◌}
+use Rattle.std.specs.Prelude.{◌==◌, if◌then◌else◌}
 use Rattle.em_record.specs.declared.record.Record.{Record}
 use Rattle.em_model.specs.declared.command.Command.{Command}
 use Rattle.em_model.specs.declared.command.Command.TheVariants.{Put, Del, Get, Push, Pop, Interval, Stab}

@@ -1,46 +1,93 @@
 -- The job that the words name, or their first refusal: docs/FORMATS.md, "Words". A word is the list
 -- of its bytes.
-use Rattle.std.specs.Prelude.{ℕ, ◌<◌, ◌≤◌, ◌^◌, Bool, List, [], ◌∷◌, if◌then◌else◌, codes, bytes_eq, nat_eq, get_or, map, String, string_bytes, Result, Ok, Err, IfOk}
-use Rattle.std.specs.List.{starts_with}
-use Rattle.em_record.specs.Shape.{IsShape}
+use Rattle.std.specs.Prelude.{ℕ, ◌+◌, ◌*◌, ◌/◌, ◌<◌, ◌≤◌, ◌^◌, List, [], ◌∷◌, if◌then◌else◌, codes, bytes_eq, get_or, length, map, min, nat_le, nat_lt, Option, Some, None, String, string_bytes, Result, Ok, Err, IfOk}
 use Rattle.std.specs.Global.{Global}
+use Rattle.em_record.specs.declared.fault.ShapeFault.{ShapeFault}
+use Rattle.em_record.specs.declared.fault.ShapeFault.TheVariants as shape
+use Rattle.em_record.specs.Shape.{IsShape, ShapeNumbers, is_within, shape_of}
 use Rattle.emtool.specs.declared.job.Job.{Job}
 use Rattle.emtool.specs.declared.status.Usage.{Usage}
 use Rattle.emtool.specs.declared.status.UsageKind.{UsageKind}
-use Rattle.emtool.specs.declared.status.UsageKind.TheVariants.{NoCommand, UnknownCommand, UnknownOption, MissingOperand, ExtraOperand}
+use Rattle.emtool.specs.declared.status.UsageKind.TheVariants.{NoCommand, UnknownCommand, MissingOperand, ExtraOperand, BlockRange, FramesRange, FramesMultiple, BlocksRange}
+use Rattle.emtool.specs.Options.{has_option, number_or, option_words, options_refusal, word_of}
 
 -- the words as the program gets them
 abbrev pub texts_of : List (String Global) → List (List ℕ)
 texts_of words = map string_bytes words
 
--- the words are refused at this word
-abbrev pub refused : UsageKind → ℕ → Result Job Usage
+-- the words are refused at the word of this number
+abbrev pub refused : {A : Type 0} → UsageKind → ℕ → Result A Usage
 refused kind word = Err (record { kind = kind; word = word })
 
--- the word is an option
-abbrev pub is_option : List ℕ → Bool
-is_option word = starts_with nat_eq word (codes "--")
+-- what comes next, where nothing was refused
+infixl 10 ◌>>=◌
+abbrev pub ◌>>=◌ : {A B : Type 0} → Result A Usage → (A → Result B Usage) → Result B Usage
+(Ok x) >>= next = next x
+(Err usage) >>= next = Err usage
 
--- the job over the default shape and device, of the file that this word names
-abbrev pub default_job : ℕ → Job
-default_job file = record {
-  shape = record { block = 1024; frames = 256 };
-  blocks = 1048576;
-  file = file;
-}
+-- what comes next, behind options of which one may be refused
+abbrev pub unless : {A : Type 0} → Option Usage → Result A Usage → Result A Usage
+unless None next = next
+unless (Some usage) next = Err usage
 
--- the words behind `map`: one operand, and no option
-abbrev pub map_job_of : List (List ℕ) → Result Job Usage
-map_job_of [] = refused MissingOperand 1
-map_job_of (file ∷ []) = if is_option file then refused UnknownOption 1 else Ok (default_job 1)
-map_job_of (file ∷ extra ∷ words) =
-    if is_option file then refused UnknownOption 1 else refused ExtraOperand 2
+-- the number of the one operand's word: it is the word of number `first`, and the last of `count`
+abbrev pub operand_of : ℕ → ℕ → Result ℕ Usage
+operand_of first count =
+    if nat_le count first then refused MissingOperand count
+    else (if nat_lt (first + 1) count then refused ExtraOperand (first + 1) else Ok first)
+
+-- the frames where no option says their number, by the records of a block
+abbrev pub default_frames : ℕ → ℕ
+default_frames block = min 256 (8 * (block / 16))
+
+-- a shape, or the refusal of the option that breaks its rule
+abbrev pub shape_or : List (List ℕ) → Result ShapeNumbers ShapeFault → Result ShapeNumbers Usage
+shape_or options (Ok numbers) = Ok numbers
+shape_or options (Err shape.BlockRange) = refused BlockRange (word_of (codes "--block") options)
+shape_or options (Err shape.FramesRange) = refused FramesRange (word_of (codes "--frames") options)
+shape_or options (Err shape.FramesMultiple) =
+    refused FramesMultiple (word_of (codes "--frames") options)
+
+-- the shape with this number of records to a block, and the frames that the options say
+abbrev pub shape_over : List (List ℕ) → ℕ → Result ShapeNumbers Usage
+shape_over options block = shape_or options
+    (shape_of block (number_or (codes "--frames") options (default_frames block)))
+
+-- the shape that the options say
+abbrev pub shape_with : List (List ℕ) → Result ShapeNumbers Usage
+shape_with options = shape_over options (number_or (codes "--block") options 1024)
+
+-- the blocks of the device, where their number is in its range
+abbrev pub blocks_within : List (List ℕ) → ℕ → Result ℕ Usage
+blocks_within options blocks =
+    if is_within 1 (2 ^ 40) blocks then Ok blocks
+    else refused BlocksRange (word_of (codes "--blocks") options)
+
+-- the blocks of the device that the options say
+abbrev pub blocks_with : List (List ℕ) → Result ℕ Usage
+blocks_with options = blocks_within options (number_or (codes "--blocks") options (2 ^ 20))
+
+-- the job over what the options say, of the file that the word of number `file` names
+abbrev pub job_with : List (List ℕ) → ℕ → Result Job Usage
+job_with options file =
+    shape_with options >>= λ numbers. blocks_with options >>= λ blocks. Ok (record {
+      shape = numbers;
+      blocks = blocks;
+      stats = has_option (codes "--stats") options;
+      file = file;
+    })
+
+-- the job of so many words, of which these option words stand behind the command
+abbrev pub job_behind : List (List ℕ) → ℕ → Result Job Usage
+job_behind options count = unless (options_refusal [] options)
+    (operand_of (length options + 1) count >>= λ file. job_with options file)
 
 -- the job of the words, or their first refusal
 abbrev pub job_of : List (List ℕ) → Result Job Usage
 job_of [] = refused NoCommand 0
 job_of (command ∷ words) =
-    if bytes_eq command (codes "map") then map_job_of words else refused UnknownCommand 0
+    if bytes_eq command (codes "map") then job_behind (option_words words) (length words + 1)
+    else refused UnknownCommand 0
 
 -- the name of the job's file
 abbrev pub file_name : List (List ℕ) → Job → List ℕ

@@ -8,6 +8,8 @@ pub mod Due
 pub mod Job
 pub mod LineTaken
 pub mod Lines
+pub mod Options
+pub mod Outcome
 pub mod ReadAll
 pub mod Reads
 pub mod Report

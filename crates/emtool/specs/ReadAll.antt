@@ -1,5 +1,5 @@
 -- What the reading of a whole map file leaves.
-use Rattle.std.specs.Prelude.{◌≡◌, ℕ, ◌-◌, ◌*◌, ◌≤◌, ◌^◌, ◌⊎◌, Bool, IsTrue, List, [], Option, Some, None, Result, Ok, Err}
+use Rattle.std.specs.Prelude.{◌≡◌, ℕ, ◌-◌, ◌*◌, ◌≤◌, ◌^◌, ◌⊎◌, Bool, IsTrue, List, [], Some, None, Result, Ok, Err}
 use Rattle.em_record.specs.Count.{Rose}
 use Rattle.em_space.specs.Rig.{RigState, Cause}
 use Rattle.emtool.specs.CommandLine.{first_fault}

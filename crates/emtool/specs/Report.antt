@@ -6,7 +6,7 @@ use Rattle.emtool.specs.declared.text.TextKind.TheVariants.{BadNumber, TooLarge,
 use Rattle.emtool.specs.declared.status.Malform.{Malform}
 use Rattle.emtool.specs.declared.status.Malform.TheVariants.{Text}
 use Rattle.emtool.specs.declared.status.UsageKind.{UsageKind}
-use Rattle.emtool.specs.declared.status.UsageKind.TheVariants.{NoCommand, UnknownCommand, UnknownOption, MissingOperand, ExtraOperand}
+use Rattle.emtool.specs.declared.status.UsageKind.TheVariants.{NoCommand, UnknownCommand, UnknownOption, RepeatedOption, BadValue, MissingOperand, ExtraOperand, BlockRange, FramesRange, FramesMultiple, BlocksRange}
 use Rattle.emtool.specs.declared.status.Status.{Status}
 use Rattle.emtool.specs.declared.status.Status.TheVariants.{Done, Usage, Malformed, ReadFault, WriteFault, DeviceFault, Full, NoMemory}
 
@@ -29,8 +29,14 @@ abbrev pub usage_kind_name : UsageKind → List ℕ
 usage_kind_name NoCommand = codes "NoCommand"
 usage_kind_name UnknownCommand = codes "UnknownCommand"
 usage_kind_name UnknownOption = codes "UnknownOption"
+usage_kind_name RepeatedOption = codes "RepeatedOption"
+usage_kind_name BadValue = codes "BadValue"
 usage_kind_name MissingOperand = codes "MissingOperand"
 usage_kind_name ExtraOperand = codes "ExtraOperand"
+usage_kind_name BlockRange = codes "BlockRange"
+usage_kind_name FramesRange = codes "FramesRange"
+usage_kind_name FramesMultiple = codes "FramesMultiple"
+usage_kind_name BlocksRange = codes "BlocksRange"
 
 -- a number in decimal, or nothing
 abbrev pub digits_of : Option ℕ → List ℕ

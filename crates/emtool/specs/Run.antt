@@ -10,7 +10,7 @@ use Rattle.em_frames.specs.Device.{DeviceState}
 use Rattle.em_space.specs.declared.fault.EmFault.{EmFault}
 use Rattle.em_space.specs.declared.fault.EmFault.TheVariants as em
 use Rattle.emtool.specs.declared.status.Status.{Status}
-use Rattle.emtool.specs.declared.status.Status.TheVariants.{Done, Malformed, ReadFault, WriteFault, DeviceFault, Full}
+use Rattle.emtool.specs.declared.status.Status.TheVariants.{ReadFault, WriteFault, DeviceFault, Full}
 use Rattle.emtool.specs.declared.text.FileKind.TheVariants.{Map}
 use Rattle.emtool.specs.Bound.{stated_room}
 use Rattle.emtool.specs.declared.job.Job.{Job}
@@ -82,8 +82,8 @@ pub record Caused (old new : Outside) (status : Status) : Type 0 where
   pub write : status ≡ WriteFault → Rose old.write_faults new.write_faults
   pub device : status ≡ DeviceFault → Rose old.device.faults new.device.faults
 
--- The first slot was opened on this name, at most once, and no other. It is lost only where the
--- name isn't there, and then the run is neither done nor is the input malformed.
+-- No slot but the first changed. Where the shelf tells, it is lost only where no file has this name,
+-- and where the run was done or the input malformed a file has it.
 pub record OpensOnly (tells : Bool) (name : List ℕ) (old new : Stand) (status : Status)
     : Type 0 where
   pub leaves : Leaves First old new

@@ -3,13 +3,23 @@
 //! streams, and calls it.
 #![tactic(auto)]
 
+ghost use Rattle.std.specs.Prelude.{◌≡◌};
+ghost use Rattle.em_record.specs.Count.{Rose};
+ghost use Rattle.em_io.specs.Sink.{SentPart};
+ghost use Rattle.emtool.specs.Status.{OnDone};
+
 mod answer;
 mod byte;
 mod command_list;
 mod command_record;
+mod help;
 mod job;
+#[cfg(test)]
+mod job_tests;
 mod line;
 mod operand;
+mod option;
+mod outcome;
 mod read;
 mod report;
 mod run;
@@ -20,8 +30,12 @@ mod text;
 mod top;
 mod word;
 
+use crate::help::{HELP, VERSION};
+use crate::outcome::Outcome;
+use crate::report::report;
+use crate::status::Status;
 use em_frames::{Grant, MemDevice};
-use em_io::{DiskShelf, StdSink};
+use em_io::{DiskShelf, Sink, StdSink, send};
 use std::alloc::Global;
 use std::process::ExitCode;
 use std::{env, io};
@@ -48,18 +62,33 @@ fn words_of(rt: &HostRuntime, alloc: Global) -> Result<Vec<String>, u8> {
     Ok(words)
 }
 
+/// What is printed where the only word asks for help or for the version.
+fn asked_text(words: &[String]) -> Option<&'static str> {
+    match words {
+        [word] => match word.as_str() {
+            "--help" => Some(HELP),
+            "--version" => Some(VERSION),
+            _ => None,
+        },
+        _ => None,
+    }
+}
+
 fn main(rt: HostRuntime) -> ExitCode {
     let alloc = rt.alloc();
     let words = match words_of(&rt, alloc) {
         Ok(words) => words,
         Err(code) => return ExitCode::from(code),
     };
+    let mut out = StdSink::new(rt.stdout());
+    let mut err = StdSink::new(rt.stderr());
+    if let Some(text) = asked_text(&words) {
+        return ExitCode::from(print_text(text, &mut out, &mut err).code());
+    }
     let Ok(mut device) = MemDevice::new(alloc, &[]) else {
         return ExitCode::from(NO_MEMORY);
     };
     let mut shelf = DiskShelf::new(&rt);
-    let mut out = StdSink::new(rt.stdout());
-    let mut err = StdSink::new(rt.stderr());
     let status = top::emtool(
         &words,
         Grant::new(alloc),
@@ -69,4 +98,22 @@ fn main(rt: HostRuntime) -> ExitCode {
         &mut err,
     );
     ExitCode::from(status.code())
+}
+
+/// Prints a text whole, and says how that ended, also on the error stream.
+fn print_text<W: Sink, E: Sink>(text: &str, out: &mut W, err: &mut E) -> Status
+    ensures done { OnDone result
+        (W.state out.new ≡ W.took (W.state out.old) text.now) }
+    ensures write_fault { result ≡ Status.WriteFault → Rose (W.faults out.old) (W.faults out.new) }
+    ensures part { SentPart W.took (W.state out.old) text.now (W.state out.new) }
+{
+    if send(out, text.as_bytes()).is_ok() {
+        return Status::Done;
+    }
+    let outcome = Outcome {
+        status: Status::WriteFault,
+        stats: None,
+    };
+    let _told = report(err, &outcome);
+    outcome.status
 }

@@ -1,8 +1,10 @@
-ghost use Rattle.std.specs.Prelude.{◌≡◌, ◌≤◌, ◌+◌, ◌++◌, ◌∷◌, [], length, OnOk, decimal, None};
+ghost use Rattle.std.specs.Prelude.{◌≡◌, ◌≤◌, ◌+◌, ◌++◌, ◌∷◌, [], length, OnOk, decimal, None, Some};
 ghost use Rattle.em_record.specs.Count.{HasCause};
 ghost use Rattle.em_io.specs.Sink.{SentPart};
+ghost use Rattle.emtool.specs.Outcome.{stats_line, report_text};
 ghost use Rattle.emtool.specs.Report.{message_of, line_of, digits_of, text_kind_name, malform_name, usage_kind_name};
 
+use crate::outcome::{Outcome, Stats};
 use crate::status::{Malform, Status, UsageKind};
 use crate::text::TextKind;
 use em_io::{Printer, Sink};
@@ -43,8 +45,14 @@ fn usage_kind(kind: UsageKind) -> &'static [u8]
         UsageKind::NoCommand => b"NoCommand",
         UsageKind::UnknownCommand => b"UnknownCommand",
         UsageKind::UnknownOption => b"UnknownOption",
+        UsageKind::RepeatedOption => b"RepeatedOption",
+        UsageKind::BadValue => b"BadValue",
         UsageKind::MissingOperand => b"MissingOperand",
         UsageKind::ExtraOperand => b"ExtraOperand",
+        UsageKind::BlockRange => b"BlockRange",
+        UsageKind::FramesRange => b"FramesRange",
+        UsageKind::FramesMultiple => b"FramesMultiple",
+        UsageKind::BlocksRange => b"BlocksRange",
     }
 }
 
@@ -170,7 +178,7 @@ fn print_line<E: Sink>(err: &mut E, message: &Message) -> Result<(), Failed>
 }
 
 /// Prints the message of a status, where it has one.
-pub fn report<E: Sink>(err: &mut E, status: &Status) -> Result<(), Failed>
+fn report_status<E: Sink>(err: &mut E, status: &Status) -> Result<(), Failed>
     ensures all { OnOk result (E.state err.new ≡ E.took (E.state err.old) (message_of status.now)) }
     ensures part { SentPart E.took (E.state err.old) (message_of status.now) (E.state err.new) }
     ensures cause { HasCause (E.faults err.old) (E.faults err.new) result }
@@ -179,4 +187,43 @@ pub fn report<E: Sink>(err: &mut E, status: &Status) -> Result<(), Failed>
         return Ok(());
     }
     print_line(err, &message_for(status))
+}
+
+/// Prints the line of the statistics.
+fn print_stats<E: Sink>(err: &mut E, stats: Stats) -> Result<(), Failed>
+    ensures all { OnOk result
+        (E.state err.new ≡ E.took (E.state err.old) (stats_line (Some stats))) }
+    ensures part { SentPart E.took (E.state err.old) (stats_line (Some stats)) (E.state err.new) }
+    ensures cause { HasCause (E.faults err.old) (E.faults err.new) result }
+{
+    let mut printer = Printer::new();
+    put(&mut printer, err, b"moves ");
+    put_number(&mut printer, err, stats.moves);
+    put(&mut printer, err, b" peak ");
+    put_number(&mut printer, err, u64::from(stats.peak));
+    printer.end_line(err)
+}
+
+/// Prints the line of the statistics, where there are any.
+fn report_stats<E: Sink>(err: &mut E, stats: Option<Stats>) -> Result<(), Failed>
+    ensures all { OnOk result (E.state err.new ≡ E.took (E.state err.old) (stats_line stats)) }
+    ensures part { SentPart E.took (E.state err.old) (stats_line stats) (E.state err.new) }
+    ensures cause { HasCause (E.faults err.old) (E.faults err.new) result }
+{
+    match stats {
+        Some(stats) => print_stats(err, stats),
+        None => Ok(()),
+    }
+}
+
+/// Prints the message of how a run ended, and then the line of its statistics, where it has them.
+pub fn report<E: Sink>(err: &mut E, outcome: &Outcome) -> Result<(), Failed>
+    ensures all { OnOk result (E.state err.new
+        ≡ E.took (E.state err.old) (report_text outcome.now.status outcome.now.stats)) }
+    ensures part { SentPart E.took (E.state err.old)
+        (report_text outcome.now.status outcome.now.stats) (E.state err.new) }
+    ensures cause { HasCause (E.faults err.old) (E.faults err.new) result }
+{
+    report_status(err, &outcome.status)?;
+    report_stats(err, outcome.stats)
 }

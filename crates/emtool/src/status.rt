@@ -10,12 +10,24 @@ pub enum UsageKind {
     NoCommand,
     /// The first word is no command.
     UnknownCommand,
-    /// The word is no option of the command.
+    /// The name of the option word is that of no option.
     UnknownOption,
+    /// An earlier word has the option's name.
+    RepeatedOption,
+    /// The option wants a number of 64 bits behind a `=`, or, as `--stats` does, nothing.
+    BadValue,
     /// The command wants one operand more.
     MissingOperand,
     /// The word is one operand too many.
     ExtraOperand,
+    /// A block has 128 to 65536 records.
+    BlockRange,
+    /// There are 64 frames to the lesser of 1024 and half a block's records.
+    FramesRange,
+    /// The number of frames is a multiple of 8.
+    FramesMultiple,
+    /// The device has 1 to 2^40 blocks.
+    BlocksRange,
 }
 
 /// Why the words name no job, and the number, from 0, of the word at which that shows.

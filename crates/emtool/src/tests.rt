@@ -2,6 +2,7 @@
 ghost use Rattle.std.specs.Prelude.{◌<◌};
 
 use crate::job::Job;
+use crate::outcome::Stats;
 use crate::status::{Malform, Status, UsageKind};
 use crate::text::TextKind;
 use crate::top::{emtool, run_pool};
@@ -138,7 +139,7 @@ fn faulty_lines_are_named_and_nothing_is_printed(rt: HostRuntime) -> Result<(), 
 
 #[test]
 fn words_that_name_no_job_are_refused(rt: HostRuntime) -> Result<(), Fail> {
-    let cases: [(&[&str], UsageKind, u64, &[u8]); 7] = [
+    let cases: [(&[&str], UsageKind, u64, &[u8]); 13] = [
         (
             &[],
             UsageKind::NoCommand,
@@ -158,7 +159,7 @@ fn words_that_name_no_job_are_refused(rt: HostRuntime) -> Result<(), Fail> {
             b"emtool: usage: MissingOperand at word 1\n",
         ),
         (
-            &["map", "--stats", "a"],
+            &["map", "--stat", "a"],
             UsageKind::UnknownOption,
             1,
             b"emtool: usage: UnknownOption at word 1\n",
@@ -181,6 +182,42 @@ fn words_that_name_no_job_are_refused(rt: HostRuntime) -> Result<(), Fail> {
             2,
             b"emtool: usage: ExtraOperand at word 2\n",
         ),
+        (
+            &["map", "--stats", "--stats", "a"],
+            UsageKind::RepeatedOption,
+            2,
+            b"emtool: usage: RepeatedOption at word 2\n",
+        ),
+        (
+            &["map", "--block=x", "a"],
+            UsageKind::BadValue,
+            1,
+            b"emtool: usage: BadValue at word 1\n",
+        ),
+        (
+            &["map", "--block=64", "a"],
+            UsageKind::BlockRange,
+            1,
+            b"emtool: usage: BlockRange at word 1\n",
+        ),
+        (
+            &["map", "--frames=60", "a"],
+            UsageKind::FramesRange,
+            1,
+            b"emtool: usage: FramesRange at word 1\n",
+        ),
+        (
+            &["map", "--frames=68", "a"],
+            UsageKind::FramesMultiple,
+            1,
+            b"emtool: usage: FramesMultiple at word 1\n",
+        ),
+        (
+            &["map", "--blocks=0", "a"],
+            UsageKind::BlocksRange,
+            1,
+            b"emtool: usage: BlocksRange at word 1\n",
+        ),
     ];
     for (words, kind, word, message) in cases {
         let (status, out, err) = run(&rt, words, FIRST, PLAIN)?;
@@ -188,6 +225,54 @@ fn words_that_name_no_job_are_refused(rt: HostRuntime) -> Result<(), Fail> {
         assert_eq!(rt; out.bytes(), b"".as_slice());
         assert_eq!(rt; err.bytes(), message);
     }
+    Ok(())
+}
+
+/// The frames are one for the list and two to answer it, and so small a file moves no block.
+#[test]
+fn every_shape_answers_alike_and_says_its_cost(rt: HostRuntime) -> Result<(), Fail> {
+    let cases: [(&[&str], &[u8]); 5] = [
+        (&["map", "a"], b""),
+        (&["map", "--stats", "a"], b"moves 0 peak 3\n"),
+        (
+            &["map", "--block=128", "--frames=64", "--stats", "a"],
+            b"moves 0 peak 3\n",
+        ),
+        (&["map", "--block=65536", "--frames=64", "a"], b""),
+        (
+            &["map", "--frames=1024", "--block=2048", "--stats", "a"],
+            b"moves 0 peak 3\n",
+        ),
+    ];
+    for (words, message) in cases {
+        let (status, out, err) = run(&rt, words, FIRST, PLAIN)?;
+        assert!(rt; status == Status::Done);
+        assert_eq!(rt; out.bytes(), b"10\n11\n-\n".as_slice());
+        assert_eq!(rt; err.bytes(), message);
+    }
+    Ok(())
+}
+
+/// 128 records fill one block of the list: one move stores it, one reads it on the way over
+/// the whole list, and one reads it again for the get.
+#[test]
+fn statistics_follow_the_message(rt: HostRuntime) -> Result<(), Fail> {
+    let mut text = Vec::new(rt.alloc());
+    for _ in 0..128 {
+        text.extend_from_slice(b"put 1 2\n")?;
+    }
+    text.extend_from_slice(b"get 1\n")?;
+    let words = ["map", "--block=128", "--stats", "--blocks=1", "a"];
+    let (status, out, err) = run(&rt, &words, &text, PLAIN)?;
+    assert!(rt; status == Status::Done);
+    assert_eq!(rt; out.bytes(), b"2\n".as_slice());
+    assert_eq!(rt; err.bytes(), b"moves 3 peak 3\n".as_slice());
+    text.extend_from_slice(b"gut 1\n")?;
+    let (status, out, err) = run(&rt, &words, &text, PLAIN)?;
+    assert!(rt; status == malformed(TextKind::Unknown, 130));
+    assert_eq!(rt; out.bytes(), b"".as_slice());
+    let lines = b"emtool: malformed: Unknown at 130\nmoves 1 peak 1\n";
+    assert_eq!(rt; err.bytes(), lines.as_slice());
     Ok(())
 }
 
@@ -352,10 +437,12 @@ fn a_small_device_is_full(rt: HostRuntime) -> Result<(), Fail> {
     let job = Job {
         shape,
         blocks: 3,
+        stats: true,
         file: 1,
     };
-    let status = run_pool(&job, "a", pool, &mut device, &mut shelf, &mut out);
-    assert!(rt; status == Status::Full { used: 3 });
+    let outcome = run_pool(&job, "a", pool, &mut device, &mut shelf, &mut out);
+    assert!(rt; outcome.status == Status::Full { used: 3 });
+    assert!(rt; outcome.stats == Some(Stats { moves: 3, peak: 1 }));
     assert_eq!(rt; out.bytes(), b"".as_slice());
     Ok(())
 }

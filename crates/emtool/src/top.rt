@@ -1,4 +1,4 @@
-ghost use Rattle.std.specs.Prelude.{◌≡◌, ◌<◌, ◌≤◌, ◌^◌, ◌⊎◌, length, IsTrue};
+ghost use Rattle.std.specs.Prelude.{◌≡◌, ◌-◌, ◌<◌, ◌≤◌, ◌^◌, ◌⊎◌, length, IsTrue, Ok};
 ghost use Rattle.std.specs.Result.{result_err};
 ghost use Rattle.em_record.specs.Count.{Rose};
 ghost use Rattle.em_io.specs.Shelf.{IsFresh};
@@ -7,11 +7,12 @@ ghost use Rattle.em_frames.specs.Pool.{fresh_pool};
 ghost use Rattle.emtool.specs.Bound.{stated_room};
 ghost use Rattle.emtool.specs.Due.{text_of, due_status, output_text, ForText};
 ghost use Rattle.emtool.specs.Job.{texts_of, job_of, file_name, ForJob, IsJob};
-ghost use Rattle.emtool.specs.Report.{message_of};
+ghost use Rattle.emtool.specs.Outcome.{HasStats, Reports, ReportsPart};
 ghost use Rattle.emtool.specs.Run.{outside, Ended, Caused, GoesOn, IsAllRead, IsFull, IsQuiet, OpensOnly};
 ghost use Rattle.emtool.specs.Status.{refusal_of, IfEndsFull, OnDone, OnEnd, OnNoMemory, OnUsage};
 
 use crate::job::{Job, read_job};
+use crate::outcome::{Outcome, stats_of, unmoved};
 use crate::report::report;
 use crate::run::run_map;
 use crate::status::Status;
@@ -27,7 +28,7 @@ pub fn run_pool<D: Device, H: Shelf, W: Sink>(
     device: &mut D,
     shelf: &mut H,
     out: &mut W,
-) -> Status
+) -> Outcome
     requires pool { pool ≡ fresh_pool job.now.shape }
     requires blocks_low { 0 < job.now.blocks }
     requires blocks_high { job.now.blocks ≤ 2 ^ 40 }
@@ -36,29 +37,38 @@ pub fn run_pool<D: Device, H: Shelf, W: Sink>(
     ensures ended { Ended H.tells W.took (text_of (H.stand shelf.old) name.now)
         job.now.shape.block job.now.blocks
         (outside H.Shelf W.Sink (D.state device.old) shelf.old out.old)
-        (outside H.Shelf W.Sink (D.state device.new) shelf.new out.new) result }
+        (outside H.Shelf W.Sink (D.state device.new) shelf.new out.new) result.status }
     ensures caused { Caused
         (outside H.Shelf W.Sink (D.state device.old) shelf.old out.old)
-        (outside H.Shelf W.Sink (D.state device.new) shelf.new out.new) result }
-    ensures opens { OpensOnly H.tells name.now (H.stand shelf.old) (H.stand shelf.new) result }
+        (outside H.Shelf W.Sink (D.state device.new) shelf.new out.new) result.status }
+    ensures opens { OpensOnly H.tells name.now (H.stand shelf.old) (H.stand shelf.new)
+        result.status }
     ensures none_moved { (D.state device.old).moves ≡ 0 }
-    ensures no_memory { OnNoMemory result ((shelf.new ≡ shelf.old) × (out.new ≡ out.old)
+    ensures stats { HasStats (Ok job.now) result.status (D.state device.new).moves result.stats }
+    ensures no_memory { OnNoMemory result.status ((shelf.new ≡ shelf.old) × (out.new ≡ out.old)
         × ((D.state device.new).moves ≡ 0)) }
-    ensures no_usage { OnUsage result ⊥ }
+    ensures no_usage { OnUsage result.status ⊥ }
 {
     match Rig::open(job.shape, job.blocks, device, pool) {
         Ok(mut rig) => {
             let status = run_map(&mut rig, shelf, name, out);
+            let stats = stats_of(&rig, job.stats);
             let pool = rig.close();
             pool.end();
-            status
+            Outcome { status, stats }
         }
         Err(refused) => {
             let (pool, fault) = refused.take();
             pool.end();
             match fault {
-                BeginFault::Failed => Status::DeviceFault,
-                BeginFault::NoMemory => Status::NoMemory,
+                BeginFault::Failed => Outcome {
+                    status: Status::DeviceFault,
+                    stats: unmoved(job.stats),
+                },
+                BeginFault::NoMemory => Outcome {
+                    status: Status::NoMemory,
+                    stats: None,
+                },
             }
         }
     }
@@ -71,38 +81,47 @@ fn run_words<D: Device, H: Shelf, W: Sink>(
     device: &mut D,
     shelf: &mut H,
     out: &mut W,
-) -> Status
+) -> Outcome
     requires device { (D.state device.old).blocks ≡ 0 }
     requires shelf { IsFresh (H.stand shelf.old) }
-    ensures words { refusal_of result ≡ result_err (job_of (texts_of words.now)) }
-    ensures as_before { OnUsage result
+    ensures words { refusal_of result.status ≡ result_err (job_of (texts_of words.now)) }
+    ensures as_before { OnUsage result.status
         ((device.new ≡ device.old) × (shelf.new ≡ shelf.old) × (out.new ≡ out.old)) }
     ensures ended { ForJob (texts_of words.now) (λ job. Ended H.tells W.took
         (text_of (H.stand shelf.old) (file_name (texts_of words.now) job))
         job.shape.block job.blocks
         (outside H.Shelf W.Sink (D.state device.old) shelf.old out.old)
-        (outside H.Shelf W.Sink (D.state device.new) shelf.new out.new) result) }
+        (outside H.Shelf W.Sink (D.state device.new) shelf.new out.new) result.status) }
     ensures caused { Caused
         (outside H.Shelf W.Sink (D.state device.old) shelf.old out.old)
-        (outside H.Shelf W.Sink (D.state device.new) shelf.new out.new) result }
+        (outside H.Shelf W.Sink (D.state device.new) shelf.new out.new) result.status }
     ensures opens { ForJob (texts_of words.now) (λ job. OpensOnly H.tells
-        (file_name (texts_of words.now) job) (H.stand shelf.old) (H.stand shelf.new) result) }
+        (file_name (texts_of words.now) job) (H.stand shelf.old) (H.stand shelf.new)
+        result.status) }
     ensures is { ForJob (texts_of words.now) (IsJob (length words.now)) }
-    ensures none_moved { IfEndsFull result (λ _. (D.state device.old).moves ≡ 0) }
-    ensures no_memory { OnNoMemory result ((shelf.new ≡ shelf.old) × (out.new ≡ out.old)
+    ensures none_moved { IfEndsFull result.status (λ _. (D.state device.old).moves ≡ 0) }
+    ensures stats { HasStats (job_of (texts_of words.now)) result.status
+        ((D.state device.new).moves - (D.state device.old).moves) result.stats }
+    ensures no_memory { OnNoMemory result.status ((shelf.new ≡ shelf.old) × (out.new ≡ out.old)
         × ((D.state device.new).moves ≡ (D.state device.old).moves)) }
 {
     let job = match read_job(words) {
         Ok(job) => job,
         Err(usage) => {
-            return Status::Usage {
-                kind: usage.kind,
-                word: usage.word,
+            return Outcome {
+                status: Status::Usage {
+                    kind: usage.kind,
+                    word: usage.word,
+                },
+                stats: None,
             };
         }
     };
     let Ok(pool) = grant.pool(job.shape) else {
-        return Status::NoMemory;
+        return Outcome {
+            status: Status::NoMemory,
+            stats: None,
+        };
     };
     run_pool(
         &job,
@@ -183,12 +202,16 @@ pub fn emtool<D: Device, H: Shelf, W: Sink, E: Sink>(
 
     // Frames and the error stream: memory comes by the grant alone, which is consumed here; and
     // what the error stream gets, all of the status's message or a front of it.
-    ensures message { (Rose (E.faults err.old) (E.faults err.new) → ⊥)
-        → E.state err.new ≡ E.took (E.state err.old) (message_of result) }
-    ensures message_part { SentPart E.took (E.state err.old) (message_of result) (E.state err.new) }
+    ensures message { (Rose (E.faults err.old) (E.faults err.new) → ⊥) → Reports E.took
+        (job_of (texts_of words.now)) result
+        ((D.state device.new).moves - (D.state device.old).moves)
+        (E.state err.old) (E.state err.new) }
+    ensures message_part { ReportsPart E.took (job_of (texts_of words.now)) result
+        ((D.state device.new).moves - (D.state device.old).moves)
+        (E.state err.old) (E.state err.new) }
     ensures message_later { E.faults err.old ≤ E.faults err.new }
 {
-    let status = run_words(words, grant, device, shelf, out);
-    let _told = report(err, &status);
-    status
+    let outcome = run_words(words, grant, device, shelf, out);
+    let _told = report(err, &outcome);
+    outcome.status
 }

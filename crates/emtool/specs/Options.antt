@@ -1,0 +1,81 @@
+-- The option words of a command: docs/FORMATS.md, "Words". A word is the list of its bytes, and its
+-- number is its place among all words, from 0.
+use Rattle.std.specs.Prelude.{ℕ, ◌+◌, ◌==◌, Bool, not, List, [], ◌∷◌, ◌++◌, if◌then◌else◌, codes, bytes_eq, get_or, is_some, length, nat_eq, option_and_then, position, unwrap_or, Option, Some, None}
+use Rattle.std.specs.List.{after_first, before_first, list_any, starts_with}
+use Rattle.std.specs.Result.{result_ok}
+use Rattle.emtool.specs.declared.status.Usage.{Usage}
+use Rattle.emtool.specs.declared.status.UsageKind.{UsageKind}
+use Rattle.emtool.specs.declared.status.UsageKind.TheVariants.{UnknownOption, RepeatedOption, BadValue}
+use Rattle.emtool.specs.CommandLine.{number_of}
+
+-- the word begins as an option does
+abbrev pub is_option : List ℕ → Bool
+is_option word = starts_with nat_eq word (codes "--")
+
+-- the option words among the words behind a command: those up to the first that is none
+abbrev pub option_words : List (List ℕ) → List (List ℕ)
+option_words words = before_first (λ word. not (is_option word)) words
+
+-- an option's name: its word up to the first `=`, or the whole word
+abbrev pub name_of : List ℕ → List ℕ
+name_of word = before_first (λ byte. byte == 61) word
+
+-- an option's number: what stands behind the first `=`, where that is a number
+abbrev pub number_in : List ℕ → Option ℕ
+number_in word = result_ok (number_of (after_first (λ byte. byte == 61) word))
+
+-- the word is of the option of this name
+abbrev pub has_name : List ℕ → List ℕ → Bool
+has_name name word = bytes_eq (name_of word) name
+
+-- the names of the options
+abbrev pub option_names : List (List ℕ)
+option_names =
+    codes "--block" ∷ codes "--frames" ∷ codes "--blocks" ∷ codes "--stats" ∷ []
+
+-- the word is of an option
+abbrev pub is_known : List ℕ → Bool
+is_known word = list_any (λ name. has_name name word) option_names
+
+-- the place, from 0, of the option of this name among these option words, if it stands there
+abbrev pub place_of : List ℕ → List (List ℕ) → Option ℕ
+place_of name options = position (has_name name) options
+
+-- the option of this name stands among these option words
+abbrev pub has_option : List ℕ → List (List ℕ) → Bool
+has_option name options = is_some (place_of name options)
+
+-- the word of an option has the value that it wants: `--stats` none, and every other a number
+abbrev pub has_value : List ℕ → Bool
+has_value word =
+    if has_name (codes "--stats") word then bytes_eq word (codes "--stats")
+    else is_some (number_in word)
+
+-- what is wrong with an option word behind these earlier ones
+abbrev pub option_fault : List (List ℕ) → List ℕ → Option UsageKind
+option_fault earlier word =
+    if not (is_known word) then Some UnknownOption
+    else (if has_option (name_of word) earlier then Some RepeatedOption
+    else (if not (has_value word) then Some BadValue else None))
+
+-- the fault at a word, or else what is refused behind it
+abbrev pub refused_or : Option UsageKind → ℕ → Option Usage → Option Usage
+refused_or None number behind = behind
+refused_or (Some kind) number behind = Some (record { kind = kind; word = number })
+
+-- the first refusal among option words that stand behind these earlier ones
+abbrev pub options_refusal : List (List ℕ) → List (List ℕ) → Option Usage
+options_refusal earlier [] = None
+options_refusal earlier (word ∷ words) =
+    refused_or (option_fault earlier word) (length earlier + 1)
+    (options_refusal (earlier ++ word ∷ []) words)
+
+-- the number that the option of this name gives, or the default
+abbrev pub number_or : List ℕ → List (List ℕ) → ℕ → ℕ
+number_or name options default =
+    unwrap_or (option_and_then (λ place. number_in (get_or options place []))
+    (place_of name options)) default
+
+-- the number of the word of the option of this name, which stands behind the command
+abbrev pub word_of : List ℕ → List (List ℕ) → ℕ
+word_of name options = unwrap_or (place_of name options) (length options) + 1

@@ -1,0 +1,39 @@
+/// What `emtool --version` prints.
+pub const VERSION: &str = "emtool 0.1.0\n";
+
+/// What `emtool --help` prints.
+pub const HELP: &str = "\
+usage: emtool map [options] FILE
+       emtool --help | --version
+
+Answers a command file with structures in external memory.
+
+Commands:
+  map FILE      lines `put K V`, `del K` and `get K`; prints one line for each get: the value of the
+                key by the commands before it, or `-`
+                example: emtool map prices.txt
+
+Options, before FILE:
+  --block=N     records of a block, 128 to 65536; default 1024
+                example: emtool map --block=4096 prices.txt
+  --frames=N    frames of one block each, a multiple of 8 from 64 to the lesser of 1024 and half of
+                --block; default 8 times (--block / 16 rounded down), at most 256
+                example: emtool map --block=128 --frames=64 prices.txt
+  --blocks=N    blocks of the scratch device, 1 to 1099511627776; default 1048576
+                example: emtool map --blocks=1000 prices.txt
+  --stats       after the run, `moves N peak K` on the error stream: block moves, and the greatest
+                number of frames in use at once
+                example: emtool map --stats prices.txt
+
+Numbers are decimal, from 0 to 18446744073709551615, with at most 20 digits.
+
+Exit codes:
+  0  done
+  1  usage: the words name no job                   (emtool map)
+  2  malformed: a line of the file is faulty         (a file with the line `put 1`)
+  3  an input could not be read                      (emtool map no-such-file)
+  4  the output could not be written                 (emtool map prices.txt > /dev/full)
+  5  the scratch device failed
+  6  the scratch device is full                      (--blocks=1 under a long file)
+  7  no memory for the frames
+";

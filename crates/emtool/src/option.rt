@@ -1,0 +1,199 @@
+// The option words of a command. Words are numbered from 0, so the first option word is word 1.
+ghost use Rattle.std.specs.Prelude.{◌≡◌, ◌+◌, ◌==◌, [], bytes_eq, not, position, string_bytes};
+ghost use Rattle.std.specs.List.{list_any};
+ghost use Rattle.std.specs.Result.{result_err, result_ok};
+ghost use Rattle.emtool.specs.CommandLine.{number_of};
+ghost use Rattle.emtool.specs.Job.{texts_of};
+ghost use Rattle.emtool.specs.Options.{has_name, has_option, has_value, is_option, name_of, number_in, number_or, option_fault, option_names, option_words, options_refusal, word_of};
+
+use crate::status::{Usage, UsageKind};
+
+/// The option that gives the records of a block.
+pub const BLOCK: &[u8] = b"--block";
+
+/// The option that gives the number of frames.
+pub const FRAMES: &[u8] = b"--frames";
+
+/// The option that gives the number of the device's blocks.
+pub const BLOCKS: &[u8] = b"--blocks";
+
+/// The option that asks for statistics.
+pub const STATS: &[u8] = b"--stats";
+
+/// The most digits of a number.
+const MOST_DIGITS: usize = 20;
+
+/// The number that the bytes spell, where they spell one.
+fn number(bytes: &[u8]) -> Option<u64>
+    ensures { result ≡ result_ok (number_of bytes.now) }
+{
+    if bytes.is_empty() || bytes.len() > MOST_DIGITS {
+        return None;
+    }
+    let mut value: u128 = 0;
+    for byte in bytes {
+        if !byte.is_ascii_digit() {
+            return None;
+        }
+        value = 10 * value + (*byte - b'0') as u128;
+    }
+    if value > u64::MAX as u128 {
+        return None;
+    }
+    Some(value as u64)
+}
+
+/// The place of a word's first `=`.
+fn equals_sign(word: &[u8]) -> Option<usize>
+    ensures { result ≡ position (λ byte. byte == 61) word.now }
+{
+    word.iter().position(|byte| *byte == b'=')
+}
+
+/// The name of an option word.
+#[tactic(auto, using(crate::proofs::OptionLemmas::first_found, crate::proofs::OptionLemmas::first_missing))]
+fn name_of(word: &[u8]) -> &[u8]
+    ensures { result.now ≡ name_of word.now }
+{
+    match equals_sign(word) {
+        Some(place) => &word[..place],
+        None => word,
+    }
+}
+
+/// The number of an option word.
+#[tactic(auto, using(crate::proofs::OptionLemmas::first_found, crate::proofs::OptionLemmas::first_missing))]
+fn number_in(word: &[u8]) -> Option<u64>
+    ensures { result ≡ number_in word.now }
+{
+    match equals_sign(word) {
+        Some(place) => number(&word[place + 1..]),
+        None => None,
+    }
+}
+
+/// The bytes of a word.
+fn bytes_of(word: &String) -> &[u8]
+    ensures { result.now ≡ string_bytes word.now }
+{
+    word.as_str().as_bytes()
+}
+
+/// Whether the word begins as an option does.
+fn is_option(word: &String) -> bool
+    ensures { result ≡ is_option (string_bytes word.now) }
+{
+    bytes_of(word).starts_with(b"--")
+}
+
+/// Whether the word is of the option of this name.
+fn has_name(word: &String, name: &[u8]) -> bool
+    ensures { result ≡ has_name name.now (string_bytes word.now) }
+{
+    name_of(bytes_of(word)) == name
+}
+
+/// Whether the name is one of an option.
+fn is_known(name: &[u8]) -> bool
+    ensures { result ≡ list_any (bytes_eq name.now) option_names }
+{
+    name == BLOCK || name == FRAMES || name == BLOCKS || name == STATS
+}
+
+/// Whether the word of an option has the value that it wants.
+fn has_value(word: &[u8]) -> bool
+    ensures { result ≡ has_value word.now }
+{
+    if name_of(word) == STATS {
+        word == STATS
+    } else {
+        number_in(word).is_some()
+    }
+}
+
+/// The place, from 0, of the first word that is of the option of this name.
+fn place_of(options: &[String], name: &[u8]) -> Option<usize>
+    ensures { result ≡ position (λ word. has_name name.now (string_bytes word)) options.now }
+{
+    options.iter().position(|word| has_name(word, name))
+}
+
+/// The place, from 0, of the first word that is no option.
+fn options_end(words: &[String]) -> Option<usize>
+    ensures { result ≡ position (λ word. not (is_option (string_bytes word))) words.now }
+{
+    words.iter().position(|word| !is_option(word))
+}
+
+/// Whether the option of this name stands among the option words.
+#[tactic(auto, using(crate::proofs::OptionLemmas::position_map))]
+pub fn has_option(options: &[String], name: &[u8]) -> bool
+    ensures { result ≡ has_option name.now (texts_of options.now) }
+{
+    place_of(options, name).is_some()
+}
+
+/// The number that the option of this name gives, or the default.
+#[tactic(auto, using(crate::proofs::OptionLemmas::position_map, crate::proofs::RefusalLaws::number_found))]
+pub fn number_or(options: &[String], name: &[u8], default: u64) -> u64
+    ensures { result ≡ number_or name.now (texts_of options.now) default }
+{
+    match place_of(options, name) {
+        Some(place) => number_in(bytes_of(&options[place])).unwrap_or(default),
+        None => default,
+    }
+}
+
+/// The number of the word of the option of this name, where it stands among the option words.
+#[tactic(auto, using(crate::proofs::OptionLemmas::position_map, crate::proofs::RefusalLaws::word_missing))]
+pub fn word_of(options: &[String], name: &[u8]) -> u64
+    ensures { result ≡ word_of name.now (texts_of options.now) }
+{
+    match place_of(options, name) {
+        Some(place) => place as u64 + 1,
+        None => options.len() as u64 + 1,
+    }
+}
+
+/// What is wrong with an option word behind these earlier ones.
+fn option_fault(earlier: &[String], word: &[u8]) -> Option<UsageKind>
+    ensures { result ≡ option_fault (texts_of earlier.now) word.now }
+{
+    let name = name_of(word);
+    if !is_known(name) {
+        return Some(UsageKind::UnknownOption);
+    }
+    if has_option(earlier, name) {
+        return Some(UsageKind::RepeatedOption);
+    }
+    if !has_value(word) {
+        return Some(UsageKind::BadValue);
+    }
+    None
+}
+
+/// The option words among the words behind a command.
+#[tactic(auto, using(crate::proofs::OptionLemmas::first_found_map, crate::proofs::OptionLemmas::first_missing_map))]
+pub fn option_words(words: &[String]) -> &[String]
+    ensures { texts_of result.now ≡ option_words (texts_of words.now) }
+{
+    match options_end(words) {
+        Some(place) => &words[..place],
+        None => words,
+    }
+}
+
+/// Tests the option words, each in its turn.
+pub fn test_options(options: &[String]) -> Result<(), Usage>
+    ensures { result_err result ≡ options_refusal [] (texts_of options.now) }
+{
+    for (place, word) in options.iter().enumerate() {
+        if let Some(kind) = option_fault(&options[..place], bytes_of(word)) {
+            return Err(Usage {
+                kind,
+                word: place as u64 + 1,
+            });
+        }
+    }
+    Ok(())
+}
