@@ -7,12 +7,14 @@ mod device;
 mod frame;
 mod memory;
 mod pool;
+mod rack;
 
 pub use area::Area;
 pub use device::{BeginFault, Device};
 pub use frame::Frame;
 pub use memory::MemDevice;
 pub use pool::{Grant, Pool};
+pub use rack::Rack;
 
 #[cfg(test)]
 mod tests;

@@ -1,26 +1,30 @@
-ghost use Rattle.std.specs.Prelude.{◌≡◌, ◌<◌, ◌≤◌, ◌+◌, ◌-◌, ◌*◌, length, IfOk, vec_len, vec_capacity};
+ghost use Rattle.std.specs.Prelude.{◌≡◌, ◌<◌, ◌≤◌, ◌+◌, ◌-◌, ◌*◌, true, false, length, IfOk, vec_len, vec_capacity};
 ghost use Rattle.std.specs.List.{All};
 ghost use Rattle.em_record.specs.Shape.{IsShape, fan_of, wide_of};
-ghost use Rattle.em_frames.specs.Pool.{singles_of, load_of, out_of, fresh_pool, lent, given, lent_area, given_area};
+ghost use Rattle.em_frames.specs.Pool.{singles_of, load_of, places_in, out_of, fresh_pool, lent, given, lent_area, given_area, lent_rack, given_rack, IsWhole};
+ghost use Rattle.em_frames.specs.Rack.{places_of, empty_rack};
 
 use crate::area::Area;
 use crate::frame::Frame;
+use crate::rack::Rack;
 use em_record::{NoMemory, Record, Shape};
 use std::alloc::{AllocError, Global};
 use std::marker::Model;
 
 /// The memory of a run: m frames, of which 3f are lent singly and the others as two areas of w
-/// frames each. It can't be dropped: `end` takes it where all is back.
+/// frames each, and a rack of 2f places for single frames. It can't be dropped: `end` takes it
+/// where all is back.
 pub struct Pool {
     shape: Shape,
     singles: Vec<Vec<Record>>,
     areas: Vec<Vec<Record>>,
+    rack: Option<Vec<Option<Vec<Record>>>>,
     peak: u32,
 }
 
 impl Model for Pool {
     ghost use Rattle.em_frames.specs.Pool.{PoolCounts, IsFilled};
-    ghost use Rattle.std.specs.Prelude.{vec_len};
+    ghost use Rattle.std.specs.Prelude.{vec_len, is_none};
 
     ghost Value = { PoolCounts };
 
@@ -28,10 +32,11 @@ impl Model for Pool {
       shape = p.shape;
       free = vec_len p.singles;
       free_areas = vec_len p.areas;
+      rack_out = is_none p.rack;
       peak = p.peak;
     } };
 
-    ghost invariant = { λ p. IsFilled p.shape p.singles p.areas p.peak };
+    ghost invariant = { λ p. IsFilled p.shape p.singles p.areas p.rack p.peak };
 }
 
 impl Pool {
@@ -117,14 +122,37 @@ impl Pool {
         self.areas.push_reserved(records);
     }
 
+    /// Lends the rack, with all its places empty.
+    pub fn lend_rack(&mut self) -> Rack
+        requires { self.old.rack_out ≡ false }
+        ensures rack { result ≡ empty_rack (places_in self.old.shape) }
+        ensures pool { self.new ≡ lent_rack self.old }
+    {
+        let Some(places) = self.rack.take() else {
+            unreachable!()
+        };
+        Rack { places }
+    }
+
+    /// Takes the rack back, of which all places are empty.
+    pub fn give_rack(&mut self, rack: Rack)
+        requires empty { rack ≡ empty_rack (places_in self.old.shape) }
+        requires out { self.old.rack_out ≡ true }
+        ensures pool { self.new ≡ given_rack self.old }
+    {
+        let Rack { places } = rack;
+        self.rack = Some(places);
+    }
+
     /// Gives the memory up. All that was lent is back.
     pub fn end(self)
-        requires { out_of self ≡ 0 }
+        requires { IsWhole self }
     {
         let Pool {
             shape: _,
             singles: _,
             areas: _,
+            rack: _,
             peak: _,
         } = self;
     }
@@ -167,10 +195,12 @@ fn make_pool(alloc: Global, shape: Shape) -> Result<Pool, AllocError>
     let block = shape.block() as usize;
     let singles = frames_of(alloc, 3 * shape.fan() as usize, block)?;
     let areas = frames_of(alloc, 2, shape.wide() as usize * block)?;
+    let places = empty_places(alloc, 2 * shape.fan() as usize)?;
     Ok(Pool {
         shape,
         singles,
         areas,
+        rack: Some(places),
         peak: 0,
     })
 }
@@ -187,4 +217,15 @@ fn frames_of(alloc: Global, count: usize, len: usize) -> Result<Vec<Vec<Record>>
         all.push_reserved(records);
     }
     Ok(all)
+}
+
+/// So many empty places of a rack.
+fn empty_places(alloc: Global, count: usize) -> Result<Vec<Option<Vec<Record>>>, AllocError>
+    ensures { IfOk result (λ v. places_of v ≡ empty_rack count) }
+{
+    let mut places = Vec::with_capacity(alloc, count)?;
+    for _ in 0..count {
+        places.push_reserved(None);
+    }
+    Ok(places)
 }

@@ -60,3 +60,28 @@ fn a_pool_lends_and_takes_back(rt: HostRuntime) -> Result<(), Fail> {
     pool.end();
     Ok(())
 }
+
+/// 128 records and 64 frames: f is 16, so the rack has 32 places.
+#[test]
+fn a_rack_holds_frames_at_its_places(rt: HostRuntime) -> Result<(), Fail> {
+    let mut pool = Grant::new(rt.alloc()).pool(Shape::new(128, 64)?)?;
+    let mut rack = pool.lend_rack();
+    assert_eq!(rt;
+        (rack.places(), rack.holds(0), rack.holds(31)),
+        (32, false, false)
+    );
+    let mut frame = pool.lend();
+    frame.records_mut()[127] = SEVEN;
+    rack.put(31, frame);
+    assert_eq!(rt; (rack.holds(0), rack.holds(31)), (false, true));
+    assert_eq!(rt; rack.records(31)[127], SEVEN);
+    assert_eq!(rt; (pool.free(), pool.free_areas(), pool.peak()), (47, 2, 1));
+    let frame = rack.take(31);
+    assert_eq!(rt; frame.records()[127], SEVEN);
+    assert_eq!(rt; rack.holds(31), false);
+    pool.give(frame);
+    pool.give_rack(rack);
+    assert_eq!(rt; (pool.free(), pool.free_areas(), pool.peak()), (48, 2, 1));
+    pool.end();
+    Ok(())
+}

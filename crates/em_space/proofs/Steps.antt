@@ -10,6 +10,7 @@ pub same_frames_then : (a b c : PoolCounts) → SameFrames a b → SameFrames b 
 same_frames_then a b c x y = record {
   shape = y.shape ∙ x.shape;
   free = y.free ∙ x.free;
+  rack = y.rack ∙ x.rack;
   free_areas = y.free_areas ∙ x.free_areas;
   peak = omega (arith, x.peak, y.peak);
 }
@@ -74,5 +75,5 @@ goes_nothing a h = record {
     moves = omega arith;
     others = λ t k u o. record { in_use = u; contents = refl };
   };
-  frames = record { shape = refl; free = refl; free_areas = refl; peak = omega arith };
+  frames = record { shape = refl; free = refl; rack = refl; free_areas = refl; peak = omega arith };
 }

@@ -1,12 +1,13 @@
-ghost use Rattle.std.specs.Prelude.{◌≡◌, ◌↔◌, ◌<◌, ◌≤◌, ◌+◌, ◌^◌, length, set, [], ◌∷◌, OnOk, OnErr, IfOk, IfErr, IsTrue, IsOk, Err};
+ghost use Rattle.std.specs.Prelude.{◌≡◌, ◌↔◌, ◌<◌, ◌≤◌, ◌+◌, ◌^◌, length, set, [], ◌∷◌, OnOk, OnErr, IfOk, IfErr, IsTrue, IsOk, Err, true, false};
 ghost use Rattle.em_record.specs.Count.{Rose};
 ghost use Rattle.em_frames.specs.Device.{block_at, ChangesOnly};
-ghost use Rattle.em_frames.specs.Pool.{singles_of, out_of, lent, given};
+ghost use Rattle.em_frames.specs.Pool.{singles_of, load_of, places_in, lent, given, lent_area, given_area, lent_rack, given_rack, IsWhole};
+ghost use Rattle.em_frames.specs.Rack.{empty_rack};
 ghost use Rattle.em_space.specs.Rig.{RigState, Sound, InUse, Touches, Goes, Cause, DeviceCause, Owes, Opens, Refuses, Allocates, AllocatesNext, Transfers};
 
 use crate::fault::EmFault;
 use crate::refused::OpenRefused;
-use em_frames::{Device, Frame, Pool};
+use em_frames::{Area, Device, Frame, Pool, Rack};
 use em_record::Shape;
 
 /// A device with the numbers of its blocks, and the pool of a run. All records that a run keeps
@@ -31,7 +32,7 @@ impl<'d, D: Device> Rig<'d, D> {
         pool: Pool,
     ) -> Result<Rig<'d, D>, OpenRefused<'d, D>>
         requires shape { pool.shape ≡ shape }
-        requires whole { out_of pool ≡ 0 }
+        requires whole { IsWhole pool }
         requires fresh { (D.state device.old).blocks ≡ 0 }
         requires blocks_low { 0 < blocks }
         requires blocks_high { blocks ≤ 2 ^ 40 }
@@ -108,6 +109,13 @@ impl<'d, D: Device> Rig<'d, D> {
         ensures most { result ≤ (seen D.state self.now).pool.shape.frames }
     {
         self.pool.peak()
+    }
+
+    /// The areas that are free.
+    pub fn free_areas(&self) -> u32
+        ensures { result ≡ (seen D.state self.now).pool.free_areas }
+    {
+        self.pool.free_areas()
     }
 
     /// The single frames that are free.
@@ -215,5 +223,58 @@ impl<'d, D: Device> Rig<'d, D> {
             ≡ record (seen D.state self.old) { pool = given (seen D.state self.old).pool } }
     {
         self.pool.give(frame);
+    }
+
+    /// Lends an area of the pool, with any records.
+    pub fn lend_area(&mut self) -> Area
+        requires sound { Sound (seen D.state self.old) }
+        requires free { 0 < (seen D.state self.old).pool.free_areas }
+        ensures sound { Sound (seen D.state self.new) }
+        ensures touches { Touches [] (seen D.state self.old) (seen D.state self.new) }
+        ensures len { length result ≡ load_of (seen D.state self.old).pool.shape }
+        ensures most { (seen D.state self.old).pool.free_areas ≤ 2 }
+        ensures lent { seen D.state self.new
+            ≡ record (seen D.state self.old) { pool = lent_area (seen D.state self.old).pool } }
+    {
+        self.pool.lend_area()
+    }
+
+    /// Takes an area back.
+    pub fn give_area(&mut self, area: Area)
+        requires sound { Sound (seen D.state self.old) }
+        requires len { length area ≡ load_of (seen D.state self.old).pool.shape }
+        requires out { (seen D.state self.old).pool.free_areas < 2 }
+        ensures sound { Sound (seen D.state self.new) }
+        ensures touches { Touches [] (seen D.state self.old) (seen D.state self.new) }
+        ensures given { seen D.state self.new
+            ≡ record (seen D.state self.old) { pool = given_area (seen D.state self.old).pool } }
+    {
+        self.pool.give_area(area);
+    }
+
+    /// Lends the rack of the pool, with all its places empty.
+    pub fn lend_rack(&mut self) -> Rack
+        requires sound { Sound (seen D.state self.old) }
+        requires in_pool { (seen D.state self.old).pool.rack_out ≡ false }
+        ensures sound { Sound (seen D.state self.new) }
+        ensures touches { Touches [] (seen D.state self.old) (seen D.state self.new) }
+        ensures rack { result ≡ empty_rack (places_in (seen D.state self.old).pool.shape) }
+        ensures lent { seen D.state self.new
+            ≡ record (seen D.state self.old) { pool = lent_rack (seen D.state self.old).pool } }
+    {
+        self.pool.lend_rack()
+    }
+
+    /// Takes the rack back, of which all places are empty.
+    pub fn give_rack(&mut self, rack: Rack)
+        requires sound { Sound (seen D.state self.old) }
+        requires empty { rack ≡ empty_rack (places_in (seen D.state self.old).pool.shape) }
+        requires out { (seen D.state self.old).pool.rack_out ≡ true }
+        ensures sound { Sound (seen D.state self.new) }
+        ensures touches { Touches [] (seen D.state self.old) (seen D.state self.new) }
+        ensures given { seen D.state self.new
+            ≡ record (seen D.state self.old) { pool = given_rack (seen D.state self.old).pool } }
+    {
+        self.pool.give_rack(rack);
     }
 }

@@ -142,3 +142,29 @@ fn a_store_that_fails_leaves_the_block_in_use(rt: HostRuntime) -> Result<(), Fai
     assert_eq!(rt; (device.moves(), device.faults()), (1, 1));
     Ok(())
 }
+
+/// 128 records and 64 frames: w is 8 frames for an area, and the rack has 32 places.
+#[test]
+fn a_rig_lends_areas_and_the_rack(rt: HostRuntime) -> Result<(), Fail> {
+    let shape = Shape::new(128, 64)?;
+    let mut device = MemDevice::new(rt.alloc(), &[])?;
+    let pool = Grant::new(rt.alloc()).pool(shape)?;
+    match Rig::open(shape, 3, &mut device, pool) {
+        Ok(mut rig) => {
+            let rack = rig.lend_rack();
+            let area = rig.lend_area();
+            assert_eq!(rt; (area.records().len(), rack.places()), (1024, 32));
+            assert_eq!(rt; (rig.free(), rig.free_areas(), rig.peak()), (48, 1, 8));
+            rig.give_area(area);
+            rig.give_rack(rack);
+            assert_eq!(rt; (rig.free(), rig.free_areas(), rig.peak()), (48, 2, 8));
+            rig.close().end();
+        }
+        Err(refused) => {
+            let (pool, fault) = refused.take();
+            pool.end();
+            assert!(rt; false, "{fault:?}");
+        }
+    }
+    Ok(())
+}

@@ -1,14 +1,11 @@
 -- Searches among words, which the program makes over strings and the definitions over their bytes.
-use Rattle.std.proofs.Common.{◌≡◌, ℕ, ◌+◌, Bool, false, cond, List, [], ◌∷◌, drop, length, map, take, Some, None, refl, sym, ap, ◌∙◌, arith}
+use Rattle.std.proofs.Common.{◌≡◌, ℕ, ◌+◌, Bool, cond, List, [], ◌∷◌, drop, length, map, take, Some, None, refl, sym, ap, ◌∙◌, arith}
 use Rattle.std.specs.Prelude.{nat_lt, position, not}
 use Rattle.std.specs.List.{after_first, before_first, position_or_len, prefix_len}
-use Rattle.std.specs.Result.{result_ok}
-use Rattle.std.specs.Str.{all_ascii_digits}
 use Rattle.std.proofs.lemmas.Grind.{common_steps}
 use Rattle.std.proofs.lemmas.Bool.Decides.{nat_tests}
 use Rattle.std.proofs.lemmas.List.{drop_all, length-map, take-map, take_all}
 use Rattle.std.proofs.lemmas.List.Sums.{prefix_len-le-length}
-use Rattle.emtool.specs.CommandLine.{number_of}
 
 -- the place that a search found is that of the first
 pub position_found : {X : Type 0} (p : X → Bool) (xs : List X) (i : ℕ)
@@ -46,11 +43,6 @@ position_map p f xs = let e = prefix_len_map (λ y. not (p y)) f xs in
     ap (λ n. cond (nat_lt n (length (map f xs))) (Some n) None) e
     ∙ ap (λ k. cond (nat_lt (prefix_len (λ x. not (p (f x))) xs) k)
     (Some (prefix_len (λ x. not (p (f x))) xs)) None) l
-
--- bytes of which one is no digit spell no number
-pub no_number : (bs : List ℕ) → all_ascii_digits bs ≡ false → result_ok (number_of bs) ≡ None
-no_number [] h = cc
-no_number (b ∷ bs) h = grind (arith, nat_tests, common_steps)
 
 -- what stands before the place that a search found in a list that is mapped
 pub first_found_map : {X Y : Type 0} (p : Y → Bool) (f : X → Y) (xs : List X) (i : ℕ)

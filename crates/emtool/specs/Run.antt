@@ -82,13 +82,18 @@ pub record Caused (old new : Outside) (status : Status) : Type 0 where
   pub write : status ≡ WriteFault → Rose old.write_faults new.write_faults
   pub device : status ≡ DeviceFault → Rose old.device.faults new.device.faults
 
--- No slot but the first changed. Where the shelf tells, it is lost only where no file has this name,
--- and where the run was done or the input malformed a file has it.
+-- No slot but the first changed. Where the shelf tells, it is lost only where no file has this
+-- name, and where the run was done or the input malformed a file has it.
 pub record OpensOnly (tells : Bool) (name : List ℕ) (old new : Stand) (status : Status)
     : Type 0 where
   pub leaves : Leaves First old new
   pub lost : IsTrue tells → (new.slot First).lost ≡ true → is_none (old.text First name) ≡ true
   pub there : IsTrue tells → OnEnd status (IsSome (old.text First name))
+
+-- The device was begun with the sizes of the job.
+pub record HasSizes (job : Job) (device : DeviceState) : Type 0 where
+  pub blocks : device.blocks ≡ job.blocks
+  pub block : device.block ≡ job.shape.block
 
 -- The device was full of blocks in use: their number is that of the job's blocks. It is below the
 -- moves that were made plus four for each frame, where the count of moves isn't at its end, and

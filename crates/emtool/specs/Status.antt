@@ -46,3 +46,10 @@ OnNoMemory other P = Unit {0}
 abbrev pub IfEndsFull : Status → (ℕ → Type 0) → Type 0
 IfEndsFull (Full used) P = P used
 IfEndsFull other P = Unit {0}
+
+-- P, where the run came to have a device that didn't fail
+abbrev pub OnBegun : Status → Type 0 → Type 0
+OnBegun (status.Usage kind word) P = Unit {0}
+OnBegun NoMemory P = Unit {0}
+OnBegun DeviceFault P = Unit {0}
+OnBegun other P = P

@@ -10,7 +10,7 @@ Answers a command file with structures in external memory.
 
 Commands:
   map FILE      lines `put K V`, `del K` and `get K`; prints one line for each get: the value of the
-                key by the commands before it, or `-`
+                key by the commands before it, or `-`; nothing where a line is faulty
                 example: emtool map prices.txt
 
 Options, before FILE:
@@ -22,18 +22,18 @@ Options, before FILE:
   --blocks=N    blocks of the scratch device, 1 to 1099511627776; default 1048576
                 example: emtool map --blocks=1000 prices.txt
   --stats       after the run, `moves N peak K` on the error stream: block moves, and the greatest
-                number of frames in use at once
+                number of frames in use at once; not with exit code 1 or 7
                 example: emtool map --stats prices.txt
 
 Numbers are decimal, from 0 to 18446744073709551615, with at most 20 digits.
 
 Exit codes:
-  0  done
-  1  usage: the words name no job                   (emtool map)
-  2  malformed: a line of the file is faulty         (a file with the line `put 1`)
-  3  an input could not be read                      (emtool map no-such-file)
-  4  the output could not be written                 (emtool map prices.txt > /dev/full)
-  5  the scratch device failed
-  6  the scratch device is full                      (--blocks=1 under a long file)
-  7  no memory for the frames
+  0  done                                     (emtool map prices.txt)
+  1  usage: the words name no job             (emtool map)
+  2  malformed: a line of the file is faulty  (a file with the line `put 1`)
+  3  an input could not be read               (emtool map no-such-file)
+  4  the output could not be written          (emtool map prices.txt > /dev/full)
+  5  the scratch device failed                (more commands than memory holds, where it is kept)
+  6  the scratch device is full               (--blocks=1 under a long file)
+  7  no memory for the frames                 (--block=65536 --frames=1024 where 2 GiB can't be had)
 ";

@@ -1,6 +1,5 @@
-ghost use Rattle.std.specs.Prelude.{◌≡◌, ◌+◌, ◌-◌, ◌<◌, ◌≤◌, ◌^◌, ℕ, length, IfOk};
-ghost use Rattle.em_record.specs.Shape.{IsShape};
-ghost use Rattle.emtool.specs.Job.{texts_of, job_of, blocks_with, default_frames, job_behind, job_with, operand_of, shape_with, IsJob};
+ghost use Rattle.std.specs.Prelude.{◌≡◌, ◌+◌, ◌-◌, ◌<◌, ◌≤◌, ◌^◌, length, IfOk};
+ghost use Rattle.emtool.specs.Job.{texts_of, job_of, blocks_with, default_frames, job_with, operand_of, shape_with, IsJob};
 
 use crate::option::{
     BLOCK, BLOCKS, FRAMES, STATS, has_option, number_or, option_words, test_options, word_of,

@@ -3,9 +3,10 @@
 //! streams, and calls it.
 #![tactic(auto)]
 
-ghost use Rattle.std.specs.Prelude.{◌≡◌};
+ghost use Rattle.std.specs.Prelude.{◌≡◌, ◌⊎◌, None};
 ghost use Rattle.em_record.specs.Count.{Rose};
 ghost use Rattle.em_io.specs.Sink.{SentPart};
+ghost use Rattle.emtool.specs.Outcome.{report_text};
 ghost use Rattle.emtool.specs.Status.{OnDone};
 
 mod answer;
@@ -100,18 +101,25 @@ fn main(rt: HostRuntime) -> ExitCode {
     ExitCode::from(status.code())
 }
 
-/// Prints a text whole, and says how that ended, also on the error stream.
+/// Prints a text whole, and says how that ended, also on the error stream: by the message of
+/// `WriteFault`, or by nothing.
 fn print_text<W: Sink, E: Sink>(text: &str, out: &mut W, err: &mut E) -> Status
     ensures done { OnDone result
         (W.state out.new ≡ W.took (W.state out.old) text.now) }
     ensures write_fault { result ≡ Status.WriteFault → Rose (W.faults out.old) (W.faults out.new) }
     ensures part { SentPart W.took (W.state out.old) text.now (W.state out.new) }
+    ensures only { (result ≡ Status.Done) ⊎ (result ≡ Status.WriteFault) }
+    ensures message { (Rose (E.faults err.old) (E.faults err.new) → ⊥)
+        → E.state err.new ≡ E.took (E.state err.old) (report_text result None) }
+    ensures message_part { SentPart E.took (E.state err.old) (report_text result None)
+        (E.state err.new) }
 {
-    if send(out, text.as_bytes()).is_ok() {
-        return Status::Done;
-    }
+    let status = match send(out, text.as_bytes()) {
+        Ok(()) => Status::Done,
+        Err(_) => Status::WriteFault,
+    };
     let outcome = Outcome {
-        status: Status::WriteFault,
+        status,
         stats: None,
     };
     let _told = report(err, &outcome);

@@ -1,11 +1,13 @@
 //! Whole runs over the outside in memory.
 ghost use Rattle.std.specs.Prelude.{◌<◌};
 
+use crate::help::HELP;
 use crate::job::Job;
 use crate::outcome::Stats;
 use crate::status::{Malform, Status, UsageKind};
 use crate::text::TextKind;
 use crate::top::{emtool, run_pool};
+use crate::{asked_text, print_text};
 use em_frames::{Grant, MemDevice};
 use em_io::{MemShelf, MemSink};
 use em_record::Shape;
@@ -444,5 +446,122 @@ fn a_small_device_is_full(rt: HostRuntime) -> Result<(), Fail> {
     assert!(rt; outcome.status == Status::Full { used: 3 });
     assert!(rt; outcome.stats == Some(Stats { moves: 3, peak: 1 }));
     assert_eq!(rt; out.bytes(), b"".as_slice());
+    Ok(())
+}
+
+/// At the smallest shape 512 records fill four blocks: a device of three is full, and one of four
+/// takes them all. Four stores, four reads on the way over the list, and four for the get.
+#[test]
+fn a_device_of_so_many_blocks_is_full(rt: HostRuntime) -> Result<(), Fail> {
+    let mut text = Vec::new(rt.alloc());
+    for _ in 0..512 {
+        text.extend_from_slice(b"put 1 2\n")?;
+    }
+    text.extend_from_slice(b"get 1\n")?;
+    let words = [
+        "map",
+        "--block=128",
+        "--frames=64",
+        "--blocks=3",
+        "--stats",
+        "a",
+    ];
+    let (status, out, err) = run(&rt, &words, &text, PLAIN)?;
+    assert!(rt; status == Status::Full { used: 3 });
+    assert_eq!(rt; out.bytes(), b"".as_slice());
+    let lines = b"emtool: the scratch device is full at 3 blocks\nmoves 3 peak 1\n";
+    assert_eq!(rt; err.bytes(), lines.as_slice());
+    let words = [
+        "map",
+        "--block=128",
+        "--frames=64",
+        "--blocks=4",
+        "--stats",
+        "a",
+    ];
+    let (status, out, err) = run(&rt, &words, &text, PLAIN)?;
+    assert!(rt; status == Status::Done);
+    assert_eq!(rt; out.bytes(), b"2\n".as_slice());
+    assert_eq!(rt; err.bytes(), b"moves 12 peak 3\n".as_slice());
+    Ok(())
+}
+
+/// The line of the statistics comes at every status but a refusal of the words.
+#[test]
+fn statistics_come_where_a_run_was_stopped(rt: HostRuntime) -> Result<(), Fail> {
+    let fails = [0];
+    let cases: [(&[&str], Setting<'_>, &[u8]); 4] = [
+        (
+            &["map", "--stats"],
+            PLAIN,
+            b"emtool: usage: MissingOperand at word 2\n",
+        ),
+        (
+            &["map", "--stats", "b"],
+            PLAIN,
+            b"emtool: an input could not be read\nmoves 0 peak 0\n",
+        ),
+        (
+            &["map", "--stats", "a"],
+            Setting {
+                device_fails: &fails,
+                ..PLAIN
+            },
+            b"emtool: the scratch device failed\nmoves 0 peak 0\n",
+        ),
+        (
+            &["map", "--stats", "a"],
+            Setting {
+                out_fails: &fails,
+                ..PLAIN
+            },
+            b"emtool: the output could not be written\nmoves 0 peak 3\n",
+        ),
+    ];
+    for (words, setting, message) in cases {
+        let (_, out, err) = run(&rt, words, FIRST, setting)?;
+        assert_eq!(rt; out.bytes(), b"".as_slice());
+        assert_eq!(rt; err.bytes(), message);
+    }
+    Ok(())
+}
+
+/// Help and the version are asked for by one word alone.
+#[test]
+fn help_and_version_are_asked_for_alone(rt: HostRuntime) -> Result<(), Fail> {
+    let alloc = rt.alloc();
+    let cases: [(&[&str], Option<&str>); 5] = [
+        (&["--help"], Some(HELP)),
+        (&["--version"], Some("emtool 0.1.0\n")),
+        (&[], None),
+        (&["--help", "map"], None),
+        (&["help"], None),
+    ];
+    for (words, text) in cases {
+        let mut given = Vec::new(alloc);
+        for word in words {
+            given.push(String::from_str(alloc, word)?)?;
+        }
+        assert_eq!(rt; asked_text(&given), text);
+    }
+    Ok(())
+}
+
+/// A text that can't be written says so on the error stream.
+#[test]
+fn a_text_is_printed_or_its_failure_told(rt: HostRuntime) -> Result<(), Fail> {
+    let alloc = rt.alloc();
+    let mut out = MemSink::new(alloc, 3, &[])?;
+    let mut err = MemSink::new(alloc, 7, &[])?;
+    let status = print_text("a text\n", &mut out, &mut err);
+    assert!(rt; status == Status::Done);
+    assert_eq!(rt; out.bytes(), b"a text\n".as_slice());
+    assert_eq!(rt; err.bytes(), b"".as_slice());
+    let mut out = MemSink::new(alloc, 3, &[1])?;
+    let status = print_text("a text\n", &mut out, &mut err);
+    assert!(rt; status == Status::WriteFault);
+    assert_eq!(rt; out.bytes(), b"a t".as_slice());
+    let line = b"emtool: the output could not be written\n";
+    assert_eq!(rt; err.bytes(), line.as_slice());
     Ok(())
 }

@@ -8,8 +8,8 @@ ghost use Rattle.emtool.specs.Bound.{stated_room};
 ghost use Rattle.emtool.specs.Due.{text_of, due_status, output_text, ForText};
 ghost use Rattle.emtool.specs.Job.{texts_of, job_of, file_name, ForJob, IsJob};
 ghost use Rattle.emtool.specs.Outcome.{HasStats, Reports, ReportsPart};
-ghost use Rattle.emtool.specs.Run.{outside, Ended, Caused, GoesOn, IsAllRead, IsFull, IsQuiet, OpensOnly};
-ghost use Rattle.emtool.specs.Status.{refusal_of, IfEndsFull, OnDone, OnEnd, OnNoMemory, OnUsage};
+ghost use Rattle.emtool.specs.Run.{outside, Ended, Caused, GoesOn, HasSizes, IsAllRead, IsFull, IsQuiet, OpensOnly};
+ghost use Rattle.emtool.specs.Status.{refusal_of, IfEndsFull, OnBegun, OnDone, OnEnd, OnNoMemory, OnUsage};
 
 use crate::job::{Job, read_job};
 use crate::outcome::{Outcome, stats_of, unmoved};
@@ -44,6 +44,7 @@ pub fn run_pool<D: Device, H: Shelf, W: Sink>(
     ensures opens { OpensOnly H.tells name.now (H.stand shelf.old) (H.stand shelf.new)
         result.status }
     ensures none_moved { (D.state device.old).moves ≡ 0 }
+    ensures begun { OnBegun result.status (HasSizes job.now (D.state device.new)) }
     ensures stats { HasStats (Ok job.now) result.status (D.state device.new).moves result.stats }
     ensures no_memory { OnNoMemory result.status ((shelf.new ≡ shelf.old) × (out.new ≡ out.old)
         × ((D.state device.new).moves ≡ 0)) }
@@ -100,6 +101,8 @@ fn run_words<D: Device, H: Shelf, W: Sink>(
         result.status) }
     ensures is { ForJob (texts_of words.now) (IsJob (length words.now)) }
     ensures none_moved { IfEndsFull result.status (λ _. (D.state device.old).moves ≡ 0) }
+    ensures begun { ForJob (texts_of words.now) (λ job.
+        OnBegun result.status (HasSizes job (D.state device.new))) }
     ensures stats { HasStats (job_of (texts_of words.now)) result.status
         ((D.state device.new).moves - (D.state device.old).moves) result.stats }
     ensures no_memory { OnNoMemory result.status ((shelf.new ≡ shelf.old) × (out.new ≡ out.old)
@@ -134,9 +137,9 @@ fn run_words<D: Device, H: Shelf, W: Sink>(
 }
 
 /// Runs the job that the words name: `words` are those behind the program's name. Answers of the
-/// map file go to `out`, the message of a status other than `Done` to `err`, and commands that
-/// don't fit into the frames of `grant` to `device`. A fault of `err` changes nothing: writing
-/// there stops.
+/// map file go to `out`, the message of a status other than `Done` and the line of `--stats` to
+/// `err`, and commands that don't fit into the frames of `grant` to `device`. A fault of `err`
+/// changes nothing: writing there stops.
 ///
 /// Clauses on what texts and blocks hold are said of a shelf and a device that tell it, as each
 /// clause says; those on words, counts and numbers of every one.
@@ -158,10 +161,12 @@ pub fn emtool<D: Device, H: Shelf, W: Sink, E: Sink>(
         ((device.new ≡ device.old) × (shelf.new ≡ shelf.old) × (out.new ≡ out.old)) }
 
     // Answers: where the input was read to its end or to its first fault, status and output are
-    // what is due.
+    // what is due; and the device has the sizes of the job.
     ensures answers { ForText (texts_of words.now) (H.stand shelf.old) (λ text.
         IsTrue H.tells → IsTrue (D.state device.old).told → OnEnd result ((result ≡ due_status text)
         × (W.state out.new ≡ W.took (W.state out.old) (output_text text)))) }
+    ensures begun { ForJob (texts_of words.now) (λ job.
+        OnBegun result (HasSizes job (D.state device.new))) }
     ensures all_read { ForJob (texts_of words.now) (λ job.
         OnDone result (IsAllRead H.tells ((H.stand shelf.new).slot Slot.First))) }
 
@@ -201,7 +206,7 @@ pub fn emtool<D: Device, H: Shelf, W: Sink, E: Sink>(
         ⊎ (result ≡ Status.NoMemory)) }
 
     // Frames and the error stream: memory comes by the grant alone, which is consumed here; and
-    // what the error stream gets, all of the status's message or a front of it.
+    // what the error stream gets: the status's message and the line of the statistics, or a front.
     ensures message { (Rose (E.faults err.old) (E.faults err.new) → ⊥) → Reports E.took
         (job_of (texts_of words.now)) result
         ((D.state device.new).moves - (D.state device.old).moves)
