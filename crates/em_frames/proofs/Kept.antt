@@ -1,6 +1,6 @@
 -- Blocks in memory.
 use Rattle.std.proofs.Common.{◌≡◌, ℕ, zero, suc, ◌+◌, ◌-◌, ◌<◌, ◌≤◌, List, [], ◌∷◌, ◌++◌, length, get_or, set, map, replicate, refl, sym, ap, ◌∙◌, arith, vec_len}
-use Rattle.std.proofs.lemmas.List.{map-set, length-set, map-append, append_assoc, length-append, get_or-replicate, length-replicate, set-get_or}
+use Rattle.std.proofs.lemmas.List.{length-map, map-set, length-set, map-append, append_assoc, length-append, get_or-replicate, length-replicate, set-get_or}
 use Rattle.std.proofs.lemmas.List.Elements.{All-tail, All-head}
 use Rattle.std.specs.List.{All}
 use Rattle.std.specs.Global.{Vec}
@@ -14,17 +14,13 @@ set-left [] ys i y h = absurd (omega arith)
 set-left (x ∷ xs) ys zero y h = refl
 set-left {A} (x ∷ xs) ys (suc i) y h = ap (λ (t : List A). x ∷ t) (set-left xs ys i y (omega arith))
 
-length-map : {A B : Type 0} (f : A → B) (xs : List A) → length (map f xs) ≡ length xs
-length-map f [] = refl
-length-map f (x ∷ xs) = ap suc (length-map f xs)
-
 -- a kept block is written
 pub all_blocks_set : (block size : ℕ) (kept : List (Vec Record)) (at : ℕ) (v : Vec Record)
     → at < length kept
     → all_blocks block size (set kept at v) ≡ set (all_blocks block size kept) at v.items
 all_blocks_set block size kept at v h =
     let items = λ (w : Vec Record). w.items in
-    let l : at < length (map items kept) = rw (length-map items kept) h in
+    let l : at < length (map items kept) = rw (length-map kept items) h in
     rw (length-set kept at v, map-set items kept at v)
     (sym (set-left (map items kept) (zero_blocks block (size - length kept)) at v.items l))
 

@@ -1,10 +1,11 @@
 -- Calls on a rig, one after another.
-use Rattle.std.proofs.Common.{ℕ, List, [], ◌∷◌, refl, sym, ◌∙◌, subst, arith, IsTrue}
-use Rattle.em_frames.specs.Pool.{PoolCounts, SameFrames}
-use Rattle.em_space.specs.Held.{Off}
-use Rattle.em_space.specs.Rig.{RigState, Sound, InUse, Touches, Goes, Cause, DeviceCause}
+use Rattle.std.proofs.Common.{◌≡◌, ℕ, ◌<◌, ◌+◌, ◌-◌, ◌^◌, ◌≤◌, List, [], ◌∷◌, refl, ap, sym, ◌∙◌, subst, arith, IsTrue, inl, inr, ⊎_elim}
+use Rattle.std.proofs.lemmas.Bool.{cases_lt}
+use Rattle.em_frames.specs.Pool.{PoolCounts, SameFrames, lent, given}
+use Rattle.em_space.specs.Free.{Off}
+use Rattle.em_space.specs.Rig.{RigState, Sound, InUse, Touches, Goes, Cause, BlockCause, DeviceCause, MovesToRelease, Owes}
 use Rattle.em_space.specs.declared.fault.EmFault.{EmFault}
-use Rattle.em_space.specs.declared.fault.EmFault.TheVariants.{DeviceFault, Full}
+use Rattle.em_space.specs.declared.fault.EmFault.TheVariants.{DeviceFault, Full, Damaged}
 
 pub same_frames_then : (a b c : PoolCounts) → SameFrames a b → SameFrames b c → SameFrames a c
 same_frames_then a b c x y = record {
@@ -16,7 +17,7 @@ same_frames_then a b c x y = record {
 }
 
 -- what the second call may change was held by the first, or wasn't in use before it
-touches_trans : (h g : List ℕ) (a b c : RigState) → Touches h a b → Touches g b c
+pub touches_trans : (h g : List ℕ) (a b c : RigState) → Touches h a b → Touches g b c
     → (IsTrue a.device.told → (k : ℕ) → InUse a k → Off k h → Off k g) → Touches h a c
 touches_trans h g a b c x y apart = record {
   name = y.name ∙ x.name;
@@ -24,6 +25,7 @@ touches_trans h g a b c x y apart = record {
   blocks = y.blocks ∙ x.blocks;
   shape = y.shape ∙ x.shape;
   faults = omega (arith, x.faults, y.faults);
+  most = omega (arith, x.most, y.most);
   moves = omega (arith, x.moves, y.moves);
   others = λ t k u o.
       let v = x.others t k u o in
@@ -35,6 +37,32 @@ touches_trans h g a b c x y apart = record {
 pub touches_then : (h : List ℕ) (a b c : RigState) → Touches h a b → Touches [] b c → Touches h a c
 touches_then h a b c x y = touches_trans h [] a b c x y (λ t k u o. tt)
 
+-- both calls may change the same blocks
+pub touches_both : (h : List ℕ) (a b c : RigState) → Touches h a b → Touches h b c → Touches h a c
+touches_both h a b c x y = touches_trans h h a b c x y (λ t k u o. o)
+
+-- the first call changes no block that was in use
+pub touches_after : (h : List ℕ) (a b c : RigState) → Touches [] a b → Touches h b c → Touches h a c
+touches_after h a b c x y = record {
+  name = y.name ∙ x.name;
+  told = y.told ∙ x.told;
+  blocks = y.blocks ∙ x.blocks;
+  shape = y.shape ∙ x.shape;
+  faults = omega (arith, x.faults, y.faults);
+  most = omega (arith, x.most, y.most);
+  moves = omega (arith, x.moves, y.moves);
+  others = λ t k u o.
+      let v = x.others t k u tt in
+      let w = y.others (x.told ∙ t) k v.in_use o in
+      record { in_use = w.in_use; contents = w.contents ∙ v.contents };
+}
+
+-- the second call changes a block that wasn't in use before the first
+pub touches_new : (k : ℕ) (a b c : RigState) → (IsTrue a.device.told → InUse a k → ⊥)
+    → Touches [] a b → Touches (k ∷ []) b c → Touches [] a c
+touches_new k a b c fresh x y = touches_trans [] (k ∷ []) a b c x y
+    (λ t j u o. ((λ e. fresh t (subst (λ (n : ℕ). InUse a n) e u)), tt))
+
 pub goes_then : (h : List ℕ) (a b c : RigState) → Goes h a b → Goes [] b c → Goes h a c
 goes_then h a b c x y = record {
   sound = y.sound;
@@ -42,13 +70,25 @@ goes_then h a b c x y = record {
   frames = same_frames_then a.pool b.pool c.pool x.frames y.frames;
 }
 
--- the second call changes a block that wasn't in use before the first
+pub goes_both : (h : List ℕ) (a b c : RigState) → Goes h a b → Goes h b c → Goes h a c
+goes_both h a b c x y = record {
+  sound = y.sound;
+  touches = touches_both h a b c x.touches y.touches;
+  frames = same_frames_then a.pool b.pool c.pool x.frames y.frames;
+}
+
+pub goes_after : (h : List ℕ) (a b c : RigState) → Goes [] a b → Goes h b c → Goes h a c
+goes_after h a b c x y = record {
+  sound = y.sound;
+  touches = touches_after h a b c x.touches y.touches;
+  frames = same_frames_then a.pool b.pool c.pool x.frames y.frames;
+}
+
 pub goes_new : (k : ℕ) (a b c : RigState) → (IsTrue a.device.told → InUse a k → ⊥)
     → Goes [] a b → Goes (k ∷ []) b c → Goes [] a c
 goes_new k a b c fresh x y = record {
   sound = y.sound;
-  touches = touches_trans [] (k ∷ []) a b c x.touches y.touches
-      (λ t j u o. ((λ e. fresh t (subst (λ (n : ℕ). InUse a n) e u)), tt));
+  touches = touches_new k a b c fresh x.touches y.touches;
   frames = same_frames_then a.pool b.pool c.pool x.frames y.frames;
 }
 
@@ -57,10 +97,95 @@ pub cause_after : (h : List ℕ) (a b c : RigState) (e : EmFault) → Touches h 
     → Cause b c e → Cause a c e
 cause_after h a b c DeviceFault t x = omega (arith, t.faults, x)
 cause_after h a b c (Full used) t x = x
+cause_after h a b c (Damaged block) t x = x
 
--- a device's fault is a cause
+pub block_cause_after : (h : List ℕ) (a b c : RigState) (e : EmFault) → Touches h a b
+    → BlockCause b c e → BlockCause a c e
+block_cause_after h a b c DeviceFault t x = omega (arith, t.faults, x)
+block_cause_after h a b c (Full used) t x = x
+block_cause_after h a b c (Damaged block) t x = x
+
+-- each of the narrower causes is a cause
+pub block_cause : (a b : RigState) (e : EmFault) → BlockCause a b e → Cause a b e
+block_cause a b DeviceFault x = x
+block_cause a b (Full used) x = absurd x
+block_cause a b (Damaged block) x = x
+
 pub device_cause : (a b : RigState) (e : EmFault) → DeviceCause a b e → Cause a b e
 device_cause a b e x = subst (λ (f : EmFault). Cause a b f) (sym x.is) x.rose
+
+pub device_block_cause : (a b : RigState) (e : EmFault) → DeviceCause a b e → BlockCause a b e
+device_block_cause a b e x = subst (λ (f : EmFault). BlockCause a b f) (sym x.is) x.rose
+
+-- what two calls owe together
+pub owes_after : (m n p : ℕ) (h : List ℕ) (a b c : RigState) → Owes m a b → Owes n b c
+    → Touches h b c → m + n ≤ p → Owes p a c
+owes_after m n p h a b c x y t most = record {
+  is = ⊎_elim
+      (λ (u : 2 ^ 64 - 1 ≤ b.moves). inl (omega (arith, u, t.moves)))
+      (λ (u : b.used + a.moves ≤ a.used + b.moves + m).
+      ⊎_elim (λ (v : 2 ^ 64 - 1 ≤ c.moves). inl v)
+      (λ (v : c.used + b.moves ≤ b.used + c.moves + n). inr (omega (arith, u, v, most))) y.is)
+      x.is;
+}
+
+-- a release makes one move at most
+pub release_moves : (a b : RigState) → MovesToRelease a b → b.moves ≤ a.moves + 1
+release_moves a b m = ⊎_elim
+    (λ (u : a.used < 1).
+    let e : b.moves ≡ a.moves = ap (λ (s : RigState). s.moves) (m.none_used (omega (arith, u))) in
+    omega (arith, e))
+    (λ (u : 1 ≤ a.used). omega (arith, m.some_used u))
+    (cases_lt a.used 1)
+
+-- the pool lent something or took it back
+pub touches_pool : (s : RigState) (p : PoolCounts) → p.shape ≡ s.pool.shape
+    → Touches [] s (record s { pool = p })
+touches_pool s p shape = record {
+  name = refl;
+  told = refl;
+  blocks = refl;
+  shape = shape;
+  faults = omega arith;
+  most = omega arith;
+  moves = omega arith;
+  others = λ t k u o. record {
+    in_use = record { told = u.told; untold = u.untold };
+    contents = refl;
+  };
+}
+
+pub sound_pool : (s : RigState) (p : PoolCounts) → p.shape ≡ s.pool.shape → Sound s
+    → Sound (record s { pool = p })
+sound_pool s p shape h = record {
+  blocks_is = h.blocks_is;
+  block_is = rw shape h.block_is;
+  moves_is = h.moves_is;
+  shape = rw shape h.shape;
+  numbers = h.numbers;
+  told = λ t. rw shape (h.told t);
+  free = h.free;
+}
+
+-- a call to which a frame was lent, and which gave it back
+pub goes_with_frame : (h : List ℕ) (a c : RigState) → 0 < a.pool.free
+    → Goes h (record a { pool = lent a.pool }) c → Goes h a (record c { pool = given c.pool })
+goes_with_frame h a c free g =
+    let b = record a { pool = lent a.pool } in
+    let frames = g.frames in
+    record {
+      sound = sound_pool c (given c.pool) refl g.sound;
+      touches = touches_then h a c (record c { pool = given c.pool })
+          (touches_after h a b c (touches_pool a (lent a.pool) refl) g.touches)
+          (touches_pool c (given c.pool) refl);
+      frames = record {
+        shape = frames.shape;
+        free = omega (arith, frames.free, free);
+        rack = frames.rack;
+        free_areas = frames.free_areas;
+        peak = omega (arith, frames.peak);
+      };
+    }
 
 -- no call at all
 pub goes_nothing : (a : RigState) → Sound a → Goes [] a a
@@ -72,6 +197,7 @@ goes_nothing a h = record {
     blocks = refl;
     shape = refl;
     faults = omega arith;
+    most = omega arith;
     moves = omega arith;
     others = λ t k u o. record { in_use = u; contents = refl };
   };

@@ -1,3 +1,5 @@
+pub mod Free
 pub mod Held
+pub mod Inner
 pub mod Rig
 pub mod Seen

@@ -1,5 +1,5 @@
 -- A rig: a device of which some blocks are in use, and the frames of a run.
-use Rattle.std.specs.Prelude.{◌≡◌, ℕ, ◌+◌, ◌-◌, ◌^◌, ◌<◌, ◌≤◌, ◌⊎◌, IsTrue, IsFalse, List, [], length, get_or, Result, IfOk, IfErr}
+use Rattle.std.specs.Prelude.{◌≡◌, ℕ, ◌+◌, ◌-◌, ◌^◌, ◌<◌, ◌≤◌, ◌⊎◌, IsTrue, IsFalse, List, [], length, get_or}
 use base.Fml.{GName}
 use Rattle.em_record.specs.Count.{next_count, Rose}
 use Rattle.em_record.specs.Shape.{IsShape}
@@ -8,25 +8,33 @@ use Rattle.em_frames.specs.Device.{DeviceState, block_at, fresh_contents}
 use Rattle.em_frames.specs.Pool.{PoolCounts, SameFrames}
 use Rattle.em_frames.specs.declared.device.BeginFault.{BeginFault}
 use Rattle.em_frames.specs.declared.device.BeginFault.TheVariants as begin
-use Rattle.em_space.specs.Held.{Off}
+use Rattle.em_space.specs.Free.{Off, IsFreeList, IsTaken}
 use Rattle.em_space.specs.declared.fault.EmFault.{EmFault}
-use Rattle.em_space.specs.declared.fault.EmFault.TheVariants.{DeviceFault, Full}
+use Rattle.em_space.specs.declared.fault.EmFault.TheVariants.{DeviceFault, Full, Damaged}
 
--- The name of the borrowed device, what the device tells, the pool, the number of blocks, how
--- many of them are in use, and the moves since the rig was opened.
+-- The name of the borrowed device, what the device tells, and the pool; the number of blocks, the
+-- link to the first block that was freed, how many are in use, the greatest number that were in use
+-- at once, and the moves, since the rig was opened.
 pub record RigState : Type 0 where
   pub name : GName
   pub device : DeviceState
   pub pool : PoolCounts
   pub blocks : ℕ
+  pub head : ℕ
   pub used : ℕ
+  pub most : ℕ
   pub moves : ℕ
 
--- The numbers of a rig: a device has 1 to 2 ^ 40 blocks.
-pub record AreNumbers (blocks used : ℕ) : Type 0 where
+-- The numbers of a rig: a device has 1 to 2 ^ 40 blocks. Of the first blocks, up to the most that
+-- were in use at once, some are free exactly where there is a link to one.
+pub record AreNumbers (blocks head used most : ℕ) : Type 0 where
   pub blocks_low : 0 < blocks
   pub blocks_high : blocks ≤ 2 ^ 40
-  pub used_most : used ≤ blocks
+  pub used_most : used ≤ most
+  pub most_high : most ≤ blocks
+  pub head_high : head ≤ blocks
+  pub none_freed : head ≡ 0 → used ≡ most
+  pub some_freed : 0 < head → used < most
 
 -- so many blocks of so many records are told
 pub record IsLaidOut (contents : List (List Record)) (blocks block : ℕ) : Type 0 where
@@ -39,14 +47,14 @@ pub record Sound (s : RigState) : Type 0 where
   pub block_is : s.device.block ≡ s.pool.shape.block
   pub moves_is : s.device.moves ≡ s.moves
   pub shape : IsShape s.pool.shape
-  pub numbers : AreNumbers s.blocks s.used
+  pub numbers : AreNumbers s.blocks s.head s.used s.most
   pub told : IsTrue s.device.told → IsLaidOut s.device.contents s.blocks s.pool.shape.block
+  pub free : IsTrue s.device.told → IsFreeList s.device.contents s.most s.used s.head
 
--- The block of this number is in use. Of a device that doesn't tell, only the range is known, and
--- that some block is in use.
+-- The block of this number is in use. Of a device that doesn't tell, only the range is known.
 pub record InUse (s : RigState) (k : ℕ) : Type 0 where
-  pub told : IsTrue s.device.told → k < s.used
-  pub untold : IsFalse s.device.told → (k < s.blocks) × (0 < s.used)
+  pub told : IsTrue s.device.told → IsTaken s.device.contents s.most s.used s.head k
+  pub untold : IsFalse s.device.told → k < s.blocks
 
 -- the block stays in use with its contents
 pub record Stays (old new : RigState) (k : ℕ) : Type 0 where
@@ -60,6 +68,7 @@ pub record Touches (held : List ℕ) (old new : RigState) : Type 0 where
   pub blocks : new.blocks ≡ old.blocks
   pub shape : new.pool.shape ≡ old.pool.shape
   pub faults : old.device.faults ≤ new.device.faults
+  pub most : old.most ≤ new.most
   pub moves : old.moves ≤ new.moves
   pub others : IsTrue old.device.told → (k : ℕ) → InUse old k → Off k held → Stays old new k
 
@@ -69,24 +78,44 @@ pub record Goes (held : List ℕ) (old new : RigState) : Type 0 where
   pub touches : Touches held old new
   pub frames : SameFrames old.pool new.pool
 
--- Why a call gave up: the device's count of faults rose; or a block was needed, and all blocks
--- are in use.
+-- Why a call gave up: the device's count of faults rose; a block was needed, and all blocks are in
+-- use; or, over a device that doesn't tell what it holds, a block isn't laid out as it was left.
 abbrev pub Cause : RigState → RigState → EmFault → Type 0
 Cause old new DeviceFault = Rose old.device.faults new.device.faults
 Cause old new (Full used) = (used ≡ new.blocks) × (new.used ≡ new.blocks)
+Cause old new (Damaged block) = IsFalse new.device.told × (block < new.blocks)
 
--- why a call gave up that needs no block
+-- why a call gave up that needs no new block
+abbrev pub BlockCause : RigState → RigState → EmFault → Type 0
+BlockCause old new DeviceFault = Rose old.device.faults new.device.faults
+BlockCause old new (Full used) = ⊥
+BlockCause old new (Damaged block) = IsFalse new.device.told × (block < new.blocks)
+
+-- P of the number of blocks, where all are in use
+abbrev pub IfFull : EmFault → (ℕ → Type 0) → Type 0
+IfFull DeviceFault P = Unit {0}
+IfFull (Full used) P = P used
+IfFull (Damaged block) P = Unit {0}
+
+-- P of the block, where one isn't laid out
+abbrev pub IfDamaged : EmFault → (ℕ → Type 0) → Type 0
+IfDamaged DeviceFault P = Unit {0}
+IfDamaged (Full used) P = Unit {0}
+IfDamaged (Damaged block) P = P block
+
+-- why a call gave up that needs no new block and tests none
 pub record DeviceCause (old new : RigState) (fault : EmFault) : Type 0 where
   pub is : fault ≡ DeviceFault
   pub rose : Rose old.device.faults new.device.faults
 
 -- The blocks in use rose by at most this number more than the moves made, or the count of moves
--- stands at its end. So it bounds the blocks that are in use and weren't stored yet.
+-- stands at its end. A call that stores the blocks that it takes owes none; one that keeps some in
+-- frames, to store them later, owes those.
 pub record Owes (n : ℕ) (old new : RigState) : Type 0 where
   pub is : (2 ^ 64 - 1 ≤ new.moves) ⊎ (new.used + old.moves ≤ old.used + new.moves + n)
 
--- A rig was opened over a device: nothing is in use, nothing was moved, and the pool is as it was
--- given.
+-- A rig was opened over a device: no block is or was in use, none was moved, and the pool is as it
+-- was given.
 pub record Opens (device : DeviceState) (pool : PoolCounts) (blocks : ℕ) (new : RigState)
     : Type 0 where
   pub sound : Sound new
@@ -97,6 +126,8 @@ pub record Opens (device : DeviceState) (pool : PoolCounts) (blocks : ℕ) (new 
   pub pool_is : new.pool ≡ pool
   pub blocks_is : new.blocks ≡ blocks
   pub none_used : new.used ≡ 0
+  pub none_ever : new.most ≡ 0
+  pub none_freed : new.head ≡ 0
   pub none_moved : new.moves ≡ 0
 
 -- A device wasn't begun, and the pool goes back.
@@ -108,20 +139,45 @@ pub record Refuses (old new : DeviceState) (pool back : PoolCounts) (fault : Beg
   pub pool_is : back ≡ pool
   pub cause : fault ≡ begin.Failed → Rose old.faults new.faults
 
--- The block wasn't in use, and is from now on.
+-- No block came to be in use.
+pub record NoneNew (old new : RigState) : Type 0 where
+  pub is : IsTrue old.device.told → (j : ℕ) → InUse new j → InUse old j
+
+-- The block wasn't in use, and is from now on; no other came to be in use.
 pub record Allocates (old new : RigState) (k : ℕ) : Type 0 where
   pub fresh : IsTrue old.device.told → InUse old k → ⊥
   pub in_use : InUse new k
+  pub others : IsTrue old.device.told → (j : ℕ) → InUse new j → (j ≡ k) ⊎ InUse old j
+  pub below : k < new.blocks
   pub used : new.used ≡ old.used + 1
 
--- The answer of a rig that frees no block: the next number, or Full. Nothing else changes.
-pub record AllocatesNext (old new : RigState) (result : Result ℕ EmFault) : Type 0 where
-  pub next : IfOk result (λ k. k ≡ old.used)
-  pub refused : IfErr result (λ fault. fault ≡ Full old.used)
-  pub same : new ≡ record old { used = new.used }
+-- The block was in use, and isn't any more.
+pub record Releases (old new : RigState) (k : ℕ) : Type 0 where
+  pub gone : IsTrue old.device.told → InUse new k → ⊥
+  pub used : new.used + 1 ≡ old.used
+
+-- As many blocks are in use, and were at most, and the first of those that were freed is the same.
+pub record SameBlocks (old new : RigState) : Type 0 where
+  pub head : new.head ≡ old.head
+  pub used : new.used ≡ old.used
+  pub most : new.most ≡ old.most
+
+-- A new block comes with no move where none was freed and not used again; else the first of those
+-- is read.
+pub record MovesToAlloc (old new : RigState) : Type 0 where
+  pub none_freed : old.head ≡ 0 → new.moves ≡ old.moves
+  pub some_freed : 0 < old.head → new.moves ≡ next_count old.moves
 
 -- One block was moved, or was to be; the blocks in use and the frames are the same.
 pub record Transfers (old new : RigState) : Type 0 where
+  pub blocks : SameBlocks old new
+  pub none_new : NoneNew old new
   pub used : new.used ≡ old.used
   pub moves : new.moves ≡ next_count old.moves
   pub pool : new.pool ≡ old.pool
+
+-- One move; but none, and nothing else either, where no block is in use, which only a device that
+-- doesn't tell what it holds allows.
+pub record MovesToRelease (old new : RigState) : Type 0 where
+  pub none_used : old.used ≡ 0 → new ≡ old
+  pub some_used : 0 < old.used → new.moves ≡ next_count old.moves

@@ -10,6 +10,8 @@ seen state rig = record {
   device = state rig.device.now;
   pool = rig.pool;
   blocks = rig.blocks;
+  head = rig.head;
   used = rig.used;
+  most = rig.most;
   moves = rig.moves;
 }

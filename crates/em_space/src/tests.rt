@@ -1,11 +1,12 @@
-ghost use Rattle.std.specs.Prelude.{◌≡◌, ◌<◌, length};
+ghost use Rattle.std.specs.Prelude.{◌≡◌, ◌<◌, length, false, []};
+ghost use Rattle.em_frames.specs.Device.{DeviceState};
 ghost use Rattle.em_frames.specs.Pool.{SameFrames};
 ghost use Rattle.em_space.specs.Rig.{RigState, Sound};
 ghost use Rattle.em_space.specs.Seen.{seen};
 
 use crate::{EmFault, Rig};
 use em_frames::{BeginFault, Device, Frame, Grant, MemDevice};
-use em_record::{Record, Shape};
+use em_record::{Failed, Record, Shape};
 use std::test::Fail;
 
 const ONE: Record = Record {
@@ -40,7 +41,7 @@ fn two_blocks_by<D: Device>(rig: &mut Rig<'_, D>, frame: &mut Frame) -> Result<R
     requires free { 0 < (seen D.state rig.old).pool.free }
     requires len { length frame.old ≡ (seen D.state rig.old).pool.shape.block }
     ensures sound { Sound (seen D.state rig.new) }
-    ensures pool { (seen D.state rig.new).pool ≡ (seen D.state rig.old).pool }
+    ensures frames { SameFrames (seen D.state rig.old).pool (seen D.state rig.new).pool }
     ensures len { length frame.new ≡ length frame.old }
 {
     let first = rig.alloc()?;
@@ -158,6 +159,272 @@ fn a_rig_lends_areas_and_the_rack(rt: HostRuntime) -> Result<(), Fail> {
             rig.give_area(area);
             rig.give_rack(rack);
             assert_eq!(rt; (rig.free(), rig.free_areas(), rig.peak()), (48, 2, 8));
+            rig.close().end();
+        }
+        Err(refused) => {
+            let (pool, fault) = refused.take();
+            pool.end();
+            assert!(rt; false, "{fault:?}");
+        }
+    }
+    Ok(())
+}
+
+/// Takes two blocks, frees the first, and takes two more: the first comes again.
+#[tactic(auto, using(crate::proofs::Held::in_use_kept))]
+fn free_first<D: Device>(rig: &mut Rig<'_, D>) -> Result<(u64, u64, u64, u64), EmFault>
+    requires sound { Sound (seen D.state rig.old) }
+    requires free { 0 < (seen D.state rig.old).pool.free }
+    ensures sound { Sound (seen D.state rig.new) }
+    ensures frames { SameFrames (seen D.state rig.old).pool (seen D.state rig.new).pool }
+{
+    let first = rig.alloc()?;
+    let second = rig.alloc()?;
+    rig.release(first)?;
+    let third = rig.alloc()?;
+    let fourth = rig.alloc()?;
+    Ok((first, second, third, fourth))
+}
+
+/// A release and the reading of its block again are one move each.
+#[test]
+fn a_freed_block_comes_again(rt: HostRuntime) -> Result<(), Fail> {
+    let shape = Shape::new(128, 64)?;
+    let mut device = MemDevice::new(rt.alloc(), &[])?;
+    let pool = Grant::new(rt.alloc()).pool(shape)?;
+    match Rig::open(shape, 3, &mut device, pool) {
+        Ok(mut rig) => {
+            assert_eq!(rt; free_first(&mut rig), Ok((0, 1, 0, 2)));
+            assert_eq!(rt; (rig.used(), rig.most(), rig.moves()), (3, 3, 2));
+            assert_eq!(rt; rig.alloc(), Err(EmFault::Full { used: 3 }));
+            assert_eq!(rt; (rig.free(), rig.peak()), (48, 1));
+            rig.close().end();
+        }
+        Err(refused) => {
+            let (pool, fault) = refused.take();
+            pool.end();
+            assert!(rt; false, "{fault:?}");
+        }
+    }
+    assert_eq!(rt; (device.moves(), device.faults()), (2, 0));
+    Ok(())
+}
+
+/// Takes two blocks and frees both, and takes three more.
+#[tactic(auto, using(crate::proofs::Held::in_use_kept))]
+fn free_all<D: Device>(rig: &mut Rig<'_, D>) -> Result<(u64, u64, u64), EmFault>
+    requires sound { Sound (seen D.state rig.old) }
+    requires free { 0 < (seen D.state rig.old).pool.free }
+    ensures sound { Sound (seen D.state rig.new) }
+    ensures frames { SameFrames (seen D.state rig.old).pool (seen D.state rig.new).pool }
+{
+    let first = rig.alloc()?;
+    let second = rig.alloc()?;
+    rig.release(first)?;
+    rig.release(second)?;
+    let third = rig.alloc()?;
+    let fourth = rig.alloc()?;
+    let fifth = rig.alloc()?;
+    Ok((third, fourth, fifth))
+}
+
+/// The block that was freed last comes first.
+#[test]
+fn freed_blocks_come_again_before_new_ones(rt: HostRuntime) -> Result<(), Fail> {
+    let shape = Shape::new(128, 64)?;
+    let mut device = MemDevice::new(rt.alloc(), &[])?;
+    let pool = Grant::new(rt.alloc()).pool(shape)?;
+    match Rig::open(shape, 4, &mut device, pool) {
+        Ok(mut rig) => {
+            assert_eq!(rt; free_all(&mut rig), Ok((1, 0, 2)));
+            assert_eq!(rt; (rig.used(), rig.most(), rig.moves()), (3, 3, 4));
+            rig.close().end();
+        }
+        Err(refused) => {
+            let (pool, fault) = refused.take();
+            pool.end();
+            assert!(rt; false, "{fault:?}");
+        }
+    }
+    Ok(())
+}
+
+/// The device begins by its call 0, the release is its call 1, and the reading of the freed block
+/// its call 2.
+#[test]
+fn a_release_or_an_alloc_that_fails_leaves_the_blocks_in_use(rt: HostRuntime) -> Result<(), Fail> {
+    for (failing, used, moves) in [(1, 2, 1), (2, 1, 2)] {
+        let shape = Shape::new(128, 64)?;
+        let mut device = MemDevice::new(rt.alloc(), &[failing])?;
+        let pool = Grant::new(rt.alloc()).pool(shape)?;
+        match Rig::open(shape, 3, &mut device, pool) {
+            Ok(mut rig) => {
+                assert_eq!(rt; free_first(&mut rig), Err(EmFault::DeviceFault));
+                assert_eq!(rt; (rig.used(), rig.most(), rig.moves()), (used, 2, moves));
+                assert_eq!(rt; (rig.free(), rig.peak()), (48, 1));
+                rig.close().end();
+            }
+            Err(refused) => {
+                let (pool, fault) = refused.take();
+                pool.end();
+                assert!(rt; false, "{fault:?}");
+            }
+        }
+        assert_eq!(rt; (device.moves(), device.faults()), (moves, 1));
+    }
+    Ok(())
+}
+
+/// A device that tells nothing, forgets what is written, and gives the same record at every place.
+#[derive(Drop)]
+struct Forgetful {
+    gives: Record,
+    block: u64,
+    blocks: u64,
+    moves: u64,
+    ghost begun: { blocks ≡ 0 → moves ≡ 0 },
+}
+
+impl Device for Forgetful {
+    ghost state = { λ d. record {
+      told = false;
+      contents = [];
+      blocks = d.blocks;
+      block = d.block;
+      faults = 0;
+      moves = d.moves;
+    } };
+
+    fn begin(&mut self, block: u32, blocks: u64) -> Result<(), BeginFault> {
+        self.block = block as u64;
+        self.blocks = blocks;
+        Ok(())
+    }
+
+    fn read(&mut self, _at: u64, into: &mut [Record]) -> Result<(), Failed> {
+        into.fill(self.gives);
+        self.moves = self.moves.saturating_add(1);
+        Ok(())
+    }
+
+    fn write(&mut self, _at: u64, _from: &[Record]) -> Result<(), Failed> {
+        self.moves = self.moves.saturating_add(1);
+        Ok(())
+    }
+}
+
+/// A device that isn't begun yet.
+fn not_begun(gives: Record) -> Forgetful
+    ensures blocks { result.blocks ≡ 0 }
+{
+    Forgetful {
+        gives,
+        block: 0,
+        blocks: 0,
+        moves: 0,
+    }
+}
+
+/// What a device gives in place of the header of the one freed block: other words, another kind, a
+/// number of records, a word d, and links though there is no other freed block.
+#[test]
+fn a_damaged_header_is_refused(rt: HostRuntime) -> Result<(), Fail> {
+    let wrong = [
+        (u64::MAX, u64::MAX, u64::MAX, u64::MAX),
+        (0, 0, 1, 0),
+        (0, 1, 3, 0),
+        (0, 0, 3, 1),
+        (1, 0, 3, 0),
+        (3, 0, 3, 0),
+    ];
+    for (a, b, c, d) in wrong {
+        let shape = Shape::new(128, 64)?;
+        let mut device = not_begun(Record { a, b, c, d });
+        let pool = Grant::new(rt.alloc()).pool(shape)?;
+        match Rig::open(shape, 3, &mut device, pool) {
+            Ok(mut rig) => {
+                let fault = Err(EmFault::Damaged { block: 0 });
+                assert_eq!(rt; free_first(&mut rig), fault);
+                assert_eq!(rt; (rig.used(), rig.most(), rig.moves()), (1, 2, 2));
+                assert_eq!(rt; (rig.free(), rig.peak()), (48, 1));
+                rig.close().end();
+            }
+            Err(refused) => {
+                let (pool, fault) = refused.take();
+                pool.end();
+                assert!(rt; false, "{fault:?}");
+            }
+        }
+    }
+    Ok(())
+}
+
+/// One block is freed, so its header has no link.
+#[test]
+fn a_right_header_is_taken_from_a_device_that_tells_nothing(rt: HostRuntime) -> Result<(), Fail> {
+    let shape = Shape::new(128, 64)?;
+    let mut device = not_begun(Record {
+        a: 0,
+        b: 0,
+        c: 3,
+        d: 0,
+    });
+    let pool = Grant::new(rt.alloc()).pool(shape)?;
+    match Rig::open(shape, 3, &mut device, pool) {
+        Ok(mut rig) => {
+            assert_eq!(rt; free_first(&mut rig), Ok((0, 1, 0, 2)));
+            assert_eq!(rt; (rig.used(), rig.most(), rig.moves()), (3, 3, 2));
+            rig.close().end();
+        }
+        Err(refused) => {
+            let (pool, fault) = refused.take();
+            pool.end();
+            assert!(rt; false, "{fault:?}");
+        }
+    }
+    Ok(())
+}
+
+/// Two blocks are freed, block 1 after block 0. With no link, or one past the four blocks, its header
+/// is refused. With a link to block 0 it comes, and then the same header is refused for block 0, which
+/// is the last one.
+#[test]
+fn a_link_is_tested_by_the_blocks_that_are_freed(rt: HostRuntime) -> Result<(), Fail> {
+    for (link, block, used, moves) in [(0, 1, 0, 3), (5, 1, 0, 3), (1, 0, 1, 4)] {
+        let shape = Shape::new(128, 64)?;
+        let mut device = not_begun(Record {
+            a: link,
+            b: 0,
+            c: 3,
+            d: 0,
+        });
+        let pool = Grant::new(rt.alloc()).pool(shape)?;
+        match Rig::open(shape, 4, &mut device, pool) {
+            Ok(mut rig) => {
+                assert_eq!(rt; free_all(&mut rig), Err(EmFault::Damaged { block }));
+                assert_eq!(rt; (rig.used(), rig.most(), rig.moves()), (used, 2, moves));
+                rig.close().end();
+            }
+            Err(refused) => {
+                let (pool, fault) = refused.take();
+                pool.end();
+                assert!(rt; false, "{fault:?}");
+            }
+        }
+    }
+    Ok(())
+}
+
+/// Over a device that tells nothing a block counts as in use by its number alone.
+#[test]
+fn a_release_with_no_block_in_use_does_nothing(rt: HostRuntime) -> Result<(), Fail> {
+    let shape = Shape::new(128, 64)?;
+    let mut device = not_begun(Record::ZERO);
+    let pool = Grant::new(rt.alloc()).pool(shape)?;
+    match Rig::open(shape, 3, &mut device, pool) {
+        Ok(mut rig) => {
+            assert_eq!(rt; rig.release(2), Err(EmFault::Damaged { block: 2 }));
+            assert_eq!(rt; (rig.used(), rig.most(), rig.moves()), (0, 0, 0));
             rig.close().end();
         }
         Err(refused) => {

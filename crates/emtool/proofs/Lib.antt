@@ -1,5 +1,6 @@
 pub mod AnswerLaws
 pub mod Answering
+pub mod ChainSteps
 pub mod EndLaws
 mod JobRows
 pub mod LineLemmas

@@ -8,12 +8,12 @@ use Rattle.std.proofs.lemmas.List.{drop_all, length-map, take-map, take_all}
 use Rattle.std.proofs.lemmas.List.Sums.{prefix_len-le-length}
 
 -- the place that a search found is that of the first
-pub position_found : {X : Type 0} (p : X → Bool) (xs : List X) (i : ℕ)
+position_found : {X : Type 0} (p : X → Bool) (xs : List X) (i : ℕ)
     → position p xs ≡ Some i → i ≡ position_or_len p xs
 position_found p xs i h = grind (arith, nat_tests, common_steps)
 
 -- where a search found none, the first stands behind the list's end
-pub position_missing : {X : Type 0} (p : X → Bool) (xs : List X)
+position_missing : {X : Type 0} (p : X → Bool) (xs : List X)
     → position p xs ≡ None → length xs ≡ position_or_len p xs
 position_missing p xs h =
     let le = prefix_len-le-length (λ x. not (p x)) xs in grind (arith, nat_tests, common_steps)
@@ -31,7 +31,7 @@ first_missing p xs h = let e = position_missing p xs h in
     (take_all _ xs (omega arith), drop_all _ xs (omega arith))
 
 -- a search in a mapped list
-pub prefix_len_map : {X Y : Type 0} (p : Y → Bool) (f : X → Y) (xs : List X)
+prefix_len_map : {X Y : Type 0} (p : Y → Bool) (f : X → Y) (xs : List X)
     → prefix_len p (map f xs) ≡ prefix_len (λ x. p (f x)) xs
 prefix_len_map p f [] = refl
 prefix_len_map p f (x ∷ xs) = ap (λ n. cond (p (f x)) (1 + n) 0) (prefix_len_map p f xs)

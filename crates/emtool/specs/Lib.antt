@@ -3,7 +3,6 @@ pub mod Answered
 pub mod CommandRecord
 pub mod Bound
 pub mod CommandLine
-pub mod CommandList
 pub mod Due
 pub mod Job
 pub mod LineTaken

@@ -8,7 +8,7 @@ use Rattle.emtool.specs.declared.status.Malform.TheVariants.{Text}
 use Rattle.emtool.specs.declared.status.UsageKind.{UsageKind}
 use Rattle.emtool.specs.declared.status.UsageKind.TheVariants.{NoCommand, UnknownCommand, UnknownOption, RepeatedOption, BadValue, MissingOperand, ExtraOperand, BlockRange, FramesRange, FramesMultiple, BlocksRange}
 use Rattle.emtool.specs.declared.status.Status.{Status}
-use Rattle.emtool.specs.declared.status.Status.TheVariants.{Done, Usage, Malformed, ReadFault, WriteFault, DeviceFault, Full, NoMemory}
+use Rattle.emtool.specs.declared.status.Status.TheVariants.{Done, Usage, Malformed, ReadFault, WriteFault, DeviceFault, Full, NoMemory, Damaged}
 
 -- the name of a fault of a line
 abbrev pub text_kind_name : TextKind → List ℕ
@@ -61,3 +61,5 @@ message_of DeviceFault = line_of (codes "emtool: the scratch device failed") [] 
 message_of (Full used) =
     line_of (codes "emtool: the scratch device is full at ") [] [] (Some used) (codes " blocks")
 message_of NoMemory = line_of (codes "emtool: no memory for the frames") [] [] None []
+message_of (Damaged block) =
+    line_of (codes "emtool: scratch block ") [] [] (Some block) (codes " is damaged")

@@ -1,5 +1,5 @@
 -- What a run leaves of the outside.
-use Rattle.std.specs.Prelude.{◌≡◌, ℕ, ◌+◌, ◌-◌, ◌*◌, ◌<◌, ◌≤◌, ◌^◌, ◌⊎◌, Bool, true, IsTrue, IsSome, List, [], is_none}
+use Rattle.std.specs.Prelude.{◌≡◌, ℕ, ◌+◌, ◌-◌, ◌*◌, ◌<◌, ◌≤◌, ◌^◌, ◌⊎◌, Bool, true, IsTrue, IsFalse, IsSome, List, [], is_none}
 use Rattle.em_record.specs.Count.{Rose}
 use Rattle.em_io.specs.Sink.{SentPart}
 use Rattle.em_io.specs.Shelf.{SlotState, Stand, Leaves}
@@ -10,13 +10,13 @@ use Rattle.em_frames.specs.Device.{DeviceState}
 use Rattle.em_space.specs.declared.fault.EmFault.{EmFault}
 use Rattle.em_space.specs.declared.fault.EmFault.TheVariants as em
 use Rattle.emtool.specs.declared.status.Status.{Status}
-use Rattle.emtool.specs.declared.status.Status.TheVariants.{ReadFault, WriteFault, DeviceFault, Full}
+use Rattle.emtool.specs.declared.status.Status.TheVariants.{ReadFault, WriteFault, DeviceFault, Full, Damaged}
 use Rattle.emtool.specs.declared.text.FileKind.TheVariants.{Map}
 use Rattle.emtool.specs.Bound.{stated_room}
 use Rattle.emtool.specs.declared.job.Job.{Job}
 use Rattle.emtool.specs.Due.{due_status, output_text}
 use Rattle.emtool.specs.RunSize.{commands_taken}
-use Rattle.emtool.specs.Status.{OnEnd, OnDone, IfEndsFull}
+use Rattle.emtool.specs.Status.{OnEnd, OnDone, IfEndsFull, IfEndsDamaged}
 
 -- The outside at one moment: the device, the state of the output, the first slot of the shelf, and
 -- how often shelf and output failed.
@@ -41,6 +41,7 @@ outside h w device shelf out = record {
 abbrev pub em_status : EmFault → Status
 em_status em.DeviceFault = DeviceFault
 em_status (em.Full used) = Full used
+em_status (em.Damaged block) = Damaged block
 
 -- The slot was opened with Ok, and nothing of its text is left.
 pub record IsAllRead (tells : Bool) (slot : SlotState) : Type 0 where
@@ -48,9 +49,9 @@ pub record IsAllRead (tells : Bool) (slot : SlotState) : Type 0 where
   pub nothing_left : IsTrue tells → slot.left ≡ []
 
 -- The end of a run over this text, on a device of so many blocks of which none was in use or moved
--- before.
-pub record Ended (tells : Bool) (took : List ℕ → List ℕ → List ℕ) (text : List ℕ) (block blocks : ℕ)
-    (old new : Outside) (status : Status) : Type 0 where
+-- before; a block takes so many commands.
+pub record Ended (tells : Bool) (took : List ℕ → List ℕ → List ℕ) (text : List ℕ)
+    (payload blocks : ℕ) (old new : Outside) (status : Status) : Type 0 where
   pub answers : IsTrue tells → IsTrue old.device.told
       → OnEnd status
       ((status ≡ due_status text) × (new.output ≡ took old.output (output_text text)))
@@ -58,9 +59,11 @@ pub record Ended (tells : Bool) (took : List ℕ → List ℕ → List ℕ) (tex
       → SentPart took old.output (output_text text) new.output
   pub all_read : OnDone status (IsAllRead tells new.slot)
   pub full : IfEndsFull status (λ used. used ≡ blocks)
-  pub paid : IfEndsFull status (λ used. (2 ^ 64 - 1 ≤ new.device.moves) ⊎ (used ≤ new.device.moves))
+  pub paid : IfEndsFull status
+      (λ used. (2 ^ 64 - 1 ≤ new.device.moves) ⊎ (used ≤ new.device.moves + 1))
   pub size : IsTrue tells
-      → IfEndsFull status (λ used. used * block ≤ commands_taken Map text new.slot.left)
+      → IfEndsFull status (λ used. used * payload ≤ commands_taken Map text new.slot.left)
+  pub damaged : IfEndsDamaged status (λ at. IsFalse old.device.told × (at < blocks))
 
 -- The device still tells what it told, and no count of faults fell.
 pub record GoesOn (old new : Outside) : Type 0 where

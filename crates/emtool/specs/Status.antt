@@ -2,7 +2,7 @@
 use Rattle.std.specs.Prelude.{ℕ, Option, Some, None}
 use Rattle.emtool.specs.declared.status.Usage.{Usage}
 use Rattle.emtool.specs.declared.status.Status.{Status}
-use Rattle.emtool.specs.declared.status.Status.TheVariants.{Done, Malformed, ReadFault, WriteFault, DeviceFault, Full, NoMemory}
+use Rattle.emtool.specs.declared.status.Status.TheVariants.{Done, Malformed, ReadFault, WriteFault, DeviceFault, Full, NoMemory, Damaged}
 use Rattle.emtool.specs.declared.status.Status.TheVariants as status
 
 -- the exit code
@@ -15,6 +15,7 @@ code_of WriteFault = 4
 code_of DeviceFault = 5
 code_of (Full used) = 6
 code_of NoMemory = 7
+code_of (Damaged block) = 8
 
 -- the refusal of the words, where the status is one
 abbrev pub refusal_of : Status → Option Usage
@@ -46,6 +47,11 @@ OnNoMemory other P = Unit {0}
 abbrev pub IfEndsFull : Status → (ℕ → Type 0) → Type 0
 IfEndsFull (Full used) P = P used
 IfEndsFull other P = Unit {0}
+
+-- P of the block, where one that was read isn't laid out as it was left
+abbrev pub IfEndsDamaged : Status → (ℕ → Type 0) → Type 0
+IfEndsDamaged (Damaged block) P = P block
+IfEndsDamaged other P = Unit {0}
 
 -- P, where the run came to have a device that didn't fail
 abbrev pub OnBegun : Status → Type 0 → Type 0

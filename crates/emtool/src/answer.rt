@@ -1,18 +1,19 @@
-ghost use Rattle.std.specs.Prelude.{◌≡◌, ◌<◌, ◌≤◌, ◌+◌, ◌++◌, ◌∷◌, [], None, length, map, take, IsTrue, OnOk, IfOk, IfErr};
+ghost use Rattle.std.specs.Prelude.{◌≡◌, ◌<◌, ◌≤◌, ◌++◌, ◌∷◌, [], None, length, take, IsTrue, OnOk, IfOk, IfErr, false};
 ghost use Rattle.em_record.specs.Count.{HasCause};
 ghost use Rattle.em_io.specs.Sink.{Sent, SentPart};
-ghost use Rattle.em_model.specs.Map.{value_from, map_answers};
-ghost use Rattle.em_frames.specs.Pool.{SameFrames};
-ghost use Rattle.em_space.specs.Rig.{Sound, Goes, DeviceCause};
+ghost use Rattle.em_model.specs.Map.{value_from};
+ghost use Rattle.em_frames.specs.Pool.{HasFrames};
+ghost use Rattle.em_space.specs.Rig.{Sound, Goes, BlockCause};
 ghost use Rattle.em_space.specs.Seen.{seen};
+ghost use Rattle.em_chain.specs.Chain.{IsChain, chain_items};
+ghost use Rattle.em_chain.specs.Reader.{IsReader, reader_items};
 ghost use Rattle.emtool.specs.CommandRecord.{command_in};
-ghost use Rattle.emtool.specs.CommandList.{IsList, front_commands, commands};
-ghost use Rattle.emtool.specs.Answer.{answer_word, answer_line, answer_text, front_text, text_behind, text_of_one, ReadsOnly};
-ghost use Rattle.emtool.specs.Answered.{Answers, AnswersBy};
+ghost use Rattle.emtool.specs.Answer.{answer_word, answer_line, commands_in, items_text, next_text};
+ghost use Rattle.emtool.specs.Answered.{Answers, AnswersBy, ReadsChain};
 
-use crate::command_list::CommandList;
 use crate::command_record::to_command;
-use em_frames::{Device, Frame};
+use em_chain::{Chain, Reader};
+use em_frames::Device;
 use em_io::{Printer, Sink};
 use em_model::Command;
 use em_record::{Failed, Record};
@@ -27,53 +28,67 @@ pub enum AnswerStop {
     Em(EmFault),
 }
 
-/// The value of a key after some records, where it had a value, or none, before them.
-fn value_in(records: &[Record], key: u64, before: Option<u64>) -> Option<u64>
-    ensures { result ≡ value_from key before (map command_in records.now) }
+/// The value of a key after one more command, where it had this value, or none, before it.
+fn value_after(item: Record, key: u64, before: Option<u64>) -> Option<u64>
+    ensures { result ≡ value_from key before (command_in item ∷ []) }
 {
-    let mut found = before;
-    for item in records {
-        match to_command(*item) {
-            Command::Put { key: other, value } => {
-                if key == other {
-                    found = Some(value);
-                }
-            }
-            Command::Del { key: other } => {
-                if key == other {
-                    found = None;
-                }
-            }
-            _ => {}
-        }
+    match to_command(item) {
+        Command::Put { key: other, value } if key == other => Some(value),
+        Command::Del { key: other } if key == other => None,
+        _ => before,
     }
-    found
 }
 
-/// The value of a key after the first blocks and some more records.
-fn value_behind<D: Device>(
+/// The value of a key after the next `number` commands of a reader.
+fn value_by<D: Device>(
     rig: &mut Rig<'_, D>,
-    scratch: &mut Frame,
-    blocks: u64,
-    records: &[Record],
+    reader: &mut Reader,
+    number: u64,
     key: u64,
 ) -> Result<Option<u64>, EmFault>
     requires sound { Sound (seen D.state rig.old) }
-    requires blocks { blocks ≤ (seen D.state rig.old).used }
-    requires scratch { length scratch.old ≡ (seen D.state rig.old).pool.shape.block }
-    ensures reads { ReadsOnly (seen D.state rig.old) (seen D.state rig.new) }
-    ensures scratch { length scratch.new ≡ length scratch.old }
+    requires is { IsReader (seen D.state rig.old) reader.old }
+    requires over { reader.old.taking ≡ false }
+    requires free { 0 < (seen D.state rig.old).pool.free }
+    requires number { number ≤ reader.old.count }
+    ensures goes { Goes [] (seen D.state rig.old) (seen D.state rig.new) }
+    ensures frame { HasFrames 1 (length reader.new.frame) (seen D.state rig.new).pool }
     ensures value { IsTrue (seen D.state rig.old).device.told → IfOk result (λ value.
-        value ≡ value_from key None (front_commands (seen D.state rig.old).device.contents blocks
-        ++ map command_in records.now)) }
-    ensures cause { IfErr result (DeviceCause (seen D.state rig.old) (seen D.state rig.new)) }
+        value ≡ value_from key None
+        (commands_in (take number (reader_items (seen D.state rig.old) reader.old)))) }
+    ensures cause { IfErr result (BlockCause (seen D.state rig.old) (seen D.state rig.new)) }
 {
     let mut found = None;
-    for block in 0..blocks {
-        rig.load(block, scratch)?;
-        found = value_in(scratch.records(), key, found);
+    for _ in 0..number {
+        let Some(item) = reader.next(rig)? else {
+            return Ok(found);
+        };
+        found = value_after(item, key, found);
     }
-    Ok(value_in(records, key, found))
+    Ok(found)
+}
+
+/// The value of a key after the first `number` commands of a chain.
+fn value_before<D: Device>(
+    rig: &mut Rig<'_, D>,
+    chain: &Chain,
+    number: u64,
+    key: u64,
+) -> Result<Option<u64>, EmFault>
+    requires sound { Sound (seen D.state rig.old) }
+    requires is { IsChain (seen D.state rig.old) chain.now }
+    requires free { 1 < (seen D.state rig.old).pool.free }
+    requires number { number ≤ chain.now.count }
+    ensures goes { Goes [] (seen D.state rig.old) (seen D.state rig.new) }
+    ensures value { IsTrue (seen D.state rig.old).device.told → IfOk result (λ value.
+        value ≡ value_from key None
+        (commands_in (take number (chain_items (seen D.state rig.old) chain.now)))) }
+    ensures cause { IfErr result (BlockCause (seen D.state rig.old) (seen D.state rig.new)) }
+{
+    let mut reader = Reader::over(rig, chain);
+    let value = value_by(rig, &mut reader, number, key);
+    reader.abandon(rig);
+    value
 }
 
 /// Adds an answer to the line.
@@ -105,29 +120,28 @@ fn print_answer<W: Sink>(out: &mut W, answer: Option<u64>) -> Result<(), Failed>
     printer.end_line(out)
 }
 
-/// Prints the answer of a command that follows the first blocks and some more records.
+/// Prints the answer of a command that follows the first `number` ones of a chain.
 fn answer_one<D: Device, W: Sink>(
     rig: &mut Rig<'_, D>,
-    scratch: &mut Frame,
-    blocks: u64,
-    earlier: &[Record],
+    chain: &Chain,
+    number: u64,
     item: Record,
     out: &mut W,
 ) -> Result<(), AnswerStop>
     requires sound { Sound (seen D.state rig.old) }
-    requires blocks { blocks ≤ (seen D.state rig.old).used }
-    requires scratch { length scratch.old ≡ (seen D.state rig.old).pool.shape.block }
-    ensures reads { ReadsOnly (seen D.state rig.old) (seen D.state rig.new) }
-    ensures scratch { length scratch.new ≡ length scratch.old }
+    requires is { IsChain (seen D.state rig.old) chain.now }
+    requires free { 1 < (seen D.state rig.old).pool.free }
+    requires number { number ≤ chain.now.count }
+    ensures goes { Goes [] (seen D.state rig.old) (seen D.state rig.new) }
     ensures answers { IsTrue (seen D.state rig.old).device.told → Answers W.took
-        (text_of_one (seen D.state rig.old).device.contents blocks earlier.now item)
+        (next_text (take number (chain_items (seen D.state rig.old) chain.now)) item)
         (W.state out.old) (W.state out.new) result }
     ensures cause { AnswersBy (W.faults out.old) (W.faults out.new)
         (seen D.state rig.old) (seen D.state rig.new) result }
 {
     match to_command(item) {
         Command::Get { key } => {
-            let value = match value_behind(rig, scratch, blocks, earlier, key) {
+            let value = match value_before(rig, chain, number, key) {
                 Ok(value) => value,
                 Err(fault) => return Err(AnswerStop::Em(fault)),
             };
@@ -140,108 +154,55 @@ fn answer_one<D: Device, W: Sink>(
     }
 }
 
-/// Prints the answers of some records that follow the first blocks.
-fn answer_behind<D: Device, W: Sink>(
+/// Prints the answers of all commands that a reader of a chain gives.
+fn answer_by<D: Device, W: Sink>(
     rig: &mut Rig<'_, D>,
-    scratch: &mut Frame,
-    blocks: u64,
-    records: &[Record],
+    reader: &mut Reader,
+    chain: &Chain,
     out: &mut W,
 ) -> Result<(), AnswerStop>
     requires sound { Sound (seen D.state rig.old) }
-    requires blocks { blocks ≤ (seen D.state rig.old).used }
-    requires scratch { length scratch.old ≡ (seen D.state rig.old).pool.shape.block }
-    ensures reads { ReadsOnly (seen D.state rig.old) (seen D.state rig.new) }
-    ensures scratch { length scratch.new ≡ length scratch.old }
+    requires chain { IsChain (seen D.state rig.old) chain.now }
+    requires reader { ReadsChain (seen D.state rig.old) reader.old chain.now }
+    requires free { 1 < (seen D.state rig.old).pool.free }
+    ensures goes { Goes [] (seen D.state rig.old) (seen D.state rig.new) }
+    ensures frame { HasFrames 1 (length reader.new.frame) (seen D.state rig.new).pool }
     ensures answers { IsTrue (seen D.state rig.old).device.told → Answers W.took
-        (text_behind (seen D.state rig.old).device.contents blocks records.now)
+        (items_text (chain_items (seen D.state rig.old) chain.now))
         (W.state out.old) (W.state out.new) result }
     ensures cause { AnswersBy (W.faults out.old) (W.faults out.new)
         (seen D.state rig.old) (seen D.state rig.new) result }
 {
-    for at in 0..records.len() {
-        answer_one(rig, scratch, blocks, &records[..at], records[at], out)?;
+    for number in 0..chain.len() {
+        let item = match reader.next(rig) {
+            Ok(Some(item)) => item,
+            Ok(None) => return Ok(()),
+            Err(fault) => return Err(AnswerStop::Em(fault)),
+        };
+        answer_one(rig, chain, number, item, out)?;
     }
     Ok(())
 }
 
-/// Prints the answers of the first blocks.
-fn answer_front<D: Device, W: Sink>(
-    rig: &mut Rig<'_, D>,
-    scratch: &mut Frame,
-    current: &mut Frame,
-    blocks: u64,
-    out: &mut W,
-) -> Result<(), AnswerStop>
-    requires sound { Sound (seen D.state rig.old) }
-    requires blocks { blocks ≤ (seen D.state rig.old).used }
-    requires scratch { length scratch.old ≡ (seen D.state rig.old).pool.shape.block }
-    requires current { length current.old ≡ (seen D.state rig.old).pool.shape.block }
-    ensures reads { ReadsOnly (seen D.state rig.old) (seen D.state rig.new) }
-    ensures scratch { length scratch.new ≡ length scratch.old }
-    ensures current { length current.new ≡ length current.old }
-    ensures answers { IsTrue (seen D.state rig.old).device.told → Answers W.took
-        (front_text (seen D.state rig.old).device.contents blocks)
-        (W.state out.old) (W.state out.new) result }
-    ensures cause { AnswersBy (W.faults out.old) (W.faults out.new)
-        (seen D.state rig.old) (seen D.state rig.new) result }
-{
-    for block in 0..blocks {
-        if let Err(fault) = rig.load(block, current) {
-            return Err(AnswerStop::Em(fault));
-        }
-        answer_behind(rig, scratch, block, current.records(), out)?;
-    }
-    Ok(())
-}
-
-/// Prints the answers of a list, with two frames.
-fn answer_with<D: Device, W: Sink>(
-    rig: &mut Rig<'_, D>,
-    scratch: &mut Frame,
-    current: &mut Frame,
-    list: &CommandList,
-    out: &mut W,
-) -> Result<(), AnswerStop>
-    requires sound { Sound (seen D.state rig.old) }
-    requires is { IsList (seen D.state rig.old) list.now }
-    requires scratch { length scratch.old ≡ (seen D.state rig.old).pool.shape.block }
-    requires current { length current.old ≡ (seen D.state rig.old).pool.shape.block }
-    ensures reads { ReadsOnly (seen D.state rig.old) (seen D.state rig.new) }
-    ensures scratch { length scratch.new ≡ length scratch.old }
-    ensures current { length current.new ≡ length current.old }
-    ensures answers { IsTrue (seen D.state rig.old).device.told → Answers W.took
-        (answer_text (map_answers (commands (seen D.state rig.old) list.now)))
-        (W.state out.old) (W.state out.new) result }
-    ensures cause { AnswersBy (W.faults out.old) (W.faults out.new)
-        (seen D.state rig.old) (seen D.state rig.new) result }
-{
-    answer_front(rig, scratch, current, list.blocks, out)?;
-    let pending = &list.frame.records()[..list.fill as usize];
-    answer_behind(rig, scratch, list.blocks, pending, out)
-}
-
-/// Prints one line for each get of the list, in order: the value that its key has by the commands
-/// before it. For each get the list is read again up to it.
+/// Prints one line for each get of a chain of commands, in order: the value that its key has by the
+/// commands before it. For each get the chain is read again up to it.
 pub fn answer_all<D: Device, W: Sink>(
     rig: &mut Rig<'_, D>,
-    list: &CommandList,
+    chain: &Chain,
     out: &mut W,
 ) -> Result<(), AnswerStop>
     requires sound { Sound (seen D.state rig.old) }
-    requires is { IsList (seen D.state rig.old) list.now }
-    requires free { 2 ≤ (seen D.state rig.old).pool.free }
+    requires is { IsChain (seen D.state rig.old) chain.now }
+    requires free { 2 < (seen D.state rig.old).pool.free }
     ensures goes { Goes [] (seen D.state rig.old) (seen D.state rig.new) }
     ensures answers { IsTrue (seen D.state rig.old).device.told → Answers W.took
-        (answer_text (map_answers (commands (seen D.state rig.old) list.now)))
+        (items_text (chain_items (seen D.state rig.old) chain.now))
         (W.state out.old) (W.state out.new) result }
     ensures cause { AnswersBy (W.faults out.old) (W.faults out.new)
         (seen D.state rig.old) (seen D.state rig.new) result }
 {
-    let mut scratch = rig.lend();
-    let mut current = rig.lend();
-    let done = answer_with(rig, &mut scratch, &mut current, list, out);
-    rig.give(current);
-    rig.give(scratch);
+    let mut reader = Reader::over(rig, chain);
+    let done = answer_by(rig, &mut reader, chain, out);
+    reader.abandon(rig);
     done
 }

@@ -36,4 +36,5 @@ Exit codes:
   5  the scratch device failed                (more commands than memory holds, where it is kept)
   6  the scratch device is full               (--blocks=1 under a long file)
   7  no memory for the frames                 (--block=65536 --frames=1024 where 2 GiB can't be had)
+  8  a block of the scratch device is damaged (never today, while the device is kept in memory)
 ";

@@ -11,8 +11,9 @@ ghost use Rattle.emtool.specs.Status.{OnDone};
 
 mod answer;
 mod byte;
-mod command_list;
 mod command_record;
+#[cfg(test)]
+mod device_tests;
 mod help;
 mod job;
 #[cfg(test)]

@@ -120,6 +120,13 @@ fn message_for(status: &Status) -> Message
             last: b" blocks",
         },
         Status::NoMemory => plain(b"emtool: no memory for the frames"),
+        Status::Damaged { block } => Message {
+            start: b"emtool: scratch block ",
+            name: b"",
+            link: b"",
+            number: Some(block),
+            last: b" is damaged",
+        },
     }
 }
 

@@ -64,6 +64,9 @@ pub enum Status {
     /// There was no memory for the frames, or for what the device keeps. Nothing was read or
     /// printed.
     NoMemory,
+    /// The block of this number, which was read, isn't laid out as it was left. It never comes over
+    /// a device that tells its contents.
+    Damaged { block: u64 },
 }
 
 impl Status {
@@ -80,6 +83,7 @@ impl Status {
             Status::DeviceFault => 5,
             Status::Full { used: _ } => 6,
             Status::NoMemory => 7,
+            Status::Damaged { block: _ } => 8,
         }
     }
 }

@@ -1,6 +1,7 @@
-ghost use Rattle.std.specs.Prelude.{◌≡◌, ◌-◌, ◌<◌, ◌≤◌, ◌^◌, ◌⊎◌, length, IsTrue, Ok};
+ghost use Rattle.std.specs.Prelude.{◌≡◌, ◌-◌, ◌<◌, ◌≤◌, ◌^◌, ◌⊎◌, length, IsTrue, IsFalse, Ok};
 ghost use Rattle.std.specs.Result.{result_err};
 ghost use Rattle.em_record.specs.Count.{Rose};
+ghost use Rattle.em_record.specs.Shape.{payload_of};
 ghost use Rattle.em_io.specs.Shelf.{IsFresh};
 ghost use Rattle.em_io.specs.Sink.{SentPart};
 ghost use Rattle.em_frames.specs.Pool.{fresh_pool};
@@ -9,7 +10,7 @@ ghost use Rattle.emtool.specs.Due.{text_of, due_status, output_text, ForText};
 ghost use Rattle.emtool.specs.Job.{texts_of, job_of, file_name, ForJob, IsJob};
 ghost use Rattle.emtool.specs.Outcome.{HasStats, Reports, ReportsPart};
 ghost use Rattle.emtool.specs.Run.{outside, Ended, Caused, GoesOn, HasSizes, IsAllRead, IsFull, IsQuiet, OpensOnly};
-ghost use Rattle.emtool.specs.Status.{refusal_of, IfEndsFull, OnBegun, OnDone, OnEnd, OnNoMemory, OnUsage};
+ghost use Rattle.emtool.specs.Status.{refusal_of, IfEndsFull, IfEndsDamaged, OnBegun, OnDone, OnEnd, OnNoMemory, OnUsage};
 
 use crate::job::{Job, read_job};
 use crate::outcome::{Outcome, stats_of, unmoved};
@@ -35,7 +36,7 @@ pub fn run_pool<D: Device, H: Shelf, W: Sink>(
     requires device { (D.state device.old).blocks ≡ 0 }
     requires shelf { IsFresh (H.stand shelf.old) }
     ensures ended { Ended H.tells W.took (text_of (H.stand shelf.old) name.now)
-        job.now.shape.block job.now.blocks
+        (payload_of job.now.shape) job.now.blocks
         (outside H.Shelf W.Sink (D.state device.old) shelf.old out.old)
         (outside H.Shelf W.Sink (D.state device.new) shelf.new out.new) result.status }
     ensures caused { Caused
@@ -90,7 +91,7 @@ fn run_words<D: Device, H: Shelf, W: Sink>(
         ((device.new ≡ device.old) × (shelf.new ≡ shelf.old) × (out.new ≡ out.old)) }
     ensures ended { ForJob (texts_of words.now) (λ job. Ended H.tells W.took
         (text_of (H.stand shelf.old) (file_name (texts_of words.now) job))
-        job.shape.block job.blocks
+        (payload_of job.shape) job.blocks
         (outside H.Shelf W.Sink (D.state device.old) shelf.old out.old)
         (outside H.Shelf W.Sink (D.state device.new) shelf.new out.new) result.status) }
     ensures caused { Caused
@@ -188,6 +189,8 @@ pub fn emtool<D: Device, H: Shelf, W: Sink, E: Sink>(
         (text_of (H.stand shelf.old) (file_name (texts_of words.now) job))
         (outside H.Shelf W.Sink (D.state device.old) shelf.old out.old)
         (outside H.Shelf W.Sink (D.state device.new) shelf.new out.new))) }
+    ensures damaged { ForJob (texts_of words.now) (λ job. IfEndsDamaged result (λ block.
+        IsFalse (D.state device.old).told × (block < job.blocks))) }
     ensures no_memory { OnNoMemory result ((shelf.new ≡ shelf.old) × (out.new ≡ out.old)
         × ((D.state device.new).moves ≡ (D.state device.old).moves)) }
     ensures goes_on { GoesOn

@@ -25,6 +25,11 @@ returns-clause-full g c =
     for_both (job_of (texts_of c.args.words.now)) w.ended w.is
     (λ job ok e is. ended_full _ _ _ _ job _ _ is c.run_words-outcome.result.status e w.none_moved)
 
+pub returns-clause-damaged : goal.returns-clause-damaged
+returns-clause-damaged g c =
+    for_job (job_of (texts_of c.args.words.now)) c.run_words-outcome.ensures.ended
+    (λ job e. e.damaged)
+
 pub returns-clause-complete : goal.returns-clause-complete
 returns-clause-complete g c =
     let w = c.run_words-outcome.ensures in

@@ -1,0 +1,53 @@
+-- Writing and taking chains, step by step.
+use Rattle.std.proofs.Common.{◌≡◌, ℕ, suc, ◌+◌, ◌++◌, List, [], ◌∷◌, refl, ap, ◌∙◌, subst, arith, Bool, true, if◌then◌else◌, Result, Ok, Err, IfOk}
+use Rattle.em_record.specs.declared.record.Record.{Record}
+use Rattle.em_space.specs.Rig.{RigState, Goes, Touches}
+use Rattle.em_space.specs.declared.fault.EmFault.{EmFault}
+use Rattle.em_space.proofs.Steps.{same_frames_then}
+use Rattle.em_chain.specs.Chain.{chain_blocks}
+use Rattle.em_chain.specs.Reader.{reader_blocks, rest_of}
+use Rattle.em_chain.specs.Within.{Within}
+use Rattle.em_chain.specs.Writer.{writer_blocks}
+use Rattle.em_chain.specs.Writes.{Finishes}
+use Rattle.em_chain.specs.declared.chain.Chain.{Chain}
+use Rattle.em_chain.specs.declared.reader.Reader.{Reader}
+use Rattle.em_chain.specs.declared.writer.Writer.{Writer}
+use Rattle.em_chain.proofs.Withins.{touches_within, within_same, within_then}
+use Rattle.chain_bench.specs.Numbered.{numbered, records_below}
+
+-- a call that may change blocks of what was held, or blocks that weren't in use at first
+pub goes_within : (held ks : List ℕ) (a b c : RigState) → Goes held a b → Within a held ks
+    → Goes ks b c → Goes held a c
+goes_within held ks a b c x w y = record {
+  sound = y.sound;
+  touches = touches_within a b c held ks x.touches w y.touches;
+  frames = same_frames_then a.pool b.pool c.pool x.frames y.frames;
+}
+
+-- the same of a reader that takes its blocks
+pub goes_taking : (held : List ℕ) (a b c : RigState) (r : Reader) → r.taking ≡ true
+    → Goes held a b → Within a held (chain_blocks b (rest_of r)) → Goes (reader_blocks b r) b c
+    → Goes held a c
+goes_taking held a b c r taking x w y =
+    let same : reader_blocks b r ≡ chain_blocks b (rest_of r) =
+    ap (λ (t : Bool). if t then chain_blocks b (rest_of r) else []) taking in
+    goes_within held _ a b c x w (subst (λ (ks : List ℕ). Goes ks b c) same y)
+
+-- one record more was written
+pub written_more : (n : ℕ) (items after : List Record) (x : Record) → items ≡ records_below n
+    → x ≡ numbered n → after ≡ items ++ x ∷ [] → after ≡ records_below (n + 1)
+written_more n items after x is next more =
+    let e : n + 1 ≡ suc n = omega arith in
+    rw (e, more, is, next) refl
+
+-- a chain holds the blocks of its writer
+pub finished_within : (a b c d : RigState) (w : Writer) (result : Result Chain EmFault)
+    → Touches [] a b → Touches [] b c → Within b [] (writer_blocks c w)
+    → IfOk result (λ chain. Finishes c d w chain)
+    → IfOk result (λ chain. Within a [] (chain_blocks d chain))
+finished_within a b c d w (Ok chain) x y fresh f =
+    let first = within_then a b [] [] (writer_blocks c w) x (within_same a []) fresh in
+    record {
+      off = λ told j u o. rw (f.blocks (y.told ∙ x.told ∙ told)) (first.off told j u o);
+    }
+finished_within a b c d w (Err fault) x y fresh f = tt

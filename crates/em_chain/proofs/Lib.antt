@@ -1,0 +1,13 @@
+pub mod Beside
+pub mod Blocks
+pub mod Counts
+pub mod Joins
+pub mod Keeps
+pub mod Laws
+pub mod Lists
+pub mod Loops
+pub mod Parts
+pub mod Readers
+pub mod Rows
+pub mod Withins
+pub mod Writers

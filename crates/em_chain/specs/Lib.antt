@@ -1,0 +1,14 @@
+pub mod Chain
+pub mod Counts
+pub mod Effects
+pub mod Joins
+pub mod List
+pub mod Loops
+pub mod Order
+pub mod Parts
+pub mod Reader
+pub mod Reads
+pub mod Row
+pub mod Within
+pub mod Writer
+pub mod Writes

@@ -1,0 +1,26 @@
+-- Blocks that weren't in use are apart from those that were.
+use Rattle.std.proofs.Common.{ℕ, List, [], ◌∷◌, IsTrue, subst}
+use Rattle.em_space.specs.Free.{Off}
+use Rattle.em_space.specs.Rig.{RigState, InUse, Goes}
+use Rattle.em_space.specs.Held.{Apart, AllInUse, NoneInUse}
+use Rattle.em_space.proofs.Steps.{touches_trans, same_frames_then}
+
+-- a block in use is none of these,
+pub off_new : (s : RigState) (k : ℕ) (js : List ℕ) → InUse s k → NoneInUse s js → Off k js
+off_new s k [] u n = tt
+off_new s k (j ∷ js) u n =
+    ((λ e. n.0 (subst (λ (i : ℕ). InUse s i) e u)), off_new s k js u n.1)
+
+-- nor is any of several.
+pub apart_new : (s : RigState) (ks js : List ℕ) → AllInUse s ks → NoneInUse s js → Apart ks js
+apart_new s [] js u n = tt
+apart_new s (k ∷ ks) js u n = (off_new s k js u.0 n, apart_new s ks js u.1 n)
+
+-- The second call changes blocks that weren't in use before the first.
+pub goes_made : (ks : List ℕ) (a b c : RigState) → (IsTrue a.device.told → NoneInUse a ks)
+    → Goes [] a b → Goes ks b c → Goes [] a c
+goes_made ks a b c fresh x y = record {
+  sound = y.sound;
+  touches = touches_trans [] ks a b c x.touches y.touches (λ t k u o. off_new a k ks u (fresh t));
+  frames = same_frames_then a.pool b.pool c.pool x.frames y.frames;
+}
