@@ -3,28 +3,18 @@ use Rattle.std.proofs.Common.{◌≡◌, ℕ, suc, ◌+◌, ◌++◌, List, [], 
 use Rattle.em_record.specs.declared.record.Record.{Record}
 use Rattle.em_space.specs.Rig.{RigState, Goes, Touches}
 use Rattle.em_space.specs.declared.fault.EmFault.{EmFault}
-use Rattle.em_space.proofs.Steps.{same_frames_then}
 use Rattle.em_chain.specs.Chain.{chain_blocks}
 use Rattle.em_chain.specs.Reader.{reader_blocks, rest_of}
-use Rattle.em_chain.specs.Within.{Within}
+use Rattle.em_space.specs.Held.{Within}
 use Rattle.em_chain.specs.Writer.{writer_blocks}
 use Rattle.em_chain.specs.Writes.{Finishes}
 use Rattle.em_chain.specs.declared.chain.Chain.{Chain}
 use Rattle.em_chain.specs.declared.reader.Reader.{Reader}
 use Rattle.em_chain.specs.declared.writer.Writer.{Writer}
-use Rattle.em_chain.proofs.Withins.{touches_within, within_same, within_then}
+use Rattle.em_space.proofs.Within.{goes_within, within_same, within_then}
 use Rattle.chain_bench.specs.Numbered.{numbered, records_below}
 
--- a call that may change blocks of what was held, or blocks that weren't in use at first
-pub goes_within : (held ks : List ℕ) (a b c : RigState) → Goes held a b → Within a held ks
-    → Goes ks b c → Goes held a c
-goes_within held ks a b c x w y = record {
-  sound = y.sound;
-  touches = touches_within a b c held ks x.touches w y.touches;
-  frames = same_frames_then a.pool b.pool c.pool x.frames y.frames;
-}
-
--- the same of a reader that takes its blocks
+-- a call of a reader that takes its blocks
 pub goes_taking : (held : List ℕ) (a b c : RigState) (r : Reader) → r.taking ≡ true
     → Goes held a b → Within a held (chain_blocks b (rest_of r)) → Goes (reader_blocks b r) b c
     → Goes held a c

@@ -2,7 +2,7 @@
 use Rattle.std.specs.Prelude.{◌≡◌, ℕ, zero, suc, ◌+◌, ◌*◌, ◌%◌, ◌^◌, List, [], ◌∷◌, ◌++◌, IsTrue}
 use Rattle.em_record.specs.declared.record.Record.{Record}
 use Rattle.em_space.specs.Rig.{RigState}
-use Rattle.em_chain.specs.Within.{Within}
+use Rattle.em_space.specs.Held.{Within}
 use Rattle.em_chain.specs.Writer.{IsWriter, writer_blocks, writer_items}
 use Rattle.em_chain.specs.declared.writer.Writer.{Writer}
 

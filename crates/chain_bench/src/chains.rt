@@ -4,7 +4,7 @@ ghost use Rattle.em_space.specs.Rig.{Sound, Goes};
 ghost use Rattle.em_space.specs.Seen.{seen};
 ghost use Rattle.em_chain.specs.Chain.{IsChain, chain_blocks, chain_items};
 ghost use Rattle.em_chain.specs.Reader.{IsReader, reader_items, rest_of};
-ghost use Rattle.em_chain.specs.Within.{Within};
+ghost use Rattle.em_space.specs.Held.{Within};
 ghost use Rattle.em_chain.specs.Writes.{Begins};
 ghost use Rattle.chain_bench.specs.Numbered.{numbered, records_below, sum_from, WritesBelow};
 

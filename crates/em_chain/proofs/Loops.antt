@@ -8,6 +8,7 @@ use Rattle.em_space.specs.Free.{Off}
 use Rattle.em_space.specs.Held.{NoneInUse, AllInUse}
 use Rattle.em_space.specs.Rig.{RigState, InUse, Touches, Goes, Owes}
 use Rattle.em_space.specs.declared.fault.EmFault.{EmFault}
+use Rattle.em_space.proofs.Apart.{off_new}
 use Rattle.em_space.proofs.Held.{in_use_kept}
 use Rattle.em_space.proofs.Steps.{touches_trans, owes_after}
 use Rattle.em_chain.specs.Chain.{chain_items, chain_blocks, payload_in}
@@ -24,7 +25,6 @@ use Rattle.em_chain.specs.declared.writer.Writer.{Writer}
 use Rattle.em_chain.proofs.Blocks.{off_right, off_append, in_use_left}
 use Rattle.em_chain.proofs.Counts.{grown_blocks, refused_blocks, writer_blocks_are}
 use Rattle.em_chain.proofs.Keeps.{payload_kept, touches_none, lent_same}
-use Rattle.em_chain.proofs.Withins.{off_new}
 
 pub none_append : (s : RigState) (xs ys : List ℕ) → NoneInUse s xs → NoneInUse s ys
     → NoneInUse s (xs ++ ys)
@@ -41,7 +41,7 @@ none_before s t (x ∷ xs) h f =
 pub touches_fresh : (s t u : RigState) (ks : List ℕ) → Touches [] s t → Touches ks t u
     → (IsTrue s.device.told → NoneInUse s ks) → Touches [] s u
 touches_fresh s t u ks x y f =
-    touches_trans [] ks s t u x y (λ z k i o. off_new s ks k (f z) i)
+    touches_trans [] ks s t u x y (λ z k i o. off_new s k ks i (f z))
 
 -- what was owed is stored
 pub owes_repaid : (a b c : RigState) → Owes 1 a b → Repays 1 b c → b.moves ≤ c.moves → Owes 0 a c
@@ -277,7 +277,7 @@ pub extending_touches : (s t u : RigState) (c : Chain) (w : Writer) (xs : List R
 extending_touches s t u c w xs from h g =
     touches_trans (chain_blocks s c) (writer_blocks t w) s t u h.touches g (λ z k i o.
     let e = h.blocks z in
-    rw e.is (off_append k (chain_blocks s c) e.more o (off_new s e.more k e.fresh i)))
+    rw e.is (off_append k (chain_blocks s c) e.more o (off_new s k e.more i e.fresh)))
 
 in_or_off : (t : RigState) (x : ℕ) (ks : List ℕ) → Off x ks ⊎ (AllInUse t ks → InUse t x)
 in_or_off t x [] = inl tt

@@ -1,16 +1,14 @@
 -- A chain is cut in two, one record after another.
 use Rattle.std.proofs.Common.{◌≡◌, ℕ, zero, suc, ◌+◌, ◌-◌, ◌*◌, ◌<◌, ◌≤◌, ◌^◌, List, [], ◌∷◌, ◌++◌, length, drop, get_or, Option, Some, None, IfSome, refl, sym, ap, ◌∙◌, subst, arith, append_assoc, add-one, IsTrue, Bool, true, false, if◌then◌else◌, ◌⊎◌, inl, inr, ⊎_elim, Result, Ok, Err, IfErr}
 use Rattle.std.proofs.Math.Nat.{mul-suc, mul-add}
-use Rattle.std.proofs.lemmas.Cmp.{then_total, on_total, nat_cmp_total}
 use Rattle.std.proofs.lemmas.List.{length_push}
 use Rattle.std.proofs.lemmas.List.Elements.{All-nil, All-cons, All-push}
-use Rattle.std.proofs.lemmas.List.Sorted.{ranks_by}
-use Rattle.std.specs.Cmp.{IsTotalOrder, IsStrictWeakOrder}
 use Rattle.std.specs.List.Sorted.{IsSorted}
 use Rattle.std.specs.Result.{IsErrAnd}
 use Rattle.em_record.specs.declared.record.Record.{Record}
 use Rattle.em_record.specs.Shape.{ShapeNumbers}
 use Rattle.em_frames.specs.Pool.{PoolCounts, SameFrames, LentFrames, GivenFrames, HasFrames, singles_of}
+use Rattle.em_record.proofs.Order.{below_ranks}
 use Rattle.em_space.specs.Free.{Off, header}
 use Rattle.em_space.specs.Held.{Apart}
 use Rattle.em_space.specs.Rig.{RigState, Sound, InUse, Touches, Goes, Owes, Cause, BlockCause}
@@ -20,7 +18,7 @@ use Rattle.em_space.proofs.Held.{apart_none}
 use Rattle.em_space.proofs.Steps.{touches_trans, touches_then, same_frames_then, owes_after}
 use Rattle.em_chain.specs.Chain.{ChainStays, payload_in, chain_items, chain_blocks}
 use Rattle.em_chain.specs.Effects.{LendsFrame, Unmoved, Repays, OnFull}
-use Rattle.em_chain.specs.Order.{record_cmp, is_below}
+use Rattle.em_record.specs.Order.{record_cmp, is_below}
 use Rattle.em_chain.specs.Parts.{Parts, AllBelow, NoneBelow, IsPair, BeginsPart, Parting, PartCosts, IsPast}
 use Rattle.em_chain.specs.Reader.{IsReader, IsLoaded, ReaderStays, rest_of, reader_items, reader_blocks, owed}
 use Rattle.em_chain.specs.Reads.{Opens, Reads, Fetches, AtEnd, ReadCosts}
@@ -36,17 +34,8 @@ use Rattle.em_chain.proofs.Laws.{chain_stays, writer_stays}
 use Rattle.em_chain.proofs.Loops.{owing}
 use Rattle.em_chain.proofs.Readers.{length_items, reader_stays}
 use Rattle.em_chain.proofs.Writers.{pos_of}
-use Rattle.em_chain.proofs.Withins.{within_then, within_grows}
-
--- The order of records is a total order.
-pub record_total : IsTotalOrder record_cmp
-record_total = then_total (on_total (λ (x : Record). x.a) nat_cmp_total)
-    (then_total (on_total (λ (x : Record). x.b) nat_cmp_total)
-    (then_total (on_total (λ (x : Record). x.c) nat_cmp_total)
-    (on_total (λ (x : Record). x.d) nat_cmp_total)))
-
-pub below_ranks : IsStrictWeakOrder is_below
-below_ranks = ranks_by record_total (λ (x : Record). x)
+use Rattle.em_space.proofs.Within.{within_then}
+use Rattle.em_chain.proofs.Withins.{within_grows}
 
 sorted_tail : (x : Record) (xs : List Record) → IsSorted record_cmp (x ∷ xs)
     → IsSorted record_cmp xs
@@ -152,7 +141,7 @@ less_by p (suc a) (suc b) h pos =
     omega arith
 
 -- Before a block begins, as many blocks were released as the writer has.
-full_room : (p b f n q r k : ℕ) → 0 < p → p * (b - 1) + f ≡ n → (b ≡ 0) ⊎ (f ≡ p)
+pub full_room : (p b f n q r k : ℕ) → 0 < p → p * (b - 1) + f ≡ n → (b ≡ 0) ⊎ (f ≡ p)
     → n + p * q ≤ p * r + k → k < p → q ≤ r → b + q ≤ r
 full_room p zero f n q r k pos e o h lt le = omega arith
 full_room p (suc b) f n q r k pos e o h lt le =
@@ -164,7 +153,7 @@ full_room p (suc b) f n q r k pos e o h lt le =
     less_by p (suc b + q) r (omega arith) pos
 
 -- After a record was written, at most one block more is held than at the start.
-more_room : (p b f n q r k : ℕ) → 0 < p → p * (b - 1) + f ≡ n + 1 → 0 < b → 1 ≤ f
+pub more_room : (p b f n q r k : ℕ) → 0 < p → p * (b - 1) + f ≡ n + 1 → 0 < b → 1 ≤ f
     → n + p * q ≤ p * r + k → k < p → b + q ≤ r + 1
 more_room p zero f n q r k pos e some low h lt = absurd (omega arith)
 more_room p (suc b) f n q r k pos e some low h lt =
@@ -174,7 +163,7 @@ more_room p (suc b) f n q r k pos e some low h lt =
     let g = less_by p (b + q) r (omega arith) pos in
     omega arith
 
-owes_zero : (s t : RigState) → t.used ≤ s.used → s.moves ≤ t.moves → Owes 0 s t
+pub owes_zero : (s t : RigState) → t.used ≤ s.used → s.moves ≤ t.moves → Owes 0 s t
 owes_zero s t u m = record { is = inr (omega arith) }
 
 -- Nothing was moved yet.

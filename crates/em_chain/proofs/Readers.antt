@@ -225,6 +225,8 @@ more_is s r i l lt cn =
       count = omega arith;
       fewer = omega arith;
       place = omega arith;
+      skip_fits = let ms = l.most in omega arith;
+      none_left = λ y. absurd (omega arith);
       taking = refl;
     }
 
@@ -247,9 +249,9 @@ after_last r link t = record r {
 pub last_is : (s t : RigState) (r : Reader) (link tl : ℕ) → IsReader s r → IsLoaded s r
     → r.skip + 1 ≡ (header r.frame).b → link ≡ (header r.frame).a
     → (link ≡ 0 → tl ≡ 0) → (0 < link → tl ≡ r.tail) → Touches ((r.head - 1) ∷ []) s t
-    → HasFrames 1 (length r.frame) t.pool
+    → HasFrames 1 (length r.frame) t.pool → (r.count ≡ 1 → r.blocks ≡ 1)
     → Reads s t r (after_last r link tl) (get_or r.frame (r.skip + 1) zero_record)
-last_is s t r link tl i l e ln f g h fr =
+last_is s t r link tl i l e ln f g h fr nl =
     let cm = i.chain.count_most in
     let bm = i.chain.blocks_most in
     let cn = l.count in
@@ -306,6 +308,8 @@ last_is s t r link tl i l e ln f g h fr =
       count = omega arith;
       fewer = omega arith;
       place = let ms = l.most in let ol = one_less (payload_in s) r.blocks l.blocks in omega arith;
+      skip_fits = let ms = l.most in let sk = l.skip in omega arith;
+      none_left = λ y. let b = nl (omega arith) in omega arith;
       taking = refl;
     }
 

@@ -4,7 +4,6 @@ pub mod Effects
 pub mod Joins
 pub mod List
 pub mod Loops
-pub mod Order
 pub mod Parts
 pub mod Reader
 pub mod Reads

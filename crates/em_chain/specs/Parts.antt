@@ -6,9 +6,10 @@ use Rattle.em_frames.specs.Pool.{SameFrames}
 use Rattle.em_space.specs.Held.{Apart}
 use Rattle.em_space.specs.Rig.{RigState, Sound, Touches, Owes}
 use Rattle.em_chain.specs.Chain.{IsChain, IsPacked, payload_in, chain_items, chain_blocks}
-use Rattle.em_chain.specs.Order.{is_below}
+use Rattle.em_record.specs.Order.{is_below}
 use Rattle.em_chain.specs.Reader.{IsReader, rest_of, reader_items, owed}
-use Rattle.em_chain.specs.Within.{Ends, Within}
+use Rattle.em_space.specs.Held.{Within}
+use Rattle.em_chain.specs.Within.{Ends}
 use Rattle.em_chain.specs.Writer.{IsWriter, IsPackedSoFar, writer_items, writer_blocks, filled}
 use Rattle.em_chain.specs.declared.chain.Chain.{Chain}
 use Rattle.em_chain.specs.declared.reader.Reader.{Reader}

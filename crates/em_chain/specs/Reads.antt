@@ -1,5 +1,5 @@
 -- What the calls of a reader do.
-use Rattle.std.specs.Prelude.{◌≡◌, ◌+◌, ◌*◌, ◌≤◌, Bool, if◌then◌else◌, ◌∷◌, drop, IsTrue, true, false, Result, OnOk, OnErr}
+use Rattle.std.specs.Prelude.{◌≡◌, ◌+◌, ◌*◌, ◌<◌, ◌≤◌, Bool, if◌then◌else◌, ◌∷◌, drop, IsTrue, true, false, Result, OnOk, OnErr}
 use Rattle.em_record.specs.declared.record.Record.{Record}
 use Rattle.em_space.specs.Rig.{RigState}
 use Rattle.em_space.specs.declared.fault.EmFault.{EmFault}
@@ -18,7 +18,8 @@ pub record Opens (s t : RigState) (c : Chain) (taking : Bool) (r : Reader) : Typ
   pub taking_is : r.taking ≡ taking
   pub owed_is : owed r ≡ (if taking then 2 * c.blocks else c.blocks)
 
--- One record was read, and what is left begins a place further on, or in the next block.
+-- One record was read, and what is left begins a place further on, or in the next block. With no
+-- record left no block is left.
 pub record Reads (s t : RigState) (r q : Reader) (x : Record) : Type 0 where
   pub is : IsReader t q
   pub items : IsTrue s.device.told → reader_items s r ≡ x ∷ reader_items t q
@@ -26,6 +27,8 @@ pub record Reads (s t : RigState) (r q : Reader) (x : Record) : Type 0 where
   pub count : q.count + 1 ≡ r.count
   pub fewer : q.blocks ≤ r.blocks
   pub place : r.skip + 1 + payload_in s * q.blocks ≤ q.skip + payload_in s * r.blocks
+  pub skip_fits : q.skip < payload_in s
+  pub none_left : q.count ≡ 0 → q.blocks ≡ 0
   pub taking : q.taking ≡ r.taking
 
 -- Nothing is left, and nothing was done.

@@ -1,7 +1,6 @@
 -- Which blocks the result of a call holds.
-use Rattle.std.specs.Prelude.{◌≡◌, ℕ, List, ◌++◌, IsTrue}
-use Rattle.em_space.specs.Free.{Off}
-use Rattle.em_space.specs.Rig.{RigState, InUse}
+use Rattle.std.specs.Prelude.{◌≡◌, ℕ, List, ◌++◌}
+use Rattle.em_space.specs.Rig.{RigState}
 use Rattle.em_space.specs.Held.{NoneInUse}
 
 -- The blocks are the old ones and some that weren't in use.
@@ -14,7 +13,3 @@ pub record Grows (s : RigState) (old new : List ℕ) : Type 0 where
 pub record Ends (old new : List ℕ) : Type 0 where
   pub gone : List ℕ
   pub is : old ≡ gone ++ new
-
--- These blocks are of a list that was held, or weren't in use.
-pub record Within (s : RigState) (held ks : List ℕ) : Type 0 where
-  pub off : IsTrue s.device.told → (j : ℕ) → InUse s j → Off j held → Off j ks

@@ -4,7 +4,7 @@ ghost use Rattle.em_space.specs.Rig.{RigState, Sound, Goes, Cause};
 ghost use Rattle.em_space.specs.Seen.{seen};
 ghost use Rattle.em_chain.specs.Chain.{IsChain, chain_blocks, chain_items};
 ghost use Rattle.em_chain.specs.Effects.{Completes, OnFull};
-ghost use Rattle.em_chain.specs.Order.{record_cmp, is_below};
+ghost use Rattle.em_record.specs.Order.{record_cmp, is_below};
 ghost use Rattle.em_chain.specs.Parts.{Parts, PartCosts, BeginsPart, Parted};
 ghost use Rattle.em_chain.specs.Reader.{ReaderHasFrame, rest_of};
 ghost use Rattle.em_chain.specs.Writer.{WriterHasFrame};

@@ -296,6 +296,7 @@ impl Reader {
 /// Whether the last record of a block leads on as the words say.
 fn leads_on(link: u64, blocks: u64, count: u64) -> bool
     ensures complete { 0 < blocks → LeadsOn link blocks count → IsTrue result }
+    ensures none_left { IsTrue result → count ≡ 1 → blocks ≡ 1 }
 {
     if blocks == 1 {
         link == 0 && count == 1

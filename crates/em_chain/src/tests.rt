@@ -5,7 +5,7 @@ ghost use Rattle.em_space.specs.Rig.{RigState, Sound, Goes};
 ghost use Rattle.em_space.specs.Seen.{seen};
 ghost use Rattle.std.specs.List.Sorted.{IsSorted};
 ghost use Rattle.em_chain.specs.Chain.{IsChain, chain_blocks, chain_items};
-ghost use Rattle.em_chain.specs.Order.{record_cmp};
+ghost use Rattle.em_record.specs.Order.{record_cmp};
 
 use crate::{Chain, Reader, Writer, discard, join, part_at};
 use em_frames::{BeginFault, Device, Grant, MemDevice};

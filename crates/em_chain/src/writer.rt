@@ -35,6 +35,13 @@ impl Writer {
         self.count
     }
 
+    /// The blocks that it holds.
+    pub fn blocks(&self) -> u64
+        ensures { result ≡ self.now.blocks }
+    {
+        self.blocks
+    }
+
     /// A writer of a list with no record. It takes no block yet.
     pub fn new<D: Device>(rig: &mut Rig<'_, D>) -> Writer
         requires sound { Sound (seen D.state rig.old) }

@@ -75,7 +75,7 @@ queue_answers_from-append q (x ∷ xs) ys =
     ap (λ t. queue_answer_of q x ++ t) (queue_answers_from-append (queue_step q x) xs ys)
     ∙ sym (append_assoc (queue_answer_of q x) _ _)
 
-abbrev number_of : Item → ℕ
+abbrev pub number_of : Item → ℕ
 number_of x = x.number
 
 -- The items are in the order of their pushes, each numbered from 1 to the count of pushes.
@@ -103,22 +103,22 @@ pub in_order_after : (q : Queue) (cs : List Command) → AreInOrder q → AreInO
 in_order_after q [] a = a
 in_order_after q (c ∷ cs) a = in_order_after (queue_step q c) cs (one_step q c a)
 
-kept_head : (n : ℕ) (x : Item) (xs : List Item) → n ≢ x.number
+pub kept_head : (n : ℕ) (x : Item) (xs : List Item) → n ≢ x.number
     → without_number n (x ∷ xs) ≡ x ∷ without_number n xs
 kept_head n x xs h = grind (arith, nat_tests, common_steps)
 
-lost_head : (n : ℕ) (x : Item) (xs : List Item) → n ≡ x.number
+pub lost_head : (n : ℕ) (x : Item) (xs : List Item) → n ≡ x.number
     → without_number n (x ∷ xs) ≡ without_number n xs
 lost_head n x xs h = grind (arith, nat_tests, common_steps)
 
-without_none : (n low : ℕ) (items : List Item) (high : ℕ) → n < low
+pub without_none : (n low : ℕ) (items : List Item) (high : ℕ) → n < low
     → Ascend number_of low items high → without_number n items ≡ items
 without_none n low [] high h a = refl
 without_none n low (x ∷ xs) high h (first, rest) =
     kept_head n x xs (omega arith)
     ∙ ap (λ t. x ∷ t) (without_none n (x.number + 1) xs high (omega arith) rest)
 
-number_from : (low : ℕ) (items : List Item) (high : ℕ) (x : Item) → Contains items x
+pub number_from : (low : ℕ) (items : List Item) (high : ℕ) (x : Item) → Contains items x
     → Ascend number_of low items high → low ≤ x.number
 number_from low [] high x (k, h, e) a = absurd (omega arith)
 number_from low (y ∷ ys) high x (zero, h, e) (first, rest) =

@@ -1,4 +1,5 @@
 pub mod Calls
 pub mod Cost
 pub mod Count
+pub mod Order
 pub mod Shape

@@ -28,3 +28,7 @@ contents_of s ks = map (λ k. block_at s.device k) ks
 pub record Holds (s : RigState) (ks : List ℕ) : Type 0 where
   pub in_use : AllInUse s ks
   pub distinct : IsTrue s.device.told → AreDistinct ks
+
+-- These blocks are of a list that was held, or weren't in use.
+pub record Within (s : RigState) (held ks : List ℕ) : Type 0 where
+  pub off : IsTrue s.device.told → (j : ℕ) → InUse s j → Off j held → Off j ks

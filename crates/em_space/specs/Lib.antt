@@ -1,5 +1,6 @@
 pub mod Free
 pub mod Held
 pub mod Inner
+pub mod Queue
 pub mod Rig
 pub mod Seen

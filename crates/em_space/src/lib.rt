@@ -2,10 +2,12 @@
 #![tactic(auto)]
 
 mod fault;
+mod queue;
 mod refused;
 mod rig;
 
 pub use fault::EmFault;
+pub use queue::Queue;
 pub use refused::OpenRefused;
 pub use rig::Rig;
 

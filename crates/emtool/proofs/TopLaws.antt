@@ -2,21 +2,39 @@
 use Rattle.std.proofs.Common.{◌≡◌, ℕ, ◌+◌, ◌-◌, ◌*◌, ◌<◌, ◌≤◌, ◌^◌, ◌⊎◌, inl, inr, ⊎_elim, Bool, List, refl, arith, IsTrue, Result, Ok, Err}
 use Rattle.std.specs.Prelude.{IfOk, None}
 use Rattle.std.proofs.lemmas.Grind.{div_ceil_times}
-use Rattle.std.proofs.Math.Nat.{le_of_mul-le-mul_right}
+use Rattle.std.proofs.lemmas.Nat.{div_below}
 use Rattle.em_record.specs.Cost.{blocks_of, lev, cost}
 use Rattle.em_record.specs.Shape.{ShapeNumbers, IsShape, payload_of}
+use Rattle.em_chain.specs.Counts.{ceiling}
+use Rattle.em_plain.specs.Room.{plain_room}
 use Rattle.emtool.specs.declared.job.Job.{Job}
 use Rattle.emtool.specs.declared.status.Usage.{Usage}
 use Rattle.emtool.specs.declared.status.Status.{Status}
 use Rattle.emtool.specs.declared.status.Status.TheVariants.{Done, Malformed, ReadFault, WriteFault, DeviceFault, Full, NoMemory, Damaged}
 use Rattle.emtool.specs.declared.status.Status.TheVariants as status
-use Rattle.emtool.specs.declared.text.FileKind.TheVariants.{Map}
+use Rattle.emtool.specs.declared.text.FileKind.{FileKind}
+use Rattle.emtool.specs.declared.text.FileKind.TheVariants.{Map, Queue, Stab}
 use Rattle.emtool.specs.Due.{due_status}
 use Rattle.emtool.specs.Bound.{stated_room}
 use Rattle.emtool.specs.Job.{IsJob}
-use Rattle.emtool.specs.Run.{Outside, Ended, Caused, IsFull, IsQuiet}
-use Rattle.emtool.specs.RunSize.{commands_taken}
+use Rattle.emtool.specs.Run.{CountsBy, Outside, Ended, Caused, IsFull, IsQuiet}
+use Rattle.emtool.specs.RunSize.{run_size}
 use Rattle.emtool.specs.Status.{refusal_of, IfEndsFull}
+
+-- a device that tells lets a run of any kind be counted
+pub counts_told : (kind : FileKind) (told : Bool) → IsTrue told → CountsBy kind told
+counts_told Map told t = tt
+counts_told Queue told t = tt
+counts_told Stab told t = t
+
+-- n records take at most so many blocks, where they fit
+pub ceiling_most : (n p b : ℕ) → 0 < p → n ≤ b * p → ceiling n p ≤ b
+ceiling_most n p b pos h =
+    let d = div_below (n + p - 1) p (b + 1) pos (let m = mul_next b p in omega (arith, m, h)) in
+    omega (arith, d)
+  where
+    mul_next : (b p : ℕ) → (b + 1) * p ≡ b * p + p
+    mul_next b p = omega arith
 
 -- of the job, where there is one
 pub for_job : {P Q : Job → Type 0} (r : Result Job Usage) → IfOk r P
@@ -39,10 +57,10 @@ more_times x y = omega arith
 twice : (q y : ℕ) → q * (2 + y) ≤ (2 * q) * (1 + y)
 twice q y = omega arith
 
--- blocks that are full of commands are fewer than the bound, by any shape
-pub full_small : (shape : ShapeNumbers) (used n : ℕ) → IsShape shape
-    → used * payload_of shape ≤ n → used < cost shape n
-full_small shape used n is h =
+-- the blocks that a structure may hold are fewer than the bound, by any shape
+pub room_small : (shape : ShapeNumbers) (used n : ℕ) → IsShape shape
+    → used ≤ plain_room shape n → used < cost shape n
+room_small shape used n is h =
     let low : 0 < shape.block = omega (arith, is.block_low) in
     let enough = div_ceil_times n shape.block low in
     let q = blocks_of shape n in
@@ -50,30 +68,30 @@ full_small shape used n is h =
     let block : 2 + y ≡ shape.block = omega (arith, is.block_low) in
     let payload : 1 + y ≡ payload_of shape = omega (arith, is.block_low) in
     let records : n ≤ q * (2 + y) = rw block enough.0 in
-    let full : used * (1 + y) ≤ n = rw payload h in
-    let least : used ≤ 2 * q =
-    le_of_mul-le-mul_right {m = used} {n = 2 * q} {k = 1 + y}
-    (omega (arith, full, records, twice q y)) (omega arith) in
-    let more = more_times (2048 * (blocks_of shape n + 1)) (lev shape (blocks_of shape n)) in
-    omega (arith, least, more)
+    let full : n ≤ (2 * q) * (1 + y) = omega (arith, records, twice q y) in
+    let least : ceiling n (payload_of shape) ≤ 2 * q =
+    ceiling_most n (payload_of shape) (2 * q) (omega (arith, is.block_low)) (rw payload at full) in
+    let more = more_times (2048 * (q + 1)) (lev shape q) in
+    omega (arith, least, more, h)
 
 module _ (tells : Bool) (took : List ℕ → List ℕ → List ℕ) (text : List ℕ) (words : ℕ) (job : Job)
     (old new : Outside) (is : IsJob words job) where
-  small : (used : ℕ) → used * payload_of job.shape ≤ commands_taken Map text new.slot.left
+  small : (used : ℕ) → used ≤ plain_room job.shape (run_size job.kind text new.slot.left)
       → used < stated_room job text new.slot.left
   small used h =
-      let less = full_small job.shape used (commands_taken Map text new.slot.left) is.shape h in
+      let less = room_small job.shape used (run_size job.kind text new.slot.left) is.shape h in
       omega (arith, less)
 
   -- the end of a run says what a full device is
-  pub ended_full : (s : Status) → Ended tells took text (payload_of job.shape) job.blocks old new s
+  pub ended_full : (s : Status) → Ended tells took job.kind text job.shape job.blocks old new s
       → IfEndsFull s (λ _. old.device.moves ≡ 0) → IfEndsFull s (IsFull tells job text old new)
   ended_full (Full used) e none = record {
     all = e.full;
     moves = λ below. ⊎_elim
         (λ (h : 2 ^ 64 - 1 ≤ new.device.moves). absurd (omega (arith, h)))
-        (λ (h : used ≤ new.device.moves + 1). omega (arith, h, none, is.shape.frames_low)) e.paid;
-    room = λ t. small used (e.size t);
+        (λ (h : used ≤ new.device.moves + job.shape.frames).
+        omega (arith, h, none, is.shape.frames_low)) e.paid;
+    room = λ t d. small used (e.size t d);
   }
   ended_full Done e none = tt
   ended_full (status.Usage kind word) e none = tt
@@ -86,9 +104,9 @@ module _ (tells : Bool) (took : List ℕ → List ℕ → List ℕ) (text : List
 
   -- where nothing failed and the device has room, the status is the one due
   pub ended_due : (s : Status) → refusal_of s ≡ None
-      → Ended tells took text (payload_of job.shape) job.blocks old new s → Caused old new s
+      → Ended tells took job.kind text job.shape job.blocks old new s → Caused old new s
       → IsTrue tells → IsTrue old.device.told → IsQuiet old new
-      → stated_room job text new.slot.left ≤ job.blocks → (s ≡ due_status text) ⊎ (s ≡ NoMemory)
+      → stated_room job text new.slot.left ≤ job.blocks → (s ≡ due_status job.kind text) ⊎ (s ≡ NoMemory)
   ended_due Done none e c t d quiet room = inl (e.answers t d).0
   ended_due (Malformed kind place) none e c t d quiet room = inl (e.answers t d).0
   ended_due (status.Usage kind word) none e c t d quiet room = cc
@@ -96,6 +114,8 @@ module _ (tells : Bool) (took : List ℕ → List ℕ → List ℕ) (text : List
   ended_due WriteFault none e c t d quiet room = absurd (quiet.write (c.write refl))
   ended_due DeviceFault none e c t d quiet room = absurd (quiet.device (c.device refl))
   ended_due (Full used) none e c t d quiet room =
-      let all = e.full in let less = small used (e.size t) in absurd (omega arith)
+      let all = e.full in
+      let less = small used (e.size t (counts_told job.kind old.device.told d)) in
+      absurd (omega arith)
   ended_due NoMemory none e c t d quiet room = inr refl
   ended_due (Damaged block) none e c t d quiet room = cc (d, e.damaged.0)

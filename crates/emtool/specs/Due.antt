@@ -1,16 +1,16 @@
--- What a map file is due: the text on the output, and the status.
+-- What a command file is due: the text on the output, and the status.
 use Rattle.std.specs.Prelude.{ℕ, List, [], Option, Some, None, unwrap_or}
 use Rattle.em_io.specs.Shelf.{Stand}
 use Rattle.em_io.specs.declared.shelf.Slot.TheVariants.{First}
-use Rattle.em_model.specs.Map.{map_answers}
-use Rattle.em_model.specs.declared.command.Command.{Command}
-use Rattle.emtool.specs.Answer.{answer_text}
+use Rattle.emtool.specs.Answer.{text_for}
 use Rattle.emtool.specs.Job.{ForJob, file_name}
 use Rattle.emtool.specs.CommandLine.{first_fault, good_commands}
+use Rattle.emtool.specs.declared.job.Job.{Job}
 use Rattle.emtool.specs.declared.status.Malform.TheVariants.{Text}
 use Rattle.emtool.specs.declared.status.Status.{Status}
 use Rattle.emtool.specs.declared.status.Status.TheVariants.{Done, Malformed}
-use Rattle.emtool.specs.declared.text.FileKind.TheVariants.{Map}
+use Rattle.emtool.specs.declared.text.FileKind.{FileKind}
+use Rattle.emtool.specs.declared.text.FileKind.TheVariants.{Map, Queue, Stab}
 use Rattle.emtool.specs.declared.text.TextKind.{TextKind}
 
 -- the text of a name, which is empty where the name isn't there
@@ -23,18 +23,22 @@ status_for None = Done
 status_for (Some fault) = Malformed (Text fault.0) fault.1
 
 -- the status that a text is due: its first fault, or Done
-abbrev pub due_status : List ℕ → Status
-due_status text = status_for (first_fault Map text)
+abbrev pub due_status : FileKind → List ℕ → Status
+due_status kind text = status_for (first_fault kind text)
 
--- one line for each get; nothing where a line is faulty
-abbrev pub text_unless : Option (TextKind × ℕ) → List Command → List ℕ
-text_unless None commands = answer_text (map_answers commands)
-text_unless (Some fault) commands = []
+-- the answers' text; nothing where a line is faulty
+abbrev pub text_unless : Option (TextKind × ℕ) → List ℕ → List ℕ
+text_unless None answers = answers
+text_unless (Some fault) answers = []
 
--- the text that is due on the output
-abbrev pub output_text : List ℕ → List ℕ
-output_text text = text_unless (first_fault Map text) (good_commands Map text)
+-- The text that is due on the output. A queue answers each pop at once, and so prints the answers
+-- before a faulty line; a map and an interval list answer after the whole file.
+abbrev pub output_text : FileKind → List ℕ → List ℕ
+output_text Map text = text_unless (first_fault Map text) (text_for Map (good_commands Map text))
+output_text Queue text = text_for Queue (good_commands Queue text)
+output_text Stab text =
+    text_unless (first_fault Stab text) (text_for Stab (good_commands Stab text))
 
--- P of the text of the job's file, where the words name a job
-abbrev pub ForText : List (List ℕ) → Stand → (List ℕ → Type 0) → Type 0
-ForText words stand P = ForJob words (λ job. P (text_of stand (file_name words job)))
+-- P of the job and the text of its file, where the words name a job
+abbrev pub ForText : List (List ℕ) → Stand → (Job → List ℕ → Type 0) → Type 0
+ForText words stand P = ForJob words (λ job. P job (text_of stand (file_name words job)))

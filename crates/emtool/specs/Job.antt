@@ -6,6 +6,8 @@ use Rattle.em_record.specs.declared.fault.ShapeFault.{ShapeFault}
 use Rattle.em_record.specs.declared.fault.ShapeFault.TheVariants as shape
 use Rattle.em_record.specs.Shape.{IsShape, ShapeNumbers, is_within, shape_of}
 use Rattle.emtool.specs.declared.job.Job.{Job}
+use Rattle.emtool.specs.declared.text.FileKind.{FileKind}
+use Rattle.emtool.specs.declared.text.FileKind.TheVariants.{Map, Queue, Stab}
 use Rattle.emtool.specs.declared.status.Usage.{Usage}
 use Rattle.emtool.specs.declared.status.UsageKind.{UsageKind}
 use Rattle.emtool.specs.declared.status.UsageKind.TheVariants.{NoCommand, UnknownCommand, MissingOperand, ExtraOperand, BlockRange, FramesRange, FramesMultiple, BlocksRange}
@@ -67,10 +69,18 @@ blocks_within options blocks =
 abbrev pub blocks_with : List (List ℕ) → Result ℕ Usage
 blocks_with options = blocks_within options (number_or (codes "--blocks") options (2 ^ 20))
 
--- the job over what the options say, of the file that the word of number `file` names
-abbrev pub job_with : List (List ℕ) → ℕ → Result Job Usage
-job_with options file =
+-- the kind of file that a command answers, from the command's word
+abbrev pub kind_of : List ℕ → Option FileKind
+kind_of word =
+    if bytes_eq word (codes "map") then Some Map
+    else (if bytes_eq word (codes "queue") then Some Queue
+    else (if bytes_eq word (codes "stab") then Some Stab else None))
+
+-- the job of a kind over what the options say, of the file that the word of number `file` names
+abbrev pub job_with : FileKind → List (List ℕ) → ℕ → Result Job Usage
+job_with kind options file =
     shape_with options >>= λ numbers. blocks_with options >>= λ blocks. Ok (record {
+      kind = kind;
       shape = numbers;
       blocks = blocks;
       stats = has_option (codes "--stats") options;
@@ -78,16 +88,19 @@ job_with options file =
     })
 
 -- the job of so many words, of which these option words stand behind the command
-abbrev pub job_behind : List (List ℕ) → ℕ → Result Job Usage
-job_behind options count = unless (options_refusal [] options)
-    (operand_of (length options + 1) count >>= λ file. job_with options file)
+abbrev pub job_behind : FileKind → List (List ℕ) → ℕ → Result Job Usage
+job_behind kind options count = unless (options_refusal [] options)
+    (operand_of (length options + 1) count >>= λ file. job_with kind options file)
+
+-- the job of a command of this kind, and of the words behind the command
+abbrev pub job_for : Option FileKind → List (List ℕ) → Result Job Usage
+job_for None words = refused UnknownCommand 0
+job_for (Some kind) words = job_behind kind (option_words words) (length words + 1)
 
 -- the job of the words, or their first refusal
 abbrev pub job_of : List (List ℕ) → Result Job Usage
 job_of [] = refused NoCommand 0
-job_of (command ∷ words) =
-    if bytes_eq command (codes "map") then job_behind (option_words words) (length words + 1)
-    else refused UnknownCommand 0
+job_of (command ∷ words) = job_for (kind_of command) words
 
 -- the name of the job's file
 abbrev pub file_name : List (List ℕ) → Job → List ℕ

@@ -1,21 +1,28 @@
 -- What a run leaves of the outside.
-use Rattle.std.specs.Prelude.{◌≡◌, ℕ, ◌+◌, ◌-◌, ◌*◌, ◌<◌, ◌≤◌, ◌^◌, ◌⊎◌, Bool, true, IsTrue, IsFalse, IsSome, List, [], is_none}
+use Rattle.std.specs.Prelude.{◌≡◌, ℕ, ◌+◌, ◌-◌, ◌*◌, ◌<◌, ◌≤◌, ◌^◌, ◌⊎◌, Bool, true, false, IsTrue, IsFalse, IsSome, List, [], is_none}
 use Rattle.em_record.specs.Count.{Rose}
+use Rattle.em_record.specs.Shape.{ShapeNumbers, fan_of}
 use Rattle.em_io.specs.Sink.{SentPart}
 use Rattle.em_io.specs.Shelf.{SlotState, Stand, Leaves}
 use Rattle.em_io.specs.declared.shelf.Shelf.{Ghosts as ShelfGhosts}
 use Rattle.em_io.specs.declared.shelf.Slot.TheVariants.{First}
 use Rattle.em_io.specs.declared.sink.Sink.{Ghosts as SinkGhosts}
 use Rattle.em_frames.specs.Device.{DeviceState}
+use Rattle.em_frames.specs.Pool.{PoolCounts}
+use Rattle.em_plain.specs.Room.{plain_room}
 use Rattle.em_space.specs.declared.fault.EmFault.{EmFault}
 use Rattle.em_space.specs.declared.fault.EmFault.TheVariants as em
 use Rattle.emtool.specs.declared.status.Status.{Status}
-use Rattle.emtool.specs.declared.status.Status.TheVariants.{ReadFault, WriteFault, DeviceFault, Full, Damaged}
-use Rattle.emtool.specs.declared.text.FileKind.TheVariants.{Map}
+use Rattle.emtool.specs.declared.status.Malform.TheVariants.{Text}
+use Rattle.emtool.specs.declared.status.Status.TheVariants.{Malformed, ReadFault, WriteFault, DeviceFault, Full, Damaged}
+use Rattle.emtool.specs.declared.stop.Stop.{Stop}
+use Rattle.emtool.specs.declared.stop.Stop.TheVariants as stop
+use Rattle.emtool.specs.declared.text.FileKind.{FileKind}
+use Rattle.emtool.specs.declared.text.FileKind.TheVariants.{Map, Queue, Stab}
 use Rattle.emtool.specs.Bound.{stated_room}
 use Rattle.emtool.specs.declared.job.Job.{Job}
 use Rattle.emtool.specs.Due.{due_status, output_text}
-use Rattle.emtool.specs.RunSize.{commands_taken}
+use Rattle.emtool.specs.RunSize.{run_size}
 use Rattle.emtool.specs.Status.{OnEnd, OnDone, IfEndsFull, IfEndsDamaged}
 
 -- The outside at one moment: the device, the state of the output, the first slot of the shelf, and
@@ -43,26 +50,51 @@ em_status em.DeviceFault = DeviceFault
 em_status (em.Full used) = Full used
 em_status (em.Damaged block) = Damaged block
 
+-- the status of a run that stopped
+abbrev pub stop_status : Stop → Status
+stop_status (stop.Fault kind line) = Malformed (Text kind) line
+stop_status stop.Read = ReadFault
+stop_status stop.Write = WriteFault
+stop_status (stop.Em fault) = em_status fault
+
+-- The frames of a run are free: 2f + 6 single ones, an area and the rack.
+pub record IsReady (p : PoolCounts) : Type 0 where
+  pub singles : 2 * fan_of p.shape + 6 ≤ p.free
+  pub areas : 1 ≤ p.free_areas
+  pub rack : p.rack_out ≡ false
+
+-- Of the shelf only the first slot was read; whether it is lost didn't change.
+pub record ReadsFirst (tells : Bool) (old new : Stand) : Type 0 where
+  pub leaves : Leaves First old new
+  pub lost : IsTrue tells → (new.slot First).lost ≡ (old.slot First).lost
+
 -- The slot was opened with Ok, and nothing of its text is left.
 pub record IsAllRead (tells : Bool) (slot : SlotState) : Type 0 where
   pub opened : slot.ready ≡ true
   pub nothing_left : IsTrue tells → slot.left ≡ []
 
+-- What the size of a run asks of the device: pairs are reported as it tells.
+abbrev pub CountsBy : FileKind → Bool → Type 0
+CountsBy Map told = Unit {0}
+CountsBy Queue told = Unit {0}
+CountsBy Stab told = IsTrue told
+
 -- The end of a run over this text, on a device of so many blocks of which none was in use or moved
--- before; a block takes so many commands.
-pub record Ended (tells : Bool) (took : List ℕ → List ℕ → List ℕ) (text : List ℕ)
-    (payload blocks : ℕ) (old new : Outside) (status : Status) : Type 0 where
+-- before.
+pub record Ended (tells : Bool) (took : List ℕ → List ℕ → List ℕ) (kind : FileKind)
+    (text : List ℕ) (shape : ShapeNumbers) (blocks : ℕ) (old new : Outside) (status : Status)
+    : Type 0 where
   pub answers : IsTrue tells → IsTrue old.device.told
       → OnEnd status
-      ((status ≡ due_status text) × (new.output ≡ took old.output (output_text text)))
+      ((status ≡ due_status kind text) × (new.output ≡ took old.output (output_text kind text)))
   pub prefix : IsTrue tells → IsTrue old.device.told
-      → SentPart took old.output (output_text text) new.output
+      → SentPart took old.output (output_text kind text) new.output
   pub all_read : OnDone status (IsAllRead tells new.slot)
   pub full : IfEndsFull status (λ used. used ≡ blocks)
   pub paid : IfEndsFull status
-      (λ used. (2 ^ 64 - 1 ≤ new.device.moves) ⊎ (used ≤ new.device.moves + 1))
-  pub size : IsTrue tells
-      → IfEndsFull status (λ used. used * payload ≤ commands_taken Map text new.slot.left)
+      (λ used. (2 ^ 64 - 1 ≤ new.device.moves) ⊎ (used ≤ new.device.moves + shape.frames))
+  pub size : IsTrue tells → CountsBy kind old.device.told
+      → IfEndsFull status (λ used. used ≤ plain_room shape (run_size kind text new.slot.left))
   pub damaged : IfEndsDamaged status (λ at. IsFalse old.device.told × (at < blocks))
 
 -- The device still tells what it told, and no count of faults fell.
@@ -106,4 +138,5 @@ pub record IsFull (tells : Bool) (job : Job) (text : List ℕ) (old new : Outsid
   pub all : used ≡ job.blocks
   pub moves : new.device.moves < 2 ^ 64 - 1
       → used + old.device.moves < new.device.moves + 4 * job.shape.frames
-  pub room : IsTrue tells → used < stated_room job text new.slot.left
+  pub room : IsTrue tells → CountsBy job.kind old.device.told
+      → used < stated_room job text new.slot.left

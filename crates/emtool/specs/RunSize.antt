@@ -1,7 +1,10 @@
 -- The size of a run that stops somewhere in its text.
-use Rattle.std.specs.Prelude.{ℕ, ◌-◌, List, ◌==◌, length, take, min, nat_lt, if◌then◌else◌}
-use Rattle.std.specs.List.{count_by}
+use Rattle.std.specs.Prelude.{ℕ, ◌+◌, ◌-◌, List, ◌==◌, length, take, min, nat_lt, if◌then◌else◌}
+use Rattle.std.specs.List.{count_by, sum_by}
+use Rattle.em_model.specs.Stab.{stab_answers}
+use Rattle.em_model.specs.declared.command.Command.{Command}
 use Rattle.emtool.specs.declared.text.FileKind.{FileKind}
+use Rattle.emtool.specs.declared.text.FileKind.TheVariants.{Map, Queue, Stab}
 use Rattle.emtool.specs.Lines.{lines_of}
 use Rattle.emtool.specs.CommandLine.{good_commands}
 
@@ -12,8 +15,20 @@ lines_given given text =
     if nat_lt given (length text) then count_by (λ byte. byte == 10) (take given text)
     else length (lines_of text)
 
--- The commands before the first fault that were taken, where this much of the text is left on the
--- shelf: the size of a run of a map or a queue file.
+-- how many commands before the first fault were taken, where this much of the text is left on the
+-- shelf
 abbrev pub commands_taken : FileKind → List ℕ → List ℕ → ℕ
 commands_taken kind text left =
     min (lines_given (length text - length left) text) (length (good_commands kind text))
+
+-- how many numbers of intervals the answers to some commands have together
+abbrev pub pairs_reported : List Command → ℕ
+pairs_reported commands = sum_by length (stab_answers commands)
+
+-- The size of a run, where this much of the text is left on the shelf: the commands that were taken,
+-- and for stabs the pairs that their answers report.
+abbrev pub run_size : FileKind → List ℕ → List ℕ → ℕ
+run_size Map text left = commands_taken Map text left
+run_size Queue text left = commands_taken Queue text left
+run_size Stab text left = commands_taken Stab text left
+    + pairs_reported (take (commands_taken Stab text left) (good_commands Stab text))

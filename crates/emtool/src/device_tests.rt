@@ -24,8 +24,9 @@ fn long_file(alloc: Global) -> Result<Vec<u8>, Fail> {
 }
 
 /// The 20001 commands take 158 blocks of 127. Call 0 begins the device, calls 1 to 158 write the
-/// blocks, calls 159 to 316 read them in search of gets, and calls 317 to 474 read them again for the
-/// 20000 commands before the one get: there is no call 475.
+/// blocks, calls 159 to 316 read them in search of gets, and calls 317 to 474 read them again for
+/// the 20000 commands before the one get. Call 475 writes the answer, calls 476 to 791 release the
+/// blocks, and call 792 reads the answer: there is no call 793.
 #[test]
 fn each_failing_call_of_a_long_run_is_a_device_fault(rt: HostRuntime) -> Result<(), Fail> {
     let text = long_file(rt.alloc())?;
@@ -35,9 +36,9 @@ fn each_failing_call_of_a_long_run_is_a_device_fault(rt: HostRuntime) -> Result<
         (2, Status::DeviceFault, b""),
         (5, Status::DeviceFault, b""),
         (50, Status::DeviceFault, b""),
-        (474, Status::DeviceFault, b""),
-        (475, Status::Done, b"1\n"),
-        (500, Status::Done, b"1\n"),
+        (500, Status::DeviceFault, b""),
+        (792, Status::DeviceFault, b""),
+        (793, Status::Done, b"1\n"),
     ];
     for (call, status, output) in cases {
         let failing = [call];

@@ -3,7 +3,7 @@ pub const VERSION: &str = "emtool 0.1.0\n";
 
 /// What `emtool --help` prints.
 pub const HELP: &str = "\
-usage: emtool map [options] FILE
+usage: emtool map|queue|stab [options] FILE
        emtool --help | --version
 
 Answers a command file with structures in external memory.
@@ -12,6 +12,14 @@ Commands:
   map FILE      lines `put K V`, `del K` and `get K`; prints one line for each get: the value of the
                 key by the commands before it, or `-`; nothing where a line is faulty
                 example: emtool map prices.txt
+  queue FILE    lines `push K V` and `pop`; prints one line for each pop when it is read: the key and
+                the value of the element with the least key, of equal keys the one pushed first, or
+                `-`; where a line is faulty, the lines of the pops before it
+                example: emtool queue tasks.txt
+  stab FILE     lines `iv LO HI` and `stab P`; prints one line for each stab: the numbers of the
+                intervals before it that hold the point, counted from 0, or `-`; nothing where a line
+                is faulty
+                example: emtool stab spans.txt
 
 Options, before FILE:
   --block=N     records of a block, 128 to 65536; default 1024
@@ -30,7 +38,7 @@ Numbers are decimal, from 0 to 18446744073709551615, with at most 20 digits.
 Exit codes:
   0  done                                     (emtool map prices.txt)
   1  usage: the words name no job             (emtool map)
-  2  malformed: a line of the file is faulty  (a file with the line `put 1`)
+  2  malformed: a line of the file is faulty  (a map file with the line `put 1`)
   3  an input could not be read               (emtool map no-such-file)
   4  the output could not be written          (emtool map prices.txt > /dev/full)
   5  the scratch device failed                (more commands than memory holds, where it is kept)

@@ -1,16 +1,19 @@
 ghost use Rattle.std.specs.Prelude.{◌≡◌, ◌+◌, ◌-◌, ◌<◌, ◌≤◌, ◌^◌, length, IfOk};
-ghost use Rattle.emtool.specs.Job.{texts_of, job_of, blocks_with, default_frames, job_with, operand_of, shape_with, IsJob};
+ghost use Rattle.emtool.specs.Job.{texts_of, job_of, kind_of, blocks_with, default_frames, job_with, operand_of, shape_with, IsJob};
 
 use crate::option::{
     BLOCK, BLOCKS, FRAMES, STATS, has_option, number_or, option_words, test_options, word_of,
 };
 use crate::status::{Usage, UsageKind};
+use crate::text::FileKind;
 use em_record::{Shape, ShapeFault};
 
-/// What the words ask for: a map file to be answered, by a shape and over a device of `blocks`
-/// blocks. The file's name is the word of number `file`. With `stats` the run tells its moves.
+/// What the words ask for: a file to be answered, of the `kind` that the command names, by a shape
+/// and over a device of `blocks` blocks. The file's name is the word of number `file`. With `stats`
+/// the run tells its moves.
 #[derive(Clone, Copy, Debug, PartialEq, Eq)]
 pub struct Job {
+    pub kind: FileKind,
     pub shape: Shape,
     pub blocks: u64,
     pub stats: bool,
@@ -25,6 +28,22 @@ const DEFAULT_BLOCKS: u64 = 1 << 20;
 
 /// The most blocks of a device.
 const MOST_BLOCKS: u64 = 1 << 40;
+
+/// The kind of file that a command answers.
+fn kind_of(word: &str) -> Option<FileKind>
+    ensures { result ≡ kind_of word.now }
+{
+    let word = word.as_bytes();
+    if word == b"map".as_slice() {
+        Some(FileKind::Map)
+    } else if word == b"queue".as_slice() {
+        Some(FileKind::Queue)
+    } else if word == b"stab".as_slice() {
+        Some(FileKind::Stab)
+    } else {
+        None
+    }
+}
 
 /// The frames where no option says their number, by the records of a block.
 fn default_frames(block: u64) -> u64
@@ -90,14 +109,15 @@ fn operand_of(first: u64, count: u64) -> Result<u64, Usage>
     Ok(first)
 }
 
-/// The job over what the options say, of the file that the word of number `file` names.
-fn job_with(options: &[String], file: u64) -> Result<Job, Usage>
-    ensures job { result ≡ job_with (texts_of options.now) file }
+/// The job of a kind over what the options say, of the file that the word of number `file` names.
+fn job_with(kind: FileKind, options: &[String], file: u64) -> Result<Job, Usage>
+    ensures job { result ≡ job_with kind (texts_of options.now) file }
     ensures is { IfOk result (IsJob (file + 1)) }
 {
     let shape = shape_with(options)?;
     let blocks = blocks_with(options)?;
     Ok(Job {
+        kind,
         shape,
         blocks,
         stats: has_option(options, STATS),
@@ -116,14 +136,14 @@ pub fn read_job(words: &[String]) -> Result<Job, Usage>
             word: 0,
         });
     };
-    if command.as_str().as_bytes() != b"map".as_slice() {
+    let Some(kind) = kind_of(command.as_str()) else {
         return Err(Usage {
             kind: UsageKind::UnknownCommand,
             word: 0,
         });
-    }
+    };
     let options = option_words(&words[1..]);
     test_options(options)?;
     let file = operand_of(options.len() as u64 + 1, words.len() as u64)?;
-    job_with(options, file)
+    job_with(kind, options, file)
 }

@@ -2,6 +2,7 @@
 //! worked out by hand from the order of refusals in docs/FORMATS.md, "Words".
 use crate::job::{Job, read_job};
 use crate::status::{Usage, UsageKind};
+use crate::text::FileKind;
 use std::test::Fail;
 
 /// The job of a list of words, or its first refusal.
@@ -21,12 +22,17 @@ fn refused(kind: UsageKind, word: u64) -> Result<Job, Usage> {
 
 #[test]
 fn commands_and_operands_are_counted(rt: HostRuntime) -> Result<(), Fail> {
-    let cases: [(&str, UsageKind, u64); 19] = [
+    let cases: [(&str, UsageKind, u64); 24] = [
         ("", UsageKind::NoCommand, 0),
         ("mop a", UsageKind::UnknownCommand, 0),
         ("Map a", UsageKind::UnknownCommand, 0),
         ("--stats map a", UsageKind::UnknownCommand, 0),
         ("maps --bogus", UsageKind::UnknownCommand, 0),
+        ("eval a b", UsageKind::UnknownCommand, 0),
+        ("stabs a", UsageKind::UnknownCommand, 0),
+        ("queue", UsageKind::MissingOperand, 1),
+        ("stab --stats", UsageKind::MissingOperand, 2),
+        ("stab a b", UsageKind::ExtraOperand, 2),
         ("map", UsageKind::MissingOperand, 1),
         ("map --stats", UsageKind::MissingOperand, 2),
         ("map --block=64", UsageKind::MissingOperand, 2),
@@ -246,6 +252,29 @@ fn options_and_defaults_make_a_job(rt: HostRuntime) -> Result<(), Fail> {
         assert_eq!(rt; job.shape.frames(), frames, "at {line}");
         assert_eq!(rt; job.blocks, blocks, "at {line}");
         assert_eq!(rt; job.stats, stats, "at {line}");
+        assert_eq!(rt; job.file, file, "at {line}");
+    }
+    Ok(())
+}
+
+/// The kind, the frames, and the file's word: all but the kind is as for a map.
+#[test]
+fn commands_give_the_kind_of_file(rt: HostRuntime) -> Result<(), Fail> {
+    let cases: [(&str, FileKind, u64, u64); 5] = [
+        ("map a", FileKind::Map, 256, 1),
+        ("queue a", FileKind::Queue, 256, 1),
+        ("queue --stats stab", FileKind::Queue, 256, 2),
+        ("stab a", FileKind::Stab, 256, 1),
+        ("stab --frames=64 a", FileKind::Stab, 64, 2),
+    ];
+    for (line, kind, frames, file) in cases {
+        let read = job_of(&rt, line)?;
+        assert!(rt; read.is_ok(), "at {line}");
+        let Ok(job) = read else {
+            return Ok(());
+        };
+        assert!(rt; job.kind == kind, "at {line}");
+        assert_eq!(rt; job.shape.frames(), frames, "at {line}");
         assert_eq!(rt; job.file, file, "at {line}");
     }
     Ok(())

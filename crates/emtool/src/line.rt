@@ -3,6 +3,7 @@
 ghost use Rattle.std.specs.Prelude.{◌≡◌, ◌+◌, ◌<◌, ◌≤◌, ◌^◌, true, [], length, OnOk, IfOk, IfErr, IfSome, IfNone, IsTrue, Some};
 ghost use Rattle.em_io.specs.Feed.{rest};
 ghost use Rattle.emtool.specs.CommandLine.{at_end, map_command_of, queue_command_of, stab_command_of, table_command_of, command_of, parsed_from};
+ghost use Rattle.emtool.specs.Kind.{IsOfKind};
 ghost use Rattle.emtool.specs.Lines.{lines_of};
 ghost use Rattle.emtool.specs.LineTaken.{LineTaken};
 ghost use Rattle.emtool.specs.Stream.{line_at, after_line, parts_left};
@@ -31,6 +32,7 @@ fn read_end<H: Shelf>(feed: &mut Feed, shelf: &mut H, command: Command) -> Resul
         → Gives result (at_end (parts_left (rest feed.old (H.stand shelf.old))) command) }
     ensures line { IsTrue H.tells → OnOk result
         (rest feed.new (H.stand shelf.new) ≡ after_line (rest feed.old (H.stand shelf.old))) }
+    ensures command { IfOk result (λ c. c ≡ command) }
     ensures reads { ReadsLine 1 H.tells feed.old (H.stand shelf.old) (H.faults shelf.old)
         feed.new (H.stand shelf.new) (H.faults shelf.new) result }
 {
@@ -53,6 +55,7 @@ fn map_command<H: Shelf>(feed: &mut Feed, shelf: &mut H, word: &[u8]) -> Result<
         (map_command_of word.now (parts_left (rest feed.old (H.stand shelf.old)))) }
     ensures line { IsTrue H.tells → OnOk result
         (rest feed.new (H.stand shelf.new) ≡ after_line (rest feed.old (H.stand shelf.old))) }
+    ensures kind { IfOk result (IsOfKind FileKind.Map) }
     ensures reads { ReadsLine 43 H.tells feed.old (H.stand shelf.old) (H.faults shelf.old)
         feed.new (H.stand shelf.new) (H.faults shelf.new) result }
 {
@@ -80,6 +83,7 @@ fn queue_command<H: Shelf>(feed: &mut Feed, shelf: &mut H, word: &[u8]) -> Resul
         (queue_command_of word.now (parts_left (rest feed.old (H.stand shelf.old)))) }
     ensures line { IsTrue H.tells → OnOk result
         (rest feed.new (H.stand shelf.new) ≡ after_line (rest feed.old (H.stand shelf.old))) }
+    ensures kind { IfOk result (IsOfKind FileKind.Queue) }
     ensures reads { ReadsLine 43 H.tells feed.old (H.stand shelf.old) (H.faults shelf.old)
         feed.new (H.stand shelf.new) (H.faults shelf.new) result }
 {
@@ -103,6 +107,7 @@ fn stab_command<H: Shelf>(feed: &mut Feed, shelf: &mut H, word: &[u8]) -> Result
         (stab_command_of word.now (parts_left (rest feed.old (H.stand shelf.old)))) }
     ensures line { IsTrue H.tells → OnOk result
         (rest feed.new (H.stand shelf.new) ≡ after_line (rest feed.old (H.stand shelf.old))) }
+    ensures kind { IfOk result (IsOfKind FileKind.Stab) }
     ensures reads { ReadsLine 43 H.tells feed.old (H.stand shelf.old) (H.faults shelf.old)
         feed.new (H.stand shelf.new) (H.faults shelf.new) result }
 {
@@ -135,6 +140,7 @@ fn table_command<H: Shelf>(
         (table_command_of kind word.now (parts_left (rest feed.old (H.stand shelf.old)))) }
     ensures line { IsTrue H.tells → OnOk result
         (rest feed.new (H.stand shelf.new) ≡ after_line (rest feed.old (H.stand shelf.old))) }
+    ensures kind { IfOk result (IsOfKind kind) }
     ensures reads { ReadsLine 43 H.tells feed.old (H.stand shelf.old) (H.faults shelf.old)
         feed.new (H.stand shelf.new) (H.faults shelf.new) result }
 {
@@ -159,6 +165,7 @@ fn filled_command<H: Shelf>(
         → Gives result (command_of kind (line_at (rest feed.old (H.stand shelf.old)))) }
     ensures line { IsTrue H.tells → OnOk result
         (rest feed.new (H.stand shelf.new) ≡ after_line (rest feed.old (H.stand shelf.old))) }
+    ensures kind { IfOk result (IsOfKind kind) }
     ensures reads { ReadsLine 48 H.tells feed.old (H.stand shelf.old) (H.faults shelf.old)
         feed.new (H.stand shelf.new) (H.faults shelf.new) result }
 {
@@ -184,6 +191,7 @@ pub fn read_command<H: Shelf>(
         → Gives result (command_of kind (line_at (rest feed.old (H.stand shelf.old)))) }
     ensures line { IsTrue H.tells → OnOk result
         (rest feed.new (H.stand shelf.new) ≡ after_line (rest feed.old (H.stand shelf.old))) }
+    ensures kind { IfOk result (IsOfKind kind) }
     ensures reads { ReadsLine 48 H.tells feed.old (H.stand shelf.old) (H.faults shelf.old)
         feed.new (H.stand shelf.new) (H.faults shelf.new) result }
 {
@@ -213,6 +221,7 @@ pub fn take_line<H: Shelf>(
     ensures fault { IsTrue H.tells → IfErr result (λ stop. IfFault stop (λ fault.
         parsed_from kind number (lines_of (rest feed.old (H.stand shelf.old)))
         ≡ record { good = []; fault = Some (fault, number) })) }
+    ensures kind { IfOk result (λ next. IfSome next (IsOfKind kind)) }
     ensures reads { ReadsLine 48 H.tells feed.old (H.stand shelf.old) (H.faults shelf.old)
         feed.new (H.stand shelf.new) (H.faults shelf.new) result }
 {

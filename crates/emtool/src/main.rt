@@ -9,9 +9,9 @@ ghost use Rattle.em_io.specs.Sink.{SentPart};
 ghost use Rattle.emtool.specs.Outcome.{report_text};
 ghost use Rattle.emtool.specs.Status.{OnDone};
 
-mod answer;
 mod byte;
-mod command_record;
+#[cfg(test)]
+mod command_tests;
 #[cfg(test)]
 mod device_tests;
 mod help;
@@ -22,10 +22,14 @@ mod line;
 mod operand;
 mod option;
 mod outcome;
+mod print;
 mod read;
 mod report;
 mod run;
+mod serve;
+mod service;
 mod status;
+mod stop;
 #[cfg(test)]
 mod tests;
 mod text;

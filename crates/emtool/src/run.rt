@@ -1,87 +1,178 @@
-ghost use Rattle.std.specs.Prelude.{◌≡◌, ◌≤◌, true, [], IsTrue};
-ghost use Rattle.em_record.specs.Shape.{payload_of};
-ghost use Rattle.em_io.specs.Shelf.{Leaves, IsFresh};
+// One run of a command file on an open rig.
+ghost use Rattle.std.specs.Prelude.{◌≡◌, ◌≤◌, true, []};
+ghost use Rattle.em_io.specs.Shelf.{IsFresh};
+ghost use Rattle.em_space.specs.Queue.{CanServe, fresh_counts};
 ghost use Rattle.em_space.specs.Rig.{Sound, Goes};
 ghost use Rattle.em_space.specs.Seen.{seen};
+ghost use Rattle.em_chain.specs.Effects.{GivesFrame};
+ghost use Rattle.em_plain.specs.CommandList.{BeginsList};
+ghost use Rattle.em_plain.specs.ScanQueue.{IsScanQueue, counts_of};
 ghost use Rattle.emtool.specs.Due.{text_of};
-ghost use Rattle.emtool.specs.Run.{outside, em_status, Ended, Caused, OpensOnly};
+ghost use Rattle.emtool.specs.Run.{outside, stop_status, Ended, Caused, IsReady, OpensOnly, ReadsFirst};
+ghost use Rattle.emtool.specs.Service.{kind_is, list_of};
 ghost use Rattle.emtool.specs.Status.{OnUsage, OnNoMemory};
 
-use crate::answer::{AnswerStop, answer_all};
-use crate::read::{ReadStop, read_commands};
+use crate::print::print_answers;
+use crate::read::read_answers;
+use crate::serve::serve;
+use crate::service::Service;
 use crate::status::{Malform, Status};
+use crate::stop::Stop;
+use crate::text::FileKind;
 use em_frames::Device;
 use em_io::{Feed, Shelf, Sink, Slot};
-use em_space::{EmFault, Rig};
+use em_plain::ScanQueue;
+use em_space::{EmFault, Queue, Rig};
 
-/// The status of a fault of the rig.
-fn em_status_of(fault: EmFault) -> Status
-    ensures is { result ≡ em_status fault }
+/// The status of a run that stopped.
+fn status_of(stop: Stop) -> Status
+    ensures is { result ≡ stop_status stop }
     ensures no_usage { OnUsage result ⊥ }
     ensures no_memory { OnNoMemory result ⊥ }
 {
-    match fault {
-        EmFault::DeviceFault => Status::DeviceFault,
-        EmFault::Full { used } => Status::Full { used },
-        EmFault::Damaged { block } => Status::Damaged { block },
+    match stop {
+        Stop::Fault { kind, line } => Status::Malformed {
+            kind: Malform::Text(kind),
+            place: line,
+        },
+        Stop::Read => Status::ReadFault,
+        Stop::Write => Status::WriteFault,
+        Stop::Em(EmFault::DeviceFault) => Status::DeviceFault,
+        Stop::Em(EmFault::Full { used }) => Status::Full { used },
+        Stop::Em(EmFault::Damaged { block }) => Status::Damaged { block },
     }
 }
 
-/// Reads the commands of the open slot, and prints their answers, on a rig of which no block is in
-/// use.
-fn run_open<D: Device, H: Shelf, W: Sink>(
+/// Reads the commands of the open slot into a service of their kind that has none, and prints their
+/// answers.
+fn run_service<D: Device, H: Shelf, W: Sink>(
+    kind: FileKind,
     rig: &mut Rig<'_, D>,
+    service: Service,
     shelf: &mut H,
     out: &mut W,
 ) -> Status
     requires sound { Sound (seen D.state rig.old) }
-    requires free { 3 ≤ (seen D.state rig.old).pool.free }
+    requires free { 6 ≤ (seen D.state rig.old).pool.free }
+    requires begins { BeginsList (seen D.state rig.old) (list_of service) }
+    requires kind { kind_is service ≡ kind }
     requires used { (seen D.state rig.old).used ≡ 0 }
+    requires none_ever { (seen D.state rig.old).most ≡ 0 }
     requires ready { ((H.stand shelf.old).slot Slot.First).ready ≡ true }
-    ensures goes { Goes [] (seen D.state rig.old) (seen D.state rig.new) }
-    ensures ended { Ended H.tells W.took ((H.stand shelf.old).slot Slot.First).left
-        (payload_of (seen D.state rig.old).pool.shape) (seen D.state rig.old).blocks
+    ensures gives { GivesFrame [] (seen D.state rig.old) (seen D.state rig.new) }
+    ensures ended { Ended H.tells W.took kind ((H.stand shelf.old).slot Slot.First).left
+        (seen D.state rig.old).pool.shape (seen D.state rig.old).blocks
         (outside H.Shelf W.Sink (seen D.state rig.old).device shelf.old out.old)
         (outside H.Shelf W.Sink (seen D.state rig.new).device shelf.new out.new) result }
     ensures caused { Caused
         (outside H.Shelf W.Sink (seen D.state rig.old).device shelf.old out.old)
         (outside H.Shelf W.Sink (seen D.state rig.new).device shelf.new out.new) result }
-    ensures leaves { Leaves Slot.First (H.stand shelf.old) (H.stand shelf.new) }
-    ensures lost { IsTrue H.tells → ((H.stand shelf.new).slot Slot.First).lost
-        ≡ ((H.stand shelf.old).slot Slot.First).lost }
+    ensures reads { ReadsFirst H.tells (H.stand shelf.old) (H.stand shelf.new) }
     ensures no_usage { OnUsage result ⊥ }
     ensures no_memory { OnNoMemory result ⊥ }
 {
     let mut feed = Feed::new(Slot::First);
-    match read_commands(rig, &mut feed, shelf) {
-        Ok(chain) => match answer_all(rig, &chain, out) {
+    match read_answers(kind, rig, service, &mut feed, shelf) {
+        Ok(answers) => match print_answers(kind, rig, &answers, out) {
             Ok(()) => Status::Done,
-            Err(AnswerStop::Write) => Status::WriteFault,
-            Err(AnswerStop::Em(fault)) => em_status_of(fault),
+            Err(stop) => status_of(stop),
         },
-        Err(ReadStop::Read) => Status::ReadFault,
-        Err(ReadStop::Fault { kind, line }) => Status::Malformed {
-            kind: Malform::Text(kind),
-            place: line,
-        },
-        Err(ReadStop::Em(fault)) => em_status_of(fault),
+        Err(stop) => status_of(stop),
     }
 }
 
-/// Answers the map file of this name on an open rig of which no block is in use.
-pub fn run_map<D: Device, H: Shelf, W: Sink>(
+/// Answers the commands of the open slot by a queue, and prints each answer when its pop is read.
+fn run_queue<D: Device, H: Shelf, W: Sink>(
+    rig: &mut Rig<'_, D>,
+    mut queue: ScanQueue,
+    shelf: &mut H,
+    out: &mut W,
+) -> Status
+    requires sound { Sound (seen D.state rig.old) }
+    requires free { CanServe (seen D.state rig.old).pool }
+    requires is { IsScanQueue (seen D.state rig.old) queue }
+    requires fresh { counts_of queue ≡ fresh_counts 1 0 }
+    requires used { (seen D.state rig.old).used ≡ 0 }
+    requires none_ever { (seen D.state rig.old).most ≡ 0 }
+    requires ready { ((H.stand shelf.old).slot Slot.First).ready ≡ true }
+    ensures gives { GivesFrame [] (seen D.state rig.old) (seen D.state rig.new) }
+    ensures ended { Ended H.tells W.took FileKind.Queue ((H.stand shelf.old).slot Slot.First).left
+        (seen D.state rig.old).pool.shape (seen D.state rig.old).blocks
+        (outside H.Shelf W.Sink (seen D.state rig.old).device shelf.old out.old)
+        (outside H.Shelf W.Sink (seen D.state rig.new).device shelf.new out.new) result }
+    ensures caused { Caused
+        (outside H.Shelf W.Sink (seen D.state rig.old).device shelf.old out.old)
+        (outside H.Shelf W.Sink (seen D.state rig.new).device shelf.new out.new) result }
+    ensures reads { ReadsFirst H.tells (H.stand shelf.old) (H.stand shelf.new) }
+    ensures no_usage { OnUsage result ⊥ }
+    ensures no_memory { OnNoMemory result ⊥ }
+{
+    let mut feed = Feed::new(Slot::First);
+    let done = serve(rig, &mut queue, &mut feed, shelf, out);
+    queue.abandon(rig);
+    match done {
+        Ok(()) => Status::Done,
+        Err(stop) => status_of(stop),
+    }
+}
+
+/// Answers the commands of the open slot, on a rig of which no block is or was in use.
+fn run_open<D: Device, H: Shelf, W: Sink>(
+    kind: FileKind,
+    rig: &mut Rig<'_, D>,
+    shelf: &mut H,
+    out: &mut W,
+) -> Status
+    requires sound { Sound (seen D.state rig.old) }
+    requires free { IsReady (seen D.state rig.old).pool }
+    requires used { (seen D.state rig.old).used ≡ 0 }
+    requires none_ever { (seen D.state rig.old).most ≡ 0 }
+    requires ready { ((H.stand shelf.old).slot Slot.First).ready ≡ true }
+    ensures goes { Goes [] (seen D.state rig.old) (seen D.state rig.new) }
+    ensures ended { Ended H.tells W.took kind ((H.stand shelf.old).slot Slot.First).left
+        (seen D.state rig.old).pool.shape (seen D.state rig.old).blocks
+        (outside H.Shelf W.Sink (seen D.state rig.old).device shelf.old out.old)
+        (outside H.Shelf W.Sink (seen D.state rig.new).device shelf.new out.new) result }
+    ensures caused { Caused
+        (outside H.Shelf W.Sink (seen D.state rig.old).device shelf.old out.old)
+        (outside H.Shelf W.Sink (seen D.state rig.new).device shelf.new out.new) result }
+    ensures reads { ReadsFirst H.tells (H.stand shelf.old) (H.stand shelf.new) }
+    ensures no_usage { OnUsage result ⊥ }
+    ensures no_memory { OnNoMemory result ⊥ }
+{
+    match kind {
+        FileKind::Map => match Service::map(rig) {
+            Ok(service) => run_service(kind, rig, service, shelf, out),
+            Err(fault) => status_of(Stop::Em(fault)),
+        },
+        FileKind::Queue => match ScanQueue::new(rig) {
+            Ok(queue) => run_queue(rig, queue, shelf, out),
+            Err(fault) => status_of(Stop::Em(fault)),
+        },
+        FileKind::Stab => match Service::stab(rig) {
+            Ok(service) => run_service(kind, rig, service, shelf, out),
+            Err(fault) => status_of(Stop::Em(fault)),
+        },
+    }
+}
+
+/// Answers the command file of this name and kind, on an open rig of which no block is or was in
+/// use.
+pub fn run_file<D: Device, H: Shelf, W: Sink>(
+    kind: FileKind,
     rig: &mut Rig<'_, D>,
     shelf: &mut H,
     name: &str,
     out: &mut W,
 ) -> Status
     requires sound { Sound (seen D.state rig.old) }
-    requires free { 3 ≤ (seen D.state rig.old).pool.free }
+    requires free { IsReady (seen D.state rig.old).pool }
     requires used { (seen D.state rig.old).used ≡ 0 }
+    requires none_ever { (seen D.state rig.old).most ≡ 0 }
     requires fresh { IsFresh (H.stand shelf.old) }
     ensures goes { Goes [] (seen D.state rig.old) (seen D.state rig.new) }
-    ensures ended { Ended H.tells W.took (text_of (H.stand shelf.old) name.now)
-        (payload_of (seen D.state rig.old).pool.shape) (seen D.state rig.old).blocks
+    ensures ended { Ended H.tells W.took kind (text_of (H.stand shelf.old) name.now)
+        (seen D.state rig.old).pool.shape (seen D.state rig.old).blocks
         (outside H.Shelf W.Sink (seen D.state rig.old).device shelf.old out.old)
         (outside H.Shelf W.Sink (seen D.state rig.new).device shelf.new out.new) result }
     ensures caused { Caused
@@ -94,5 +185,5 @@ pub fn run_map<D: Device, H: Shelf, W: Sink>(
     let Ok(()) = shelf.open(Slot::First, name) else {
         return Status::ReadFault;
     };
-    run_open(rig, shelf, out)
+    run_open(kind, rig, shelf, out)
 }

@@ -5,7 +5,7 @@ use crate::help::HELP;
 use crate::job::Job;
 use crate::outcome::Stats;
 use crate::status::{Malform, Status, UsageKind};
-use crate::text::TextKind;
+use crate::text::{FileKind, TextKind};
 use crate::top::{emtool, run_pool};
 use crate::{asked_text, print_text};
 use em_frames::{Device, Grant, MemDevice};
@@ -53,8 +53,8 @@ pub fn run(
     run_over(&mut device, rt, words, text, setting)
 }
 
-/// The same over a device that isn't begun yet. A read of the shelf gives at most 5 bytes, and a call
-/// of the error stream takes at most 7.
+/// The same over a device that isn't begun yet. A read of the shelf gives at most 5 bytes, and a
+/// call of the error stream takes at most 7.
 pub fn run_over<D: Device>(
     device: &mut D,
     rt: &HostRuntime,
@@ -251,15 +251,15 @@ fn words_that_name_no_job_are_refused(rt: HostRuntime) -> Result<(), Fail> {
 fn every_shape_answers_alike_and_says_its_cost(rt: HostRuntime) -> Result<(), Fail> {
     let cases: [(&[&str], &[u8]); 5] = [
         (&["map", "a"], b""),
-        (&["map", "--stats", "a"], b"moves 5 peak 2\n"),
+        (&["map", "--stats", "a"], b"moves 9 peak 3\n"),
         (
             &["map", "--block=128", "--frames=64", "--stats", "a"],
-            b"moves 5 peak 2\n",
+            b"moves 9 peak 3\n",
         ),
         (&["map", "--block=65536", "--frames=64", "a"], b""),
         (
             &["map", "--frames=1024", "--block=2048", "--stats", "a"],
-            b"moves 5 peak 2\n",
+            b"moves 9 peak 3\n",
         ),
     ];
     for (words, message) in cases {
@@ -271,9 +271,10 @@ fn every_shape_answers_alike_and_says_its_cost(rt: HostRuntime) -> Result<(), Fa
     Ok(())
 }
 
-/// 254 records fill two blocks of 127: two moves store them, two read them on the way over the whole
-/// list, and two again for the get. Where a line behind them is faulty, one block was stored, and the
-/// other still stands in the frame.
+/// 254 records fill two blocks of 127: two moves store them, two read them on the way over the
+/// whole list, and two again for the get. The answer's block is stored, two moves release each
+/// block of the commands, and one reads the answer. Where a line behind them is faulty, one block
+/// was stored, and the other still stands in the frame.
 #[test]
 fn statistics_follow_the_message(rt: HostRuntime) -> Result<(), Fail> {
     let mut text = Vec::new(rt.alloc());
@@ -281,11 +282,11 @@ fn statistics_follow_the_message(rt: HostRuntime) -> Result<(), Fail> {
         text.extend_from_slice(b"put 1 2\n")?;
     }
     text.extend_from_slice(b"get 1\n")?;
-    let words = ["map", "--block=128", "--stats", "--blocks=2", "a"];
+    let words = ["map", "--block=128", "--stats", "--blocks=3", "a"];
     let (status, out, err) = run(&rt, &words, &text, PLAIN)?;
     assert!(rt; status == Status::Done);
     assert_eq!(rt; out.bytes(), b"2\n".as_slice());
-    assert_eq!(rt; err.bytes(), b"moves 6 peak 2\n".as_slice());
+    assert_eq!(rt; err.bytes(), b"moves 12 peak 3\n".as_slice());
     text.extend_from_slice(b"gut 1\n")?;
     let (status, out, err) = run(&rt, &words, &text, PLAIN)?;
     assert!(rt; status == malformed(TextKind::Unknown, 255));
@@ -308,7 +309,8 @@ fn a_name_that_is_not_there_is_a_read_fault(rt: HostRuntime) -> Result<(), Fail>
 }
 
 /// Call 0 begins the device, call 1 writes the one block of so small a file, and call 2 reads it in
-/// search of gets. Then each get reads it, but where no command stands before it.
+/// search of gets. Then each get reads it, but where no command stands before it. One call writes
+/// the answers, two release the block of the commands, and the last one reads the answers.
 #[test]
 fn each_failing_call_of_the_device_is_a_device_fault(rt: HostRuntime) -> Result<(), Fail> {
     let failed: &[u8] = b"emtool: the scratch device failed\n";
@@ -317,14 +319,14 @@ fn each_failing_call_of_the_device_is_a_device_fault(rt: HostRuntime) -> Result<
         (FIRST, 1, Status::DeviceFault, b"", failed),
         (FIRST, 2, Status::DeviceFault, b"", failed),
         (FIRST, 3, Status::DeviceFault, b"", failed),
-        (FIRST, 4, Status::DeviceFault, b"10\n", failed),
-        (FIRST, 5, Status::DeviceFault, b"10\n11\n", failed),
-        (FIRST, 6, Status::Done, b"10\n11\n-\n", b""),
+        (FIRST, 6, Status::DeviceFault, b"", failed),
+        (FIRST, 7, Status::DeviceFault, b"", failed),
+        (FIRST, 9, Status::DeviceFault, b"", failed),
+        (FIRST, 10, Status::Done, b"10\n11\n-\n", b""),
         (ENDS, 0, Status::DeviceFault, b"", failed),
-        (ENDS, 2, Status::DeviceFault, b"", failed),
-        (ENDS, 3, Status::DeviceFault, b"-\n", failed),
-        (ENDS, 4, Status::DeviceFault, b"-\n8\n", failed),
-        (ENDS, 5, Status::Done, b"-\n8\n7\n", b""),
+        (ENDS, 4, Status::DeviceFault, b"", failed),
+        (ENDS, 8, Status::DeviceFault, b"", failed),
+        (ENDS, 9, Status::Done, b"-\n8\n7\n", b""),
     ];
     for (text, call, status, output, message) in cases {
         let failing = [call];
@@ -410,8 +412,9 @@ fn a_failing_error_stream_changes_no_status(rt: HostRuntime) -> Result<(), Fail>
 }
 
 /// The keys 0 to 2049, each with the value 3 above it, fill two blocks of 1023, and the last four
-/// stand in a third one with the gets. Calls 1 to 3 of the device write the blocks, 4 to 6 read them
-/// in search of gets, and each of the three gets reads all of them: there is no call 16.
+/// stand in a third one with the gets. Calls 1 to 3 of the device write the blocks, 4 to 6 read
+/// them in search of gets, and each of the three gets reads all of them. Call 16 writes the
+/// answers, 17 to 22 release the blocks, and 23 reads the answers: there is no call 24.
 #[test]
 fn a_map_of_several_blocks_is_answered(rt: HostRuntime) -> Result<(), Fail> {
     let alloc = rt.alloc();
@@ -427,11 +430,11 @@ fn a_map_of_several_blocks_is_answered(rt: HostRuntime) -> Result<(), Fail> {
         (4, Status::DeviceFault, b""),
         (6, Status::DeviceFault, b""),
         (9, Status::DeviceFault, b""),
-        (10, Status::DeviceFault, b"8\n"),
-        (12, Status::DeviceFault, b"8\n"),
-        (13, Status::DeviceFault, b"8\n2050\n"),
-        (15, Status::DeviceFault, b"8\n2050\n"),
-        (16, Status::Done, b"8\n2050\n-\n"),
+        (15, Status::DeviceFault, b""),
+        (16, Status::DeviceFault, b""),
+        (22, Status::DeviceFault, b""),
+        (23, Status::DeviceFault, b""),
+        (24, Status::Done, b"8\n2050\n-\n"),
     ];
     for (call, status, output) in cases {
         let failing = [call];
@@ -464,6 +467,7 @@ fn a_small_device_is_full(rt: HostRuntime) -> Result<(), Fail> {
     };
     let pool = Grant::new(alloc).pool(shape)?;
     let job = Job {
+        kind: FileKind::Map,
         shape,
         blocks: 3,
         stats: true,
@@ -476,9 +480,10 @@ fn a_small_device_is_full(rt: HostRuntime) -> Result<(), Fail> {
     Ok(())
 }
 
-/// At the smallest shape 508 records fill four blocks of 127: a device of three is full, of which two
-/// are stored, and one of four takes them all. Four stores, four reads on the way over the list, and
-/// four for the get.
+/// At the smallest shape 508 records fill four blocks of 127: a device of three is full, of which
+/// two are stored, and one of five takes them all and the answer. Four stores, four reads on the
+/// way over the list, and four for the get; the answer is stored, eight moves release the blocks,
+/// and one reads the answer.
 #[test]
 fn a_device_of_so_many_blocks_is_full(rt: HostRuntime) -> Result<(), Fail> {
     let mut text = Vec::new(rt.alloc());
@@ -503,14 +508,14 @@ fn a_device_of_so_many_blocks_is_full(rt: HostRuntime) -> Result<(), Fail> {
         "map",
         "--block=128",
         "--frames=64",
-        "--blocks=4",
+        "--blocks=5",
         "--stats",
         "a",
     ];
     let (status, out, err) = run(&rt, &words, &text, PLAIN)?;
     assert!(rt; status == Status::Done);
     assert_eq!(rt; out.bytes(), b"2\n".as_slice());
-    assert_eq!(rt; err.bytes(), b"moves 12 peak 2\n".as_slice());
+    assert_eq!(rt; err.bytes(), b"moves 22 peak 3\n".as_slice());
     Ok(())
 }
 
@@ -543,7 +548,7 @@ fn statistics_come_where_a_run_was_stopped(rt: HostRuntime) -> Result<(), Fail> 
                 out_fails: &fails,
                 ..PLAIN
             },
-            b"emtool: the output could not be written\nmoves 3 peak 2\n",
+            b"emtool: the output could not be written\nmoves 9 peak 3\n",
         ),
     ];
     for (words, setting, message) in cases {

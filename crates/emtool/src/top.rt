@@ -1,7 +1,6 @@
 ghost use Rattle.std.specs.Prelude.{◌≡◌, ◌-◌, ◌<◌, ◌≤◌, ◌^◌, ◌⊎◌, length, IsTrue, IsFalse, Ok};
 ghost use Rattle.std.specs.Result.{result_err};
 ghost use Rattle.em_record.specs.Count.{Rose};
-ghost use Rattle.em_record.specs.Shape.{payload_of};
 ghost use Rattle.em_io.specs.Shelf.{IsFresh};
 ghost use Rattle.em_io.specs.Sink.{SentPart};
 ghost use Rattle.em_frames.specs.Pool.{fresh_pool};
@@ -15,7 +14,7 @@ ghost use Rattle.emtool.specs.Status.{refusal_of, IfEndsFull, IfEndsDamaged, OnB
 use crate::job::{Job, read_job};
 use crate::outcome::{Outcome, stats_of, unmoved};
 use crate::report::report;
-use crate::run::run_map;
+use crate::run::run_file;
 use crate::status::Status;
 use em_frames::{BeginFault, Device, Grant, Pool};
 use em_io::{Shelf, Sink, Slot};
@@ -35,8 +34,8 @@ pub fn run_pool<D: Device, H: Shelf, W: Sink>(
     requires blocks_high { job.now.blocks ≤ 2 ^ 40 }
     requires device { (D.state device.old).blocks ≡ 0 }
     requires shelf { IsFresh (H.stand shelf.old) }
-    ensures ended { Ended H.tells W.took (text_of (H.stand shelf.old) name.now)
-        (payload_of job.now.shape) job.now.blocks
+    ensures ended { Ended H.tells W.took job.now.kind (text_of (H.stand shelf.old) name.now)
+        job.now.shape job.now.blocks
         (outside H.Shelf W.Sink (D.state device.old) shelf.old out.old)
         (outside H.Shelf W.Sink (D.state device.new) shelf.new out.new) result.status }
     ensures caused { Caused
@@ -53,7 +52,7 @@ pub fn run_pool<D: Device, H: Shelf, W: Sink>(
 {
     match Rig::open(job.shape, job.blocks, device, pool) {
         Ok(mut rig) => {
-            let status = run_map(&mut rig, shelf, name, out);
+            let status = run_file(job.kind, &mut rig, shelf, name, out);
             let stats = stats_of(&rig, job.stats);
             let pool = rig.close();
             pool.end();
@@ -89,9 +88,9 @@ fn run_words<D: Device, H: Shelf, W: Sink>(
     ensures words { refusal_of result.status ≡ result_err (job_of (texts_of words.now)) }
     ensures as_before { OnUsage result.status
         ((device.new ≡ device.old) × (shelf.new ≡ shelf.old) × (out.new ≡ out.old)) }
-    ensures ended { ForJob (texts_of words.now) (λ job. Ended H.tells W.took
+    ensures ended { ForJob (texts_of words.now) (λ job. Ended H.tells W.took job.kind
         (text_of (H.stand shelf.old) (file_name (texts_of words.now) job))
-        (payload_of job.shape) job.blocks
+        job.shape job.blocks
         (outside H.Shelf W.Sink (D.state device.old) shelf.old out.old)
         (outside H.Shelf W.Sink (D.state device.new) shelf.new out.new) result.status) }
     ensures caused { Caused
@@ -138,7 +137,7 @@ fn run_words<D: Device, H: Shelf, W: Sink>(
 }
 
 /// Runs the job that the words name: `words` are those behind the program's name. Answers of the
-/// map file go to `out`, the message of a status other than `Done` and the line of `--stats` to
+/// command file go to `out`, the message of a status other than `Done` and the line of `--stats` to
 /// `err`, and commands that don't fit into the frames of `grant` to `device`. A fault of `err`
 /// changes nothing: writing there stops.
 ///
@@ -163,18 +162,19 @@ pub fn emtool<D: Device, H: Shelf, W: Sink, E: Sink>(
 
     // Answers: where the input was read to its end or to its first fault, status and output are
     // what is due; and the device has the sizes of the job.
-    ensures answers { ForText (texts_of words.now) (H.stand shelf.old) (λ text.
-        IsTrue H.tells → IsTrue (D.state device.old).told → OnEnd result ((result ≡ due_status text)
-        × (W.state out.new ≡ W.took (W.state out.old) (output_text text)))) }
+    ensures answers { ForText (texts_of words.now) (H.stand shelf.old) (λ job text.
+        IsTrue H.tells → IsTrue (D.state device.old).told
+        → OnEnd result ((result ≡ due_status job.kind text)
+        × (W.state out.new ≡ W.took (W.state out.old) (output_text job.kind text)))) }
     ensures begun { ForJob (texts_of words.now) (λ job.
         OnBegun result (HasSizes job (D.state device.new))) }
     ensures all_read { ForJob (texts_of words.now) (λ job.
         OnDone result (IsAllRead H.tells ((H.stand shelf.new).slot Slot.First))) }
 
     // Prefix: at every end the output took a front of what is due.
-    ensures prefix { ForText (texts_of words.now) (H.stand shelf.old) (λ text.
+    ensures prefix { ForText (texts_of words.now) (H.stand shelf.old) (λ job text.
         IsTrue H.tells → IsTrue (D.state device.old).told
-        → SentPart W.took (W.state out.old) (output_text text) (W.state out.new)) }
+        → SentPart W.took (W.state out.old) (output_text job.kind text) (W.state out.new)) }
 
     // Causes, one for each status. None of them is a fault of the error stream.
     ensures opens { ForJob (texts_of words.now) (λ job. OpensOnly H.tells
@@ -205,7 +205,8 @@ pub fn emtool<D: Device, H: Shelf, W: Sink, E: Sink>(
         (outside H.Shelf W.Sink (D.state device.new) shelf.new out.new)
         → stated_room job (text_of (H.stand shelf.old) (file_name (texts_of words.now) job))
         ((H.stand shelf.new).slot Slot.First).left ≤ job.blocks
-        → (result ≡ due_status (text_of (H.stand shelf.old) (file_name (texts_of words.now) job)))
+        → (result ≡ due_status job.kind
+        (text_of (H.stand shelf.old) (file_name (texts_of words.now) job)))
         ⊎ (result ≡ Status.NoMemory)) }
 
     // Frames and the error stream: memory comes by the grant alone, which is consumed here; and

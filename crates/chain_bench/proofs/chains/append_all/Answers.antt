@@ -1,8 +1,10 @@
 use Rattle.std.proofs.Common.{◌∙◌, [], arith}
 use Rattle.em_space.specs.Seen.{seen}
 use Rattle.em_chain.specs.Writer.{writer_blocks, writer_items}
-use Rattle.em_chain.proofs.Withins.{within_grows, within_then}
-use Rattle.chain_bench.proofs.Laws.{goes_within, written_more}
+use Rattle.em_space.proofs.Within.{within_then}
+use Rattle.em_chain.proofs.Withins.{within_grows}
+use Rattle.em_space.proofs.Within.{goes_within}
+use Rattle.chain_bench.proofs.Laws.{written_more}
 use Rattle.chain_bench.proofs.chains.append_all.Goals as goal
 
 pub loop-number-preserved : goal.loop-number-preserved

@@ -3,7 +3,7 @@ use Rattle.em_space.specs.Rig.{Goes}
 use Rattle.em_space.specs.Seen.{seen}
 use Rattle.em_chain.specs.Chain.{chain_blocks}
 use Rattle.em_chain.specs.Reader.{IsReader, reader_items, rest_of}
-use Rattle.em_chain.specs.Within.{Within}
+use Rattle.em_space.specs.Held.{Within}
 use Rattle.chain_bench.specs.Numbered.{sum_from}
 use Rattle.chain_bench.proofs.chains.take_all.Given as goal
 

@@ -9,7 +9,7 @@ use Rattle.em_space.specs.Seen.{seen}
 use Rattle.em_space.specs.declared.fault.EmFault.{EmFault}
 use Rattle.em_space.proofs.Steps.{touches_then}
 use Rattle.em_chain.specs.Chain.{chain_items}
-use Rattle.em_chain.specs.Order.{record_cmp, is_below}
+use Rattle.em_record.specs.Order.{record_cmp, is_below}
 use Rattle.em_chain.specs.Writer.{writer_blocks, writer_items}
 use Rattle.em_chain.specs.Writes.{Finishes}
 use Rattle.em_chain.specs.declared.chain.Chain.{Chain}

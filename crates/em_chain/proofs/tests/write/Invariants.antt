@@ -3,7 +3,7 @@ use Rattle.std.specs.List.Sorted.{IsSorted}
 use Rattle.em_record.specs.declared.record.Record.{Record}
 use Rattle.em_space.specs.Seen.{seen}
 use Rattle.em_chain.specs.Loops.{Writing}
-use Rattle.em_chain.specs.Order.{record_cmp}
+use Rattle.em_record.specs.Order.{record_cmp}
 use Rattle.em_chain.proofs.tests.write.Given as goal
 
 abbrev pub invariant-loop-place : goal.invariant-loop-place

@@ -1,4 +1,4 @@
-use Rattle.std.proofs.Common.{◌-◌, List, rules, ap}
+use Rattle.std.proofs.Common.{◌-◌, List, rules, ap, refl}
 use Rattle.std.proofs.lemmas.Bool.{false≢true}
 use Rattle.em_record.specs.declared.record.Record.{Record}
 use Rattle.em_space.specs.Free.{header}
@@ -30,4 +30,4 @@ returns-clause-reads g c =
     let h = ap (λ (xs : List Record). (header xs).a) c.records.ensures in
     last_is s t c.args.self.now _ c.tail_after-self.result i.is i.loaded c.requires.last.last h
     c.tail_after-self.ensures.none c.tail_after-self.ensures.some c.let_go.ensures.goes.touches
-    (search rules)
+    (search rules) (c.if-not-leads_on.ensures.none_left refl)

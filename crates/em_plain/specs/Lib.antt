@@ -1,0 +1,14 @@
+pub mod Adds
+pub mod Answering
+pub mod Collects
+pub mod Command
+pub mod CommandList
+pub mod Least
+pub mod MapAnswers
+pub mod QueueLaws
+pub mod Room
+pub mod ScanMap
+pub mod ScanQueue
+pub mod ScanStab
+pub mod StabAnswers
+pub mod StabScan

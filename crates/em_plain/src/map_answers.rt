@@ -1,0 +1,227 @@
+ghost use Rattle.std.specs.Prelude.{◌≡◌, ◌∷◌, ◌+◌, ◌<◌, ◌≤◌, [], None, length, take, OnOk, OnErr, IfOk, IfErr, IsTrue, false};
+ghost use Rattle.em_record.specs.Shape.{payload_of};
+ghost use Rattle.em_frames.specs.Pool.{HasFrames};
+ghost use Rattle.em_model.specs.Map.{value_from};
+ghost use Rattle.em_space.specs.Held.{Apart};
+ghost use Rattle.em_space.specs.Rig.{BlockCause, Cause, Goes, Sound};
+ghost use Rattle.em_space.specs.Seen.{seen};
+ghost use Rattle.em_chain.specs.Chain.{IsChain, chain_blocks, chain_items};
+ghost use Rattle.em_chain.specs.Counts.{ceiling};
+ghost use Rattle.em_chain.specs.Reader.{IsReader, reader_items};
+ghost use Rattle.em_chain.specs.Writer.{CanGrow, IsWriter, writer_blocks};
+ghost use Rattle.em_plain.specs.Answering.{AnswersAll, AnswersOne, ReadsAt};
+ghost use Rattle.em_plain.specs.Collects.{GaveUp, Looks};
+ghost use Rattle.em_plain.specs.Command.{command_in, commands_in};
+ghost use Rattle.em_plain.specs.MapAnswers.{answer_record, next_answers, answers_at};
+
+use crate::command_record::to_command;
+use em_chain::{Chain, Reader, Writer};
+use em_frames::Device;
+use em_model::Command;
+use em_record::Record;
+use em_space::{EmFault, Rig};
+
+/// The value of a key after one more command, where it had this value, or none, before it.
+fn value_after(item: Record, key: u64, before: Option<u64>) -> Option<u64>
+    ensures { result ≡ value_from key before (command_in item ∷ []) }
+{
+    match to_command(item) {
+        Command::Put { key: other, value } if key == other => Some(value),
+        Command::Del { key: other } if key == other => None,
+        _ => before,
+    }
+}
+
+/// The record of the answer to the get of this number.
+fn to_answer(number: u64, answer: Option<u64>) -> Record
+    ensures { result ≡ answer_record number answer }
+{
+    match answer {
+        Some(value) => Record {
+            a: number,
+            b: 1,
+            c: value,
+            d: 0,
+        },
+        None => Record {
+            a: number,
+            b: 0,
+            c: 0,
+            d: 0,
+        },
+    }
+}
+
+/// The value of a key after the next `number` commands of a reader.
+fn value_by<D: Device>(
+    rig: &mut Rig<'_, D>,
+    reader: &mut Reader,
+    number: u64,
+    key: u64,
+) -> Result<Option<u64>, EmFault>
+    requires sound { Sound (seen D.state rig.old) }
+    requires is { IsReader (seen D.state rig.old) reader.old }
+    requires over { reader.old.taking ≡ false }
+    requires free { 0 < (seen D.state rig.old).pool.free }
+    requires number { number ≤ reader.old.count }
+    ensures looks { Looks (seen D.state rig.old) (seen D.state rig.new) }
+    ensures frame { HasFrames 1 (length reader.new.frame) (seen D.state rig.new).pool }
+    ensures value { IsTrue (seen D.state rig.old).device.told → IfOk result (λ value.
+        value ≡ value_from key None
+        (commands_in (take number (reader_items (seen D.state rig.old) reader.old)))) }
+    ensures cause { IfErr result (BlockCause (seen D.state rig.old) (seen D.state rig.new)) }
+{
+    let mut found = None;
+    for _ in 0..number {
+        let Some(item) = reader.next(rig)? else {
+            return Ok(found);
+        };
+        found = value_after(item, key, found);
+    }
+    Ok(found)
+}
+
+/// The value of a key after the first `number` commands of a chain.
+fn value_before<D: Device>(
+    rig: &mut Rig<'_, D>,
+    chain: &Chain,
+    number: u64,
+    key: u64,
+) -> Result<Option<u64>, EmFault>
+    requires sound { Sound (seen D.state rig.old) }
+    requires is { IsChain (seen D.state rig.old) chain.now }
+    requires free { 1 < (seen D.state rig.old).pool.free }
+    requires number { number ≤ chain.now.count }
+    ensures looks { Looks (seen D.state rig.old) (seen D.state rig.new) }
+    ensures value { IsTrue (seen D.state rig.old).device.told → IfOk result (λ value.
+        value ≡ value_from key None
+        (commands_in (take number (chain_items (seen D.state rig.old) chain.now)))) }
+    ensures cause { IfErr result (BlockCause (seen D.state rig.old) (seen D.state rig.new)) }
+{
+    let mut reader = Reader::over(rig, chain);
+    let value = value_by(rig, &mut reader, number, key);
+    reader.abandon(rig);
+    value
+}
+
+/// Writes the answer of a command that follows the first `number` ones of a chain.
+fn answer_one<D: Device>(
+    rig: &mut Rig<'_, D>,
+    chain: &Chain,
+    number: u64,
+    item: Record,
+    writer: &mut Writer,
+) -> Result<(), EmFault>
+    requires sound { Sound (seen D.state rig.old) }
+    requires is { IsChain (seen D.state rig.old) chain.now }
+    requires writer { IsWriter (seen D.state rig.old) writer.old }
+    requires room { CanGrow writer.old }
+    requires free { 1 < (seen D.state rig.old).pool.free }
+    requires number { number ≤ chain.now.count }
+    ensures goes { Goes (writer_blocks (seen D.state rig.old) writer.old)
+        (seen D.state rig.old) (seen D.state rig.new) }
+    ensures frame { HasFrames 1 (length writer.new.frame) (seen D.state rig.new).pool }
+    ensures answers { OnOk result (AnswersOne (seen D.state rig.old) (seen D.state rig.new)
+        writer.old writer.new
+        (next_answers number (take number (chain_items (seen D.state rig.old) chain.now)) item)) }
+    ensures refused { OnErr result (GaveUp 1 0 (seen D.state rig.old) (seen D.state rig.new)) }
+    ensures cause { IfErr result (Cause (seen D.state rig.old) (seen D.state rig.new)) }
+{
+    match to_command(item) {
+        Command::Get { key } => {
+            let value = value_before(rig, chain, number, key)?;
+            writer.append(rig, to_answer(number + 1, value))
+        }
+        _ => Ok(()),
+    }
+}
+
+/// Reads the command that follows the first `number` ones of a chain, and writes its answer.
+fn answer_next<D: Device>(
+    rig: &mut Rig<'_, D>,
+    reader: &mut Reader,
+    chain: &Chain,
+    number: u64,
+    writer: &mut Writer,
+) -> Result<(), EmFault>
+    requires sound { Sound (seen D.state rig.old) }
+    requires is { IsChain (seen D.state rig.old) chain.now }
+    requires reads { ReadsAt (seen D.state rig.old) chain.now reader.old number }
+    requires writer { IsWriter (seen D.state rig.old) writer.old }
+    requires apart { IsTrue (seen D.state rig.old).device.told
+        → Apart (chain_blocks (seen D.state rig.old) chain.now)
+        (writer_blocks (seen D.state rig.old) writer.old) }
+    requires room { CanGrow writer.old }
+    requires free { 1 < (seen D.state rig.old).pool.free }
+    requires number { number < chain.now.count }
+    ensures goes { Goes (writer_blocks (seen D.state rig.old) writer.old)
+        (seen D.state rig.old) (seen D.state rig.new) }
+    ensures reader { HasFrames 1 (length reader.new.frame) (seen D.state rig.new).pool }
+    ensures writer { HasFrames 1 (length writer.new.frame) (seen D.state rig.new).pool }
+    ensures reads { OnOk result (ReadsAt (seen D.state rig.new) chain.now reader.new (number + 1)) }
+    ensures answers { OnOk result (AnswersOne (seen D.state rig.old) (seen D.state rig.new)
+        writer.old writer.new
+        (answers_at number (chain_items (seen D.state rig.old) chain.now))) }
+    ensures refused { OnErr result (GaveUp 1 0 (seen D.state rig.old) (seen D.state rig.new)) }
+    ensures cause { IfErr result (Cause (seen D.state rig.old) (seen D.state rig.new)) }
+{
+    match reader.next(rig)? {
+        Some(item) => answer_one(rig, chain, number, item, writer),
+        None => Ok(()),
+    }
+}
+
+/// The answers to the gets that a reader of a chain gives.
+fn answer_by<D: Device>(
+    rig: &mut Rig<'_, D>,
+    reader: &mut Reader,
+    chain: &Chain,
+) -> Result<Chain, EmFault>
+    requires sound { Sound (seen D.state rig.old) }
+    requires is { IsChain (seen D.state rig.old) chain.now }
+    requires reads { ReadsAt (seen D.state rig.old) chain.now reader.old 0 }
+    requires free { 2 < (seen D.state rig.old).pool.free }
+    ensures goes { Goes [] (seen D.state rig.old) (seen D.state rig.new) }
+    ensures frame { HasFrames 1 (length reader.new.frame) (seen D.state rig.new).pool }
+    ensures answers { IfOk result
+        (AnswersAll (seen D.state rig.old) (seen D.state rig.new) chain.now) }
+    ensures refused { OnErr result (GaveUp
+        (ceiling chain.now.count (payload_of (seen D.state rig.old).pool.shape) + 1) 1
+        (seen D.state rig.old) (seen D.state rig.new)) }
+    ensures cause { IfErr result (Cause (seen D.state rig.old) (seen D.state rig.new)) }
+{
+    let mut writer = Writer::new(rig);
+    for number in 0..chain.len() {
+        match answer_next(rig, reader, chain, number, &mut writer) {
+            Ok(()) => {}
+            Err(fault) => {
+                writer.abandon(rig);
+                return Err(fault);
+            }
+        }
+    }
+    writer.finish(rig)
+}
+
+/// The answers to the gets of a chain of commands, each with its number. For each get the chain is
+/// read again up to it.
+pub(crate) fn write_answers<D: Device>(
+    rig: &mut Rig<'_, D>,
+    chain: &Chain,
+) -> Result<Chain, EmFault>
+    requires sound { Sound (seen D.state rig.old) }
+    requires is { IsChain (seen D.state rig.old) chain.now }
+    requires free { 3 < (seen D.state rig.old).pool.free }
+    ensures goes { Goes [] (seen D.state rig.old) (seen D.state rig.new) }
+    ensures answers { IfOk result
+        (AnswersAll (seen D.state rig.old) (seen D.state rig.new) chain.now) }
+    ensures refused { OnErr result (GaveUp
+        (ceiling chain.now.count (payload_of (seen D.state rig.old).pool.shape) + 1) 1
+        (seen D.state rig.old) (seen D.state rig.new)) }
+    ensures cause { IfErr result (Cause (seen D.state rig.old) (seen D.state rig.new)) }
+{
+    let mut reader = Reader::over(rig, chain);
+    let answers = answer_by(rig, &mut reader, chain);
+    reader.abandon(rig);
+    answers
+}

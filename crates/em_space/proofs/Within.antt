@@ -1,0 +1,41 @@
+-- Values whose blocks come from others or weren't in use.
+use Rattle.std.proofs.Common.{ℕ, List, [], ◌∷◌, IsTrue, ◌∙◌}
+use Rattle.em_space.specs.Rig.{RigState, Touches, Goes}
+use Rattle.em_space.specs.Held.{Apart, AllInUse, NoneInUse, Within}
+use Rattle.em_space.proofs.Apart.{off_new}
+use Rattle.em_space.proofs.Steps.{touches_trans, same_frames_then}
+
+pub within_same : (s : RigState) (ks : List ℕ) → Within s ks ks
+within_same s ks = record { off = λ z j u o. o }
+
+-- new blocks alone
+pub within_new : (s : RigState) (held ks : List ℕ) → (IsTrue s.device.told → NoneInUse s ks)
+    → Within s held ks
+within_new s held ks n = record { off = λ z j u o. off_new s j ks u (n z) }
+
+-- one call after another
+pub within_then : (s t : RigState) (held ks js : List ℕ) → Touches held s t → Within s held ks
+    → Within t ks js → Within s held js
+within_then s t held ks js h a b = record {
+  off = λ z j u o. b.off (h.told
+      ∙ z) j (h.others z j u o).in_use (a.off z j u o);
+}
+
+pub touches_within : (s t u : RigState) (held ks : List ℕ) → Touches held s t → Within s held ks
+    → Touches ks t u → Touches held s u
+touches_within s t u held ks h a g = touches_trans held ks s t u h g (λ z j i o. a.off z j i o)
+
+-- a call that may change blocks of what was held, or blocks that weren't in use at first
+pub goes_within : (held ks : List ℕ) (a b c : RigState) → Goes held a b → Within a held ks
+    → Goes ks b c → Goes held a c
+goes_within held ks a b c x w y = record {
+  sound = y.sound;
+  touches = touches_within a b c held ks x.touches w y.touches;
+  frames = same_frames_then a.pool b.pool c.pool x.frames y.frames;
+}
+
+-- what was apart from the held blocks is apart from those of the result
+pub within_apart : (s : RigState) (held ks g : List ℕ) → IsTrue s.device.told → Within s held ks
+    → AllInUse s g → Apart g held → Apart g ks
+within_apart s held ks [] z w u a = tt
+within_apart s held ks (x ∷ xs) z w u a = (w.off z x u.0 a.0, within_apart s held ks xs z w u.1 a.1)

@@ -1,0 +1,35 @@
+-- Pairs of stabs and intervals, one after another.
+use Rattle.std.proofs.Common.{◌≡◌, ℕ, zero, suc, ◌+◌, ◌-◌, ◌<◌, List, [], ◌∷◌, ◌++◌, ap, sym, ◌∙◌, arith, append_assoc}
+use Rattle.std.specs.Prelude.{decimal}
+use Rattle.std.proofs.lemmas.Bool.{cond-true, eq-eqb}
+use Rattle.em_record.specs.declared.record.Record.{Record}
+use Rattle.emtool.specs.Answer.{further_words, numbers_line, stab_text}
+use Rattle.emtool.specs.Print.{groups_from, intervals_at, pairs_behind}
+
+-- the first pair is of this stab
+pub intervals_same : (stab : ℕ) (x : Record) (xs : List Record) → x.a ≡ stab
+    → intervals_at stab (x ∷ xs) ≡ x.b ∷ intervals_at stab xs
+intervals_same stab x xs e = cond-true _ _ _ (eq-eqb x.a stab e)
+
+pub behind_same : (stab : ℕ) (x : Record) (xs : List Record) → x.a ≡ stab
+    → pairs_behind stab (x ∷ xs) ≡ pairs_behind stab xs
+behind_same stab x xs e = cond-true _ _ _ (eq-eqb x.a stab e)
+
+-- the line of a stab is the first of those that are left
+pub groups_next : (stab n : ℕ) (items : List Record) → 0 < n
+    → stab_text (groups_from stab n items)
+    ≡ numbers_line (intervals_at stab items)
+    ++ stab_text (groups_from (stab + 1) (n - 1) (pairs_behind stab items))
+groups_next stab zero items some = absurd (omega arith)
+groups_next stab (suc n) items some =
+    let e : suc n - 1 ≡ n = omega arith in
+    ap (λ m. numbers_line (intervals_at stab items)
+    ++ stab_text (groups_from (stab + 1) m (pairs_behind stab items))) (sym e)
+
+-- the line of a stab that has a pair
+pub line_same : (stab : ℕ) (x : Record) (xs : List Record) → x.a ≡ stab
+    → numbers_line (intervals_at stab (x ∷ xs))
+    ≡ decimal x.b ++ (further_words (intervals_at stab xs) ++ 10 ∷ [])
+line_same stab x xs e =
+    ap numbers_line (intervals_same stab x xs e)
+    ∙ append_assoc (decimal x.b) (further_words (intervals_at stab xs)) (10 ∷ [])

@@ -1,0 +1,111 @@
+-- Printing what a reader gives, line by line.
+use Rattle.std.proofs.Common.{◌≡◌, ℕ, List, [], ◌++◌, sym, ◌∙◌, append_assoc, Result, Ok, Err}
+use Rattle.std.specs.Prelude.{IsErr, OnOk}
+use Rattle.em_record.specs.declared.record.Record.{Record}
+use Rattle.em_io.specs.Sink.{IsRule, Sent, SentPart}
+use Rattle.em_io.proofs.Sent.{all-sent, part-add, part-more, part-of, part-rest, sent-add, sent-all, sent-more, sent-rest}
+use Rattle.em_space.specs.Rig.{RigState, Goes}
+use Rattle.em_chain.specs.Reader.{reader_blocks}
+use Rattle.em_chain.specs.Reads.{Reads}
+use Rattle.em_chain.specs.declared.reader.Reader.{Reader}
+use Rattle.em_chain.proofs.Beside.{goes_over}
+use Rattle.emtool.specs.Print.{LooksAt}
+use Rattle.emtool.specs.Stop.{Prints}
+use Rattle.emtool.specs.declared.stop.Stop.{Stop}
+
+-- three parts behind a front
+together : (front a b c : List ℕ) → front ++ (a ++ (b ++ c)) ≡ ((front ++ a) ++ b) ++ c
+together front a b c =
+    sym (append_assoc (front ++ a) b c ∙ append_assoc front a (b ++ c))
+
+-- One record more was read.
+pub looks_next : (b c : RigState) (r q : Reader) (x : Record) → LooksAt b r → Reads b c r q x
+    → LooksAt c q
+looks_next b c r q x l h = record { is = h.is; over = h.taking ∙ l.over }
+
+pub goes_looking : (a b c : RigState) (r : Reader) → LooksAt b r → Goes [] a b
+    → Goes (reader_blocks b r) b c → Goes [] a c
+goes_looking a b c r l x y = goes_over a b c r l.over x y
+
+module _ {IsState : List ℕ → Type 0} {took : List ℕ → List ℕ → List ℕ} (rule : IsRule IsState took)
+    {old : List ℕ} (ok : IsState old) where
+  -- a line of what is left went out,
+  pub sent_line : {whole mid left new : List ℕ} (line rest : List ℕ) → Sent took old whole mid left
+      → left ≡ line ++ rest → new ≡ took mid line → Sent took old whole new rest
+  sent_line {whole} {mid} {left} {new} line rest p e s =
+      sent-rest rule ok p (rw e (sent-more rest (sent-all s)))
+
+  -- or a front of it.
+  pub part_line : {T : Type 0} {whole mid left new : List ℕ} (line rest : List ℕ)
+      (result : Result T Stop) → IsErr result → Sent took old whole mid left → left ≡ line ++ rest
+      → SentPart took mid line new → Prints took whole old new result
+  part_line line rest (Ok x) f p e s = cc
+  part_line line rest (Err stop) f p e s = record {
+    all = tt;
+    part = part-rest rule ok p (rw e (part-more rest s));
+  }
+
+  -- what is pending is a front of what is left: a part more was added to it,
+  pub sent_step : {whole mid left new behind : List ℕ} (front a more : List ℕ)
+      → Sent took old whole mid left → left ≡ front ++ (a ++ more)
+      → Sent took mid (front ++ a) new behind → Sent took old whole new (behind ++ more)
+  sent_step {whole} {mid} {left} {new} {behind} front a more p e q =
+      sent-rest rule ok p (rw (e ∙ sym (append_assoc front a more)) (sent-more more q))
+
+  -- or only went out in part.
+  pub part_step : {whole mid left new : List ℕ} (front a more : List ℕ)
+      → Sent took old whole mid left → left ≡ front ++ (a ++ more)
+      → SentPart took mid (front ++ a) new → SentPart took old whole new
+  part_step {whole} {mid} {left} {new} front a more p e q =
+      part-rest rule ok p (rw (e ∙ sym (append_assoc front a more)) (part-more more q))
+
+  -- all of it went out
+  pub sent_whole : {whole mid left new : List ℕ} → Sent took old whole mid left
+      → new ≡ took mid left → new ≡ took old whole
+  sent_whole {whole} {mid} {left} {new} p e = all-sent (sent-rest rule ok p (sent-all e))
+
+  -- three parts were added to what was pending
+  pub sent_three : {mid after new rest : List ℕ} (front left behind a b c : List ℕ)
+      → Sent took old (front ++ a) mid left → Sent took mid (left ++ b) after behind
+      → Sent took after (behind ++ c) new rest → Sent took old (front ++ (a ++ (b ++ c))) new rest
+  sent_three {mid} {after} {new} {rest} front left behind a b c p q r =
+      rw (together front a b c) (sent-add rule ok behind c (sent-add rule ok left b p q) r)
+
+  -- the same where the last part may have failed
+  pub sent_all_three : {T E : Type 0} {mid after : List ℕ} (new rest : List ℕ)
+      (front left behind a b c : List ℕ) (result : Result T E)
+      → Sent took old (front ++ a) mid left → Sent took mid (left ++ b) after behind
+      → OnOk result (Sent took after (behind ++ c) new rest)
+      → OnOk result (Sent took old (front ++ (a ++ (b ++ c))) new rest)
+  sent_all_three new rest front left behind a b c (Ok x) p q r =
+      sent_three front left behind a b c p q r
+  sent_all_three new rest front left behind a b c (Err e) p q r = tt
+
+  pub part_two : {mid new : List ℕ} (front left a b c : List ℕ)
+      → Sent took old (front ++ a) mid left → SentPart took mid (left ++ b) new
+      → SentPart took old (front ++ (a ++ (b ++ c))) new
+  part_two {mid} {new} front left a b c p q =
+      rw (together front a b c) (part-more c (part-add rule ok left b p q))
+
+  pub part_three : {mid after new : List ℕ} (front left behind a b c : List ℕ)
+      → Sent took old (front ++ a) mid left → Sent took mid (left ++ b) after behind
+      → SentPart took after (behind ++ c) new → SentPart took old (front ++ (a ++ (b ++ c))) new
+  part_three {mid} {after} {new} front left behind a b c p q r =
+      rw (together front a b c) (part-add rule ok behind c (sent-add rule ok left b p q) r)
+
+-- the first of three parts went out in part
+pub part_one : {took : List ℕ → List ℕ → List ℕ} {old new : List ℕ} (front a more : List ℕ)
+    → SentPart took old (front ++ a) new → SentPart took old (front ++ (a ++ more)) new
+part_one {took} {old} {new} front a more p = rw (← append_assoc front a more) (part-more more p)
+
+-- a call that stopped had sent a front,
+pub prints_part : {T : Type 0} {took : List ℕ → List ℕ → List ℕ} {whole old new : List ℕ}
+    (result : Result T Stop) → IsErr result → SentPart took old whole new
+    → Prints took whole old new result
+prints_part (Ok x) e p = cc
+prints_part (Err stop) e p = record { all = tt; part = p }
+
+-- and one that didn't stop all.
+pub prints_all : {T : Type 0} {took : List ℕ → List ℕ → List ℕ} {whole old new : List ℕ} (x : T)
+    → new ≡ took old whole → Prints took whole old new (Ok x)
+prints_all x e = record { all = e; part = part-of (sent-all e) }

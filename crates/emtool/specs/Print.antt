@@ -1,0 +1,57 @@
+-- The text of answers that are records: docs/FORMATS.md, "Records of answers".
+use Rattle.std.specs.Prelude.{◌≡◌, ℕ, zero, suc, ◌+◌, ◌==◌, if◌then◌else◌, false, List, [], ◌∷◌, ◌++◌, map, Option, Some, None, option_map, option_to_list, IfNone, IsTrue}
+use Rattle.em_record.specs.declared.record.Record.{Record}
+use Rattle.em_space.specs.Rig.{RigState}
+use Rattle.em_chain.specs.Reader.{IsReader, reader_items}
+use Rattle.em_chain.specs.declared.reader.Reader.{Reader}
+use Rattle.emtool.specs.Answer.{map_text, stab_text}
+use Rattle.emtool.specs.declared.text.FileKind.{FileKind}
+use Rattle.emtool.specs.declared.text.FileKind.TheVariants.{Map, Queue, Stab}
+
+-- the answer to a get
+abbrev pub answer_in : Record → Option ℕ
+answer_in r = if r.b == 0 then None else Some r.c
+
+-- the answers to gets
+abbrev pub answers_in : List Record → List (Option ℕ)
+answers_in items = map answer_in items
+
+-- the intervals of the first pairs, which are those of this stab
+abbrev pub intervals_at : ℕ → List Record → List ℕ
+intervals_at stab [] = []
+intervals_at stab (x ∷ xs) = if x.a == stab then x.b ∷ intervals_at stab xs else []
+
+-- the pairs behind them
+abbrev pub pairs_behind : ℕ → List Record → List Record
+pairs_behind stab [] = []
+pairs_behind stab (x ∷ xs) = if x.a == stab then pairs_behind stab xs else x ∷ xs
+
+-- the answers to so many stabs, of which the first has this number
+abbrev pub groups_from : ℕ → ℕ → List Record → List (List ℕ)
+groups_from stab zero items = []
+groups_from stab (suc n) items =
+    intervals_at stab items ∷ groups_from (stab + 1) n (pairs_behind stab items)
+
+-- the text of the records of answers of a file of this kind, and of so many stabs
+abbrev pub records_text : FileKind → ℕ → List Record → List ℕ
+records_text Map stabs items = map_text (answers_in items)
+records_text Queue stabs items = []
+records_text Stab stabs items = stab_text (groups_from 0 stabs items)
+
+-- the answer to a pop: the key and the value of the record that was popped
+abbrev pub popped_in : Option Record → Option (ℕ × ℕ)
+popped_in item = option_map (λ r. (r.a, r.c)) item
+
+-- A reader that leaves its blocks to a chain.
+pub record LooksAt (s : RigState) (r : Reader) : Type 0 where
+  pub is : IsReader s r
+  pub over : r.taking ≡ false
+
+-- From a first pair, if any, and a reader of those behind it, all pairs of a stab were read: another
+-- one is the next, if any, and a reader has those behind it.
+pub record IsBehind (stab : ℕ) (s t : RigState) (first : Option Record) (r : Reader)
+    (next : Option Record) (q : Reader) : Type 0 where
+  pub reader : LooksAt t q
+  pub none : IfNone next (q.count ≡ 0)
+  pub items : IsTrue s.device.told → option_to_list next ++ reader_items t q
+      ≡ pairs_behind stab (option_to_list first ++ reader_items s r)

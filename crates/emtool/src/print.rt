@@ -1,0 +1,312 @@
+// Answers that are printed, line by line.
+ghost use Rattle.std.specs.Prelude.{◌≡◌, ◌<◌, ◌≤◌, ◌++◌, ◌∷◌, [], None, decimal, option_to_list, IfErr, IfNone, IfOk, IsTrue, OnOk};
+ghost use Rattle.em_record.specs.Count.{HasCause};
+ghost use Rattle.em_io.specs.Sink.{Sent, SentPart};
+ghost use Rattle.em_space.specs.Rig.{Sound, Goes};
+ghost use Rattle.em_space.specs.Seen.{seen};
+ghost use Rattle.em_chain.specs.Chain.{IsChain, chain_items};
+ghost use Rattle.em_chain.specs.Reader.{ReaderHasFrame, reader_items};
+ghost use Rattle.emtool.specs.Answer.{answer_line, answer_word, further_words, map_text, numbers_line, popped_line, popped_word, stab_text};
+ghost use Rattle.emtool.specs.Print.{IsBehind, LooksAt, answer_in, answers_in, groups_from, intervals_at, popped_in, records_text};
+ghost use Rattle.emtool.specs.Stop.{PrintCause, Prints};
+
+use crate::stop::Stop;
+use crate::text::FileKind;
+use em_chain::{Chain, Reader};
+use em_frames::Device;
+use em_io::{Printer, Sink};
+use em_record::{Failed, Record};
+use em_space::Rig;
+
+/// What a command file is answered by: the records of the answers, and how many stabs there were.
+#[derive(Drop)]
+pub struct Answers {
+    pub records: Chain,
+    pub stabs: u64,
+}
+
+/// Adds an answer of a map to the line.
+fn add_answer<W: Sink>(
+    printer: &mut Printer,
+    out: &mut W,
+    answer: Option<u64>,
+) -> Result<(), Failed>
+    ensures sent { OnOk result (Sent W.took (W.state out.old)
+        (printer.old ++ answer_word answer) (W.state out.new) printer.new) }
+    ensures part { SentPart W.took (W.state out.old)
+        (printer.old ++ answer_word answer) (W.state out.new) }
+    ensures cause { HasCause (W.faults out.old) (W.faults out.new) result }
+{
+    match answer {
+        Some(value) => printer.add_number(out, value),
+        None => printer.add(out, b"-"),
+    }
+}
+
+/// Prints the line of an answer of a map.
+fn print_answer<W: Sink>(out: &mut W, answer: Option<u64>) -> Result<(), Failed>
+    ensures all { OnOk result (W.state out.new ≡ W.took (W.state out.old) (answer_line answer)) }
+    ensures part { SentPart W.took (W.state out.old) (answer_line answer) (W.state out.new) }
+    ensures cause { HasCause (W.faults out.old) (W.faults out.new) result }
+{
+    let mut printer = Printer::new();
+    add_answer(&mut printer, out, answer)?;
+    printer.end_line(out)
+}
+
+/// The answer to a get that a record stands for.
+fn to_answer(item: Record) -> Option<u64>
+    ensures { result ≡ answer_in item }
+{
+    if item.b == 0 { None } else { Some(item.c) }
+}
+
+/// Prints one line for each record of a chain of answers of a map.
+fn print_map<D: Device, W: Sink>(
+    rig: &mut Rig<'_, D>,
+    chain: &Chain,
+    out: &mut W,
+) -> Result<(), Stop>
+    requires sound { Sound (seen D.state rig.old) }
+    requires is { IsChain (seen D.state rig.old) chain.now }
+    requires free { 1 < (seen D.state rig.old).pool.free }
+    ensures goes { Goes [] (seen D.state rig.old) (seen D.state rig.new) }
+    ensures prints { IsTrue (seen D.state rig.old).device.told → Prints W.took
+        (map_text (answers_in (chain_items (seen D.state rig.old) chain.now)))
+        (W.state out.old) (W.state out.new) result }
+    ensures later { W.faults out.old ≤ W.faults out.new }
+    ensures cause { IfErr result (PrintCause (W.faults out.old) (W.faults out.new)
+        (seen D.state rig.old) (seen D.state rig.new)) }
+{
+    let mut reader = Reader::over(rig, chain);
+    let done = print_map_by(rig, &mut reader, chain.len(), out);
+    reader.abandon(rig);
+    done
+}
+
+/// Prints one line for each of the next `count` records of a reader.
+fn print_map_by<D: Device, W: Sink>(
+    rig: &mut Rig<'_, D>,
+    reader: &mut Reader,
+    count: u64,
+    out: &mut W,
+) -> Result<(), Stop>
+    requires sound { Sound (seen D.state rig.old) }
+    requires reader { LooksAt (seen D.state rig.old) reader.old }
+    requires free { 0 < (seen D.state rig.old).pool.free }
+    requires count { count ≡ reader.old.count }
+    ensures goes { Goes [] (seen D.state rig.old) (seen D.state rig.new) }
+    ensures frame { ReaderHasFrame (seen D.state rig.new) reader.new }
+    ensures prints { IsTrue (seen D.state rig.old).device.told → Prints W.took
+        (map_text (answers_in (reader_items (seen D.state rig.old) reader.old)))
+        (W.state out.old) (W.state out.new) result }
+    ensures later { W.faults out.old ≤ W.faults out.new }
+    ensures cause { IfErr result (PrintCause (W.faults out.old) (W.faults out.new)
+        (seen D.state rig.old) (seen D.state rig.new)) }
+{
+    for _ in 0..count {
+        let Some(item) = reader.next(rig)? else {
+            return Ok(());
+        };
+        print_answer(out, to_answer(item))?;
+    }
+    Ok(())
+}
+
+/// Prints the lines of so many stabs, by a chain of pairs.
+fn print_stabs<D: Device, W: Sink>(
+    rig: &mut Rig<'_, D>,
+    chain: &Chain,
+    stabs: u64,
+    out: &mut W,
+) -> Result<(), Stop>
+    requires sound { Sound (seen D.state rig.old) }
+    requires is { IsChain (seen D.state rig.old) chain.now }
+    requires free { 1 < (seen D.state rig.old).pool.free }
+    ensures goes { Goes [] (seen D.state rig.old) (seen D.state rig.new) }
+    ensures prints { IsTrue (seen D.state rig.old).device.told → Prints W.took
+        (stab_text (groups_from 0 stabs (chain_items (seen D.state rig.old) chain.now)))
+        (W.state out.old) (W.state out.new) result }
+    ensures later { W.faults out.old ≤ W.faults out.new }
+    ensures cause { IfErr result (PrintCause (W.faults out.old) (W.faults out.new)
+        (seen D.state rig.old) (seen D.state rig.new)) }
+{
+    let mut reader = Reader::over(rig, chain);
+    let done = print_stabs_by(rig, &mut reader, stabs, out);
+    reader.abandon(rig);
+    done
+}
+
+/// Prints the lines of so many stabs, by the pairs of a reader.
+fn print_stabs_by<D: Device, W: Sink>(
+    rig: &mut Rig<'_, D>,
+    reader: &mut Reader,
+    stabs: u64,
+    out: &mut W,
+) -> Result<(), Stop>
+    requires sound { Sound (seen D.state rig.old) }
+    requires reader { LooksAt (seen D.state rig.old) reader.old }
+    requires free { 0 < (seen D.state rig.old).pool.free }
+    ensures goes { Goes [] (seen D.state rig.old) (seen D.state rig.new) }
+    ensures frame { ReaderHasFrame (seen D.state rig.new) reader.new }
+    ensures prints { IsTrue (seen D.state rig.old).device.told → Prints W.took
+        (stab_text (groups_from 0 stabs (reader_items (seen D.state rig.old) reader.old)))
+        (W.state out.old) (W.state out.new) result }
+    ensures later { W.faults out.old ≤ W.faults out.new }
+    ensures cause { IfErr result (PrintCause (W.faults out.old) (W.faults out.new)
+        (seen D.state rig.old) (seen D.state rig.new)) }
+{
+    let mut next = reader.next(rig)?;
+    for stab in 0..stabs {
+        next = print_stab(rig, reader, stab, next, out)?;
+    }
+    Ok(())
+}
+
+/// Prints the line of a stab by the next pair of a reader and those behind it. Answers the first
+/// pair of another stab.
+fn print_stab<D: Device, W: Sink>(
+    rig: &mut Rig<'_, D>,
+    reader: &mut Reader,
+    stab: u64,
+    next: Option<Record>,
+    out: &mut W,
+) -> Result<Option<Record>, Stop>
+    requires sound { Sound (seen D.state rig.old) }
+    requires reader { LooksAt (seen D.state rig.old) reader.old }
+    requires free { 0 < (seen D.state rig.old).pool.free }
+    requires none { IfNone next (reader.old.count ≡ 0) }
+    ensures goes { Goes [] (seen D.state rig.old) (seen D.state rig.new) }
+    ensures frame { ReaderHasFrame (seen D.state rig.new) reader.new }
+    ensures behind { IfOk result (λ other. IsBehind stab
+        (seen D.state rig.old) (seen D.state rig.new) next reader.old other reader.new) }
+    ensures prints { IsTrue (seen D.state rig.old).device.told → Prints W.took
+        (numbers_line (intervals_at stab
+        (option_to_list next ++ reader_items (seen D.state rig.old) reader.old)))
+        (W.state out.old) (W.state out.new) result }
+    ensures later { W.faults out.old ≤ W.faults out.new }
+    ensures cause { IfErr result (PrintCause (W.faults out.old) (W.faults out.new)
+        (seen D.state rig.old) (seen D.state rig.new)) }
+{
+    let mut printer = Printer::new();
+    match next {
+        Some(pair) if pair.a == stab => {
+            printer.add_number(out, pair.b)?;
+            let behind = add_further(rig, reader, stab, &mut printer, out)?;
+            printer.end_line(out)?;
+            Ok(behind)
+        }
+        _ => {
+            printer.add(out, b"-")?;
+            printer.end_line(out)?;
+            Ok(next)
+        }
+    }
+}
+
+/// Adds the intervals of the next pairs of a reader that are of this stab, each behind a space.
+/// Answers the first pair of another stab.
+fn add_further<D: Device, W: Sink>(
+    rig: &mut Rig<'_, D>,
+    reader: &mut Reader,
+    stab: u64,
+    printer: &mut Printer,
+    out: &mut W,
+) -> Result<Option<Record>, Stop>
+    requires sound { Sound (seen D.state rig.old) }
+    requires reader { LooksAt (seen D.state rig.old) reader.old }
+    requires free { 0 < (seen D.state rig.old).pool.free }
+    ensures goes { Goes [] (seen D.state rig.old) (seen D.state rig.new) }
+    ensures frame { ReaderHasFrame (seen D.state rig.new) reader.new }
+    ensures behind { IfOk result (λ other. IsBehind stab
+        (seen D.state rig.old) (seen D.state rig.new) None reader.old other reader.new) }
+    ensures sent { IsTrue (seen D.state rig.old).device.told → OnOk result (Sent W.took
+        (W.state out.old) (printer.old ++ further_words (intervals_at stab
+        (reader_items (seen D.state rig.old) reader.old))) (W.state out.new) printer.new) }
+    ensures part { IsTrue (seen D.state rig.old).device.told → SentPart W.took
+        (W.state out.old) (printer.old ++ further_words (intervals_at stab
+        (reader_items (seen D.state rig.old) reader.old))) (W.state out.new) }
+    ensures later { W.faults out.old ≤ W.faults out.new }
+    ensures cause { IfErr result (PrintCause (W.faults out.old) (W.faults out.new)
+        (seen D.state rig.old) (seen D.state rig.new)) }
+{
+    loop {
+        match reader.next(rig)? {
+            Some(pair) if pair.a == stab => {
+                printer.add(out, b" ")?;
+                printer.add_number(out, pair.b)?;
+            }
+            other => return Ok(other),
+        }
+    }
+}
+
+/// Prints the answers of a map or stab file.
+pub fn print_answers<D: Device, W: Sink>(
+    kind: FileKind,
+    rig: &mut Rig<'_, D>,
+    answers: &Answers,
+    out: &mut W,
+) -> Result<(), Stop>
+    requires sound { Sound (seen D.state rig.old) }
+    requires is { IsChain (seen D.state rig.old) answers.now.records }
+    requires free { 1 < (seen D.state rig.old).pool.free }
+    ensures goes { Goes [] (seen D.state rig.old) (seen D.state rig.new) }
+    ensures prints { IsTrue (seen D.state rig.old).device.told → Prints W.took
+        (records_text kind answers.now.stabs
+        (chain_items (seen D.state rig.old) answers.now.records))
+        (W.state out.old) (W.state out.new) result }
+    ensures later { W.faults out.old ≤ W.faults out.new }
+    ensures cause { IfErr result (PrintCause (W.faults out.old) (W.faults out.new)
+        (seen D.state rig.old) (seen D.state rig.new)) }
+{
+    match kind {
+        FileKind::Map => print_map(rig, &answers.records, out),
+        FileKind::Queue => Ok(()),
+        FileKind::Stab => print_stabs(rig, &answers.records, answers.stabs, out),
+    }
+}
+
+/// Adds a key and a value to the line, with a space between.
+fn add_pair<W: Sink>(printer: &mut Printer, out: &mut W, key: u64, value: u64) -> Result<(), Failed>
+    ensures sent { OnOk result (Sent W.took (W.state out.old)
+        (printer.old ++ (decimal key ++ 32 ∷ decimal value)) (W.state out.new) printer.new) }
+    ensures part { SentPart W.took (W.state out.old)
+        (printer.old ++ (decimal key ++ 32 ∷ decimal value)) (W.state out.new) }
+    ensures cause { HasCause (W.faults out.old) (W.faults out.new) result }
+{
+    printer.add_number(out, key)?;
+    printer.add(out, b" ")?;
+    printer.add_number(out, value)
+}
+
+/// Adds an answer of a queue to the line.
+fn add_popped<W: Sink>(
+    printer: &mut Printer,
+    out: &mut W,
+    item: Option<Record>,
+) -> Result<(), Failed>
+    ensures sent { OnOk result (Sent W.took (W.state out.old)
+        (printer.old ++ popped_word (popped_in item)) (W.state out.new) printer.new) }
+    ensures part { SentPart W.took (W.state out.old)
+        (printer.old ++ popped_word (popped_in item)) (W.state out.new) }
+    ensures cause { HasCause (W.faults out.old) (W.faults out.new) result }
+{
+    match item {
+        Some(item) => add_pair(printer, out, item.a, item.c),
+        None => printer.add(out, b"-"),
+    }
+}
+
+/// Prints the line of an answer of a queue.
+pub fn print_popped<W: Sink>(out: &mut W, item: Option<Record>) -> Result<(), Failed>
+    ensures all { OnOk result
+        (W.state out.new ≡ W.took (W.state out.old) (popped_line (popped_in item))) }
+    ensures part { SentPart W.took (W.state out.old) (popped_line (popped_in item))
+        (W.state out.new) }
+    ensures cause { HasCause (W.faults out.old) (W.faults out.new) result }
+{
+    let mut printer = Printer::new();
+    add_popped(&mut printer, out, item)?;
+    printer.end_line(out)
+}
