@@ -5,19 +5,8 @@ use Rattle.em_frames.specs.Device.{block_at}
 use Rattle.em_space.specs.Free.{Off, AreDistinct}
 use Rattle.em_space.specs.Rig.{RigState, InUse}
 use Rattle.em_space.specs.Held.{contents_of, AllInUse, Apart, NoneInUse}
+use Rattle.em_space.proofs.Apart.{off_append, off_left, off_right}
 use Rattle.em_space.proofs.Held.{apart_none}
-
-pub off_append : (k : ℕ) (xs ys : List ℕ) → Off k xs → Off k ys → Off k (xs ++ ys)
-off_append k [] ys a b = b
-off_append k (x ∷ xs) ys a b = (a.0, off_append k xs ys a.1 b)
-
-pub off_left : (k : ℕ) (xs ys : List ℕ) → Off k (xs ++ ys) → Off k xs
-off_left k [] ys a = tt
-off_left k (x ∷ xs) ys a = (a.0, off_left k xs ys a.1)
-
-pub off_right : (k : ℕ) (xs ys : List ℕ) → Off k (xs ++ ys) → Off k ys
-off_right k [] ys a = a
-off_right k (x ∷ xs) ys a = off_right k xs ys a.1
 
 pub in_use_append : (s : RigState) (xs ys : List ℕ) → AllInUse s xs → AllInUse s ys
     → AllInUse s (xs ++ ys)

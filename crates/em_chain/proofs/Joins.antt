@@ -17,7 +17,8 @@ use Rattle.em_chain.specs.List.{with_link, shifted, block_header, payload, items
 use Rattle.em_chain.specs.Chain.{payload_in, IsChain, IsStored, chain_items, chain_blocks, chain_contents, words_of}
 use Rattle.em_chain.specs.Joins.{Joins, Unskips}
 use Rattle.em_chain.specs.declared.chain.Chain.{Chain}
-use Rattle.em_chain.proofs.Blocks.{off_append, off_left, off_right, apart_sym, apart_right, in_use_append, in_use_left, distinct_last, contents_append}
+use Rattle.em_space.proofs.Apart.{off_append, off_left, off_right}
+use Rattle.em_chain.proofs.Blocks.{apart_sym, apart_right, in_use_append, in_use_left, distinct_last, contents_append}
 use Rattle.em_chain.proofs.Lists.{follow_all, last_block, header_with_link, payload_with_link, is_with_link, items_push}
 use Rattle.em_chain.proofs.Laws.{chain_stays, split}
 use Rattle.em_chain.proofs.Readers.{opened, length_payload}

@@ -7,6 +7,7 @@ pub mod Laws
 pub mod Lists
 pub mod Loops
 pub mod Parts
+pub mod Queues
 pub mod Readers
 pub mod Rows
 pub mod Withins

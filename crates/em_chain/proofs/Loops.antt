@@ -8,7 +8,7 @@ use Rattle.em_space.specs.Free.{Off}
 use Rattle.em_space.specs.Held.{NoneInUse, AllInUse}
 use Rattle.em_space.specs.Rig.{RigState, InUse, Touches, Goes, Owes}
 use Rattle.em_space.specs.declared.fault.EmFault.{EmFault}
-use Rattle.em_space.proofs.Apart.{off_new}
+use Rattle.em_space.proofs.Apart.{off_new, off_append, off_right}
 use Rattle.em_space.proofs.Held.{in_use_kept}
 use Rattle.em_space.proofs.Steps.{touches_trans, owes_after}
 use Rattle.em_chain.specs.Chain.{chain_items, chain_blocks, payload_in}
@@ -22,7 +22,7 @@ use Rattle.em_chain.specs.Writes.{Begins, Appends, AppendCosts, Finishes, Resume
 use Rattle.em_chain.specs.declared.chain.Chain.{Chain}
 use Rattle.em_chain.specs.declared.reader.Reader.{Reader}
 use Rattle.em_chain.specs.declared.writer.Writer.{Writer}
-use Rattle.em_chain.proofs.Blocks.{off_right, off_append, in_use_left}
+use Rattle.em_chain.proofs.Blocks.{in_use_left}
 use Rattle.em_chain.proofs.Counts.{grown_blocks, refused_blocks, writer_blocks_are}
 use Rattle.em_chain.proofs.Keeps.{payload_kept, touches_none, lent_same}
 

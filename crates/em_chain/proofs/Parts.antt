@@ -28,7 +28,8 @@ use Rattle.em_chain.specs.Writes.{Begins, Appends, AppendCosts, Finishes, Finish
 use Rattle.em_chain.specs.declared.chain.Chain.{Chain}
 use Rattle.em_chain.specs.declared.reader.Reader.{Reader}
 use Rattle.em_chain.specs.declared.writer.Writer.{Writer}
-use Rattle.em_chain.proofs.Blocks.{apart_sym, apart_append, apart_right, off_right, fresh_apart}
+use Rattle.em_space.proofs.Apart.{off_right}
+use Rattle.em_chain.proofs.Blocks.{apart_sym, apart_append, apart_right, fresh_apart}
 use Rattle.em_chain.proofs.Keeps.{payload_kept, has_kept, touches_same, touches_none}
 use Rattle.em_chain.proofs.Laws.{chain_stays, writer_stays}
 use Rattle.em_chain.proofs.Loops.{owing}

@@ -11,7 +11,8 @@ use Rattle.em_chain.specs.List.{IsRun, IsBlock, IsHeader, LinksTo}
 use Rattle.em_chain.specs.Chain.{payload_in, chain_blocks}
 use Rattle.em_chain.specs.Row.{row, IsRow, Drops, Discarding}
 use Rattle.em_chain.specs.declared.chain.Chain.{Chain}
-use Rattle.em_chain.proofs.Blocks.{apart_sym, off_right}
+use Rattle.em_space.proofs.Apart.{off_right}
+use Rattle.em_chain.proofs.Blocks.{apart_sym}
 use Rattle.em_chain.proofs.Lists.{follow_all}
 use Rattle.em_chain.proofs.Laws.{header_is, link_within}
 use Rattle.em_chain.proofs.Keeps.{payload_kept, touches_wider}

@@ -3,9 +3,8 @@ use Rattle.std.proofs.Common.{ℕ, List, ◌++◌, IsTrue, subst}
 use Rattle.em_space.specs.Free.{Off}
 use Rattle.em_space.specs.Rig.{RigState}
 use Rattle.em_space.specs.Held.{Within}
-use Rattle.em_space.proofs.Apart.{off_new}
+use Rattle.em_space.proofs.Apart.{off_new, off_append, off_right}
 use Rattle.em_chain.specs.Within.{Grows, Ends}
-use Rattle.em_chain.proofs.Blocks.{off_append, off_right}
 
 -- old blocks and new ones
 pub within_grows : (s : RigState) (old new : List ℕ) → (IsTrue s.device.told → Grows s old new)

@@ -17,7 +17,8 @@ use Rattle.em_chain.specs.Within.{Grows}
 use Rattle.em_chain.specs.Writer.{IsWriter, IsWritten, IsPackedSoFar, front, linked, pending, writer_words, writer_blocks, writer_contents, writer_items}
 use Rattle.em_chain.specs.Writes.{Appends}
 use Rattle.em_chain.specs.declared.writer.Writer.{Writer}
-use Rattle.em_chain.proofs.Blocks.{off_right, in_use_append, in_use_left, distinct_push, distinct_last, fresh_off, contents_append}
+use Rattle.em_space.proofs.Apart.{off_right}
+use Rattle.em_chain.proofs.Blocks.{in_use_append, in_use_left, distinct_push, distinct_last, fresh_off, contents_append}
 use Rattle.em_chain.proofs.Lists.{follow, with_record, length_with_record, payload_with_record, list_put, list_next, list_first, header_put}
 
 pub linked_at : (j : ℕ) → linked (j + 1) ≡ j ∷ []

@@ -1,4 +1,4 @@
-ghost use Rattle.std.specs.Prelude.{◌≡◌, ◌<◌, ◌≤◌, ◌+◌, ◌++◌, ◌^◌, length, take, drop, IfErr, IfOk, IsTrue, OnOk};
+ghost use Rattle.std.specs.Prelude.{◌≡◌, ◌<◌, ◌≤◌, ◌+◌, ◌++◌, ◌^◌, length, min, take, drop, IfErr, IfOk, IsTrue, OnOk};
 ghost use Rattle.em_record.specs.Order.{IsAscending};
 ghost use Rattle.em_frames.specs.Pool.{singles_of};
 ghost use Rattle.em_space.specs.Held.{Apart};
@@ -52,7 +52,8 @@ pub fn drain<D: Device, Q: Queue>(
     Ok(count)
 }
 
-/// Pops up to `limit` items, and appends each to a list before the next one is popped.
+/// Pops `limit` items, or all where there are fewer, and appends each to a list before the next one
+/// is popped. Answers their number.
 pub fn beside<D: Device, Q: Queue>(
     rig: &mut Rig<'_, D>,
     queue: &mut Q,
@@ -84,6 +85,9 @@ pub fn beside<D: Device, Q: Queue>(
     ensures apart { OnOk result (IsTrue (seen D.state rig.old).device.told
         → Apart (Q.blocks queue.new (seen D.state rig.new))
         (writer_blocks (seen D.state rig.new) writer.new)) }
+    ensures count { IfOk result (λ n. n ≡ min limit (Q.counts queue.old).len) }
+    ensures len { IfOk result (λ n.
+        (Q.counts queue.new).len + n ≡ (Q.counts queue.old).len) }
     ensures left { IfOk result (λ n. IsTrue (seen D.state rig.old).device.told
         → Q.items queue.new (seen D.state rig.new)
         ≡ drop n (Q.items queue.old (seen D.state rig.old))) }
@@ -91,6 +95,7 @@ pub fn beside<D: Device, Q: Queue>(
         → writer_items (seen D.state rig.new) writer.new
         ≡ writer_items (seen D.state rig.old) writer.old
         ++ take n (Q.items queue.old (seen D.state rig.old))) }
+    ensures cause { IfErr result (Cause (seen D.state rig.old) (seen D.state rig.new)) }
 {
     let mut count = 0u64;
     while count < limit {

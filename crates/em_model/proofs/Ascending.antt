@@ -2,11 +2,7 @@
 use Rattle.std.proofs.Common.{◌≡◌, ◌≤◌, ℕ, ◌+◌, Bool, true, false, List, [], ◌∷◌, ◌++◌, arith}
 use Rattle.std.specs.Prelude.{if◌then◌else◌}
 use Rattle.std.specs.List.{filter}
-
--- The numbers ascend, from low on and below high.
-abbrev pub Ascend : {A : Type 0} → (A → ℕ) → ℕ → List A → ℕ → Type 0
-Ascend f low [] high = low ≤ high
-Ascend f low (x ∷ xs) high = (low ≤ f x) × Ascend f (f x + 1) xs high
+use Rattle.em_model.specs.Ascending.{Ascend}
 
 pub Ascend-lower : {A : Type 0} (f : A → ℕ) (less low : ℕ) (xs : List A) (high : ℕ) → less ≤ low
     → Ascend f low xs high → Ascend f less xs high

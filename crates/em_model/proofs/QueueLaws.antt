@@ -6,8 +6,9 @@ use Rattle.std.proofs.lemmas.Grind.{common_steps}
 use Rattle.std.proofs.lemmas.Bool.Decides.{nat_tests}
 use Rattle.em_model.specs.declared.command.Command.{Command}
 use Rattle.em_model.specs.declared.command.Command.TheVariants.{Put, Del, Get, Push, Pop, Interval, Stab}
-use Rattle.em_model.specs.Queue.{Item, Queue, no_items, goes_before, least, least_of, without_number, without_least, queue_step, queue_answer_of, queue_answers_from}
-use Rattle.em_model.proofs.Ascending.{Ascend, Ascend-filter, Ascend-push}
+use Rattle.em_model.specs.Queue.{Item, Queue, AreInOrder, no_items, number_of, queue_after, goes_before, least, least_of, without_number, without_least, queue_step, queue_answer_of, queue_answers_from}
+use Rattle.em_model.specs.Ascending.{Ascend}
+use Rattle.em_model.proofs.Ascending.{Ascend-filter, Ascend-push}
 
 -- once the least is known, what is left is known too
 pub without_least_some : (items : List Item) (x : Item) → least_of items ≡ Some x
@@ -62,11 +63,6 @@ least_among x (y ∷ ys) =
     among_more x y ys (least x (y ∷ ys)) (goes_before y x)
     (least_among (if goes_before y x then y else x) ys)
 
--- the queue after some commands, one after another
-abbrev pub queue_after : Queue → List Command → Queue
-queue_after q [] = q
-queue_after q (c ∷ cs) = queue_after (queue_step q c) cs
-
 pub queue_answers_from-append : (q : Queue) (xs ys : List Command)
     → queue_answers_from q (xs ++ ys)
     ≡ queue_answers_from q xs ++ queue_answers_from (queue_after q xs) ys
@@ -74,13 +70,6 @@ queue_answers_from-append q [] ys = refl
 queue_answers_from-append q (x ∷ xs) ys =
     ap (λ t. queue_answer_of q x ++ t) (queue_answers_from-append (queue_step q x) xs ys)
     ∙ sym (append_assoc (queue_answer_of q x) _ _)
-
-abbrev pub number_of : Item → ℕ
-number_of x = x.number
-
--- The items are in the order of their pushes, each numbered from 1 to the count of pushes.
-abbrev pub AreInOrder : Queue → Type 0
-AreInOrder q = Ascend number_of 1 q.waiting (q.pushes + 1)
 
 popped : (low : ℕ) (items : List Item) (high : ℕ) → Ascend number_of low items high
     → Ascend number_of low (without_least items) high

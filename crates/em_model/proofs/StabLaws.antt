@@ -2,13 +2,9 @@
 use Rattle.std.proofs.Common.{◌≡◌, ℕ, ◌+◌, List, [], ◌∷◌, ◌++◌, length, map, refl, sym, ap, ◌∙◌, arith, append_assoc, length-append}
 use Rattle.em_model.specs.declared.command.Command.{Command}
 use Rattle.em_model.specs.declared.command.Command.TheVariants.{Put, Del, Get, Push, Pop, Interval, Stab}
-use Rattle.em_model.specs.Stab.{NumberedInterval, holds_point, holders_of, stab_step, stab_answer_of, stab_answers_from}
-use Rattle.em_model.proofs.Ascending.{Ascend, Ascend-filter, Ascend-push}
-
--- the intervals after some commands, one after another
-abbrev pub intervals_after : List NumberedInterval → List Command → List NumberedInterval
-intervals_after intervals [] = intervals
-intervals_after intervals (c ∷ cs) = intervals_after (stab_step intervals c) cs
+use Rattle.em_model.specs.Stab.{NumberedInterval, holds_point, holders_of, intervals_after, stab_step, stab_answer_of, stab_answers_from}
+use Rattle.em_model.specs.Ascending.{Ascend}
+use Rattle.em_model.proofs.Ascending.{Ascend-filter, Ascend-push}
 
 pub stab_answers_from-append : (intervals : List NumberedInterval) (xs ys : List Command)
     → stab_answers_from intervals (xs ++ ys)
@@ -32,21 +28,22 @@ added intervals low high a =
     let new : NumberedInterval = record { number = length intervals; low = low; high = high } in
     rw length-append (Ascend-push number_of 0 intervals new (length intervals) refl a)
 
-one_step : (intervals : List NumberedInterval) (c : Command) → AreNumbered intervals
+-- a command keeps them so
+pub numbered_step : (intervals : List NumberedInterval) (c : Command) → AreNumbered intervals
     → AreNumbered (stab_step intervals c)
-one_step intervals (Put key value) a = a
-one_step intervals (Del key) a = a
-one_step intervals (Get key) a = a
-one_step intervals (Push key value) a = a
-one_step intervals Pop a = a
-one_step intervals (Interval low high) a = added intervals low high a
-one_step intervals (Stab point) a = a
+numbered_step intervals (Put key value) a = a
+numbered_step intervals (Del key) a = a
+numbered_step intervals (Get key) a = a
+numbered_step intervals (Push key value) a = a
+numbered_step intervals Pop a = a
+numbered_step intervals (Interval low high) a = added intervals low high a
+numbered_step intervals (Stab point) a = a
 
 pub numbered_after : (intervals : List NumberedInterval) (cs : List Command) → AreNumbered intervals
     → AreNumbered (intervals_after intervals cs)
 numbered_after intervals [] a = a
 numbered_after intervals (c ∷ cs) a =
-    numbered_after (stab_step intervals c) cs (one_step intervals c a)
+    numbered_after (stab_step intervals c) cs (numbered_step intervals c a)
 
 numbers_alone : (low : ℕ) (intervals : List NumberedInterval) (high : ℕ)
     → Ascend number_of low intervals high
@@ -54,7 +51,8 @@ numbers_alone : (low : ℕ) (intervals : List NumberedInterval) (high : ℕ)
 numbers_alone low [] high a = a
 numbers_alone low (i ∷ is) high (first, rest) = (first, numbers_alone (i.number + 1) is high rest)
 
-holders_ascend : (intervals : List NumberedInterval) (point : ℕ) → AreNumbered intervals
+-- the numbers of the intervals that hold a point ascend strictly
+pub holders_ascend : (intervals : List NumberedInterval) (point : ℕ) → AreNumbered intervals
     → Ascend (λ (n : ℕ). n) 0 (holders_of point intervals) (length intervals)
 holders_ascend intervals point a =
     numbers_alone 0 _ _

@@ -1,3 +1,4 @@
+pub mod Ascending
 pub mod Map
 pub mod Queue
 pub mod Stab

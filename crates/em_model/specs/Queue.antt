@@ -3,6 +3,7 @@ use Rattle.std.specs.Prelude.{ℕ, ◌+◌, Bool, List, [], ◌∷◌, ◌++◌,
 use Rattle.em_model.specs.declared.command.Command.{Command}
 use Rattle.em_model.specs.declared.command.Command.TheVariants.{Push, Pop}
 use Rattle.em_model.specs.declared.queue.Item as declared
+use Rattle.em_model.specs.Ascending.{Ascend}
 
 -- a pushed element: its key, the number of its push, counted from 1, and its value
 abbrev pub Item : Type 0
@@ -60,6 +61,19 @@ queue_answer_of q c = []
 abbrev pub queue_answers_from : Queue → List Command → List (Option (ℕ × ℕ))
 queue_answers_from q [] = []
 queue_answers_from q (c ∷ cs) = queue_answer_of q c ++ queue_answers_from (queue_step q c) cs
+
+-- the queue after some commands, one after another
+abbrev pub queue_after : Queue → List Command → Queue
+queue_after q [] = q
+queue_after q (c ∷ cs) = queue_after (queue_step q c) cs
+
+-- the number of an item's push
+abbrev pub number_of : Item → ℕ
+number_of x = x.number
+
+-- The items are in the order of their pushes, each numbered from 1 to the count of pushes.
+abbrev pub AreInOrder : Queue → Type 0
+AreInOrder q = Ascend number_of 1 q.waiting (q.pushes + 1)
 
 -- the answers to some commands, from the queue before the first push
 abbrev pub queue_answers : List Command → List (Option (ℕ × ℕ))

@@ -35,6 +35,11 @@ stab_answers_from intervals [] = []
 stab_answers_from intervals (c ∷ cs) =
     stab_answer_of intervals c ++ stab_answers_from (stab_step intervals c) cs
 
+-- the intervals after some commands, one after another
+abbrev pub intervals_after : List NumberedInterval → List Command → List NumberedInterval
+intervals_after intervals [] = intervals
+intervals_after intervals (c ∷ cs) = intervals_after (stab_step intervals c) cs
+
 -- the answers to some commands, from no interval
 abbrev pub stab_answers : List Command → List (List ℕ)
 stab_answers commands = stab_answers_from [] commands

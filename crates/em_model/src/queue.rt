@@ -5,11 +5,14 @@ ghost use Rattle.em_model.specs.Queue.{queue_answers};
 use crate::command::Command;
 use std::alloc::{AllocError, Global};
 
-/// A pushed element of the queue, with the number of its push, counted from 1.
+/// A pushed element of the queue.
 #[derive(Clone, Copy, Debug, PartialEq, Eq)]
 pub struct Item {
+    /// What it is ordered by.
     pub key: u64,
+    /// The number of its push, counted from 1.
     pub number: u64,
+    /// What a pop answers beside the key.
     pub value: u64,
 }
 

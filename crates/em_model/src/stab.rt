@@ -4,12 +4,14 @@ ghost use Rattle.em_model.specs.Stab.{holds_point, holders_of, stab_answers};
 use crate::command::Command;
 use std::alloc::{AllocError, Global};
 
-/// An interval of the interval list, from `low` to `high`, both included, with its number among all
-/// intervals, counted from 0.
+/// An interval of the interval list.
 #[derive(Clone, Copy, Debug, PartialEq, Eq)]
 pub struct NumberedInterval {
+    /// Its number among all intervals, counted from 0.
     pub number: u64,
+    /// Its least point.
     pub low: u64,
+    /// Its greatest point.
     pub high: u64,
 }
 

@@ -82,6 +82,7 @@ pushed_is s t q v x spent (Ok y) i f a k told =
       packed = λ z. a.packed (told ∙ z) (i.packed (told ∙ z));
       filled_is = omega arith;
       len_most = omega arith;
+      since_none = λ e. absurd (omega (arith, counts, e));
       blocks_most = omega arith;
     }
 pushed_is s t q v x spent (Err e) i f a k told = tt
@@ -166,5 +167,6 @@ taken_is s t q v item spent h g i f shape k =
       packed = k.is_full.packed;
       filled_is = k.is_full.filled_is;
       len_most = settled_least v.count (q.since + 1) (omega arith);
+      since_none = λ e. rw e refl;
       blocks_most = omega arith;
     }

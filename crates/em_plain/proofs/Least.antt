@@ -21,7 +21,7 @@ use Rattle.em_chain.specs.Writer.{CanGrow, IsWriter, NeedsBlock, writer_items, w
 use Rattle.em_chain.specs.Writes.{Appends, AppendCosts}
 use Rattle.em_chain.specs.declared.reader.Reader.{Reader}
 use Rattle.em_chain.specs.declared.writer.Writer.{Writer}
-use Rattle.em_chain.proofs.Blocks.{off_right}
+use Rattle.em_space.proofs.Apart.{off_right}
 use Rattle.em_chain.proofs.Keeps.{payload_kept, touches_same}
 use Rattle.em_chain.proofs.Loops.{owing}
 use Rattle.em_chain.proofs.Parts.{pair_appends, pair_reads, full_room, more_room, owes_zero}

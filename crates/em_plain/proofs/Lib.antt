@@ -11,6 +11,7 @@ pub mod Lending
 pub mod Looking
 pub mod MapFinish
 pub mod Noting
+pub mod Ordered
 pub mod Paying
 pub mod Reading
 pub mod Room

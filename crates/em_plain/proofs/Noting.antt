@@ -90,10 +90,11 @@ pub note_costs : {T : Type 0} (s t : RigState) (l m : CommandList) (result : Res
 note_costs s t l m (Ok y) h i k =
     let u = k.used in
     let b = k.more in
-    record { most = note_most s t l h i k.most (omega arith); pays = tt }
+    record { most = note_most s t l h i k.most (omega arith); pays = tt; full = tt }
 note_costs s t l m (Err e) h i k =
     let low = h.shape.frames_low in
     record {
       most = note_most s t l h i k.most k.used_err;
       pays = pays_of_owes 0 (unstored l) s.pool.shape.frames s t k.owes_err (omega arith);
+      full = k.full;
     }

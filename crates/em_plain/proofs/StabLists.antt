@@ -4,8 +4,8 @@ use Rattle.std.proofs.lemmas.List.{map-append, append-nil, take-append-drop, tak
 use Rattle.std.proofs.lemmas.List.Elements.{filter-append}
 use Rattle.std.proofs.lemmas.Bool.{le-leb}
 use Rattle.em_record.specs.declared.record.Record.{Record}
-use Rattle.em_model.specs.Stab.{NumberedInterval, holds_point, holders_of, stab_step, stab_answer_of, stab_answers_from, stab_answers}
-use Rattle.em_model.proofs.StabLaws.{intervals_after, stab_answers_from-append}
+use Rattle.em_model.specs.Stab.{NumberedInterval, holds_point, holders_of, stab_step, stab_answer_of, stab_answers_from, stab_answers, intervals_after}
+use Rattle.em_model.proofs.StabLaws.{stab_answers_from-append}
 use Rattle.em_model.specs.declared.command.Command.{Command}
 use Rattle.em_model.specs.declared.command.Command.TheVariants.{Put, Del, Get, Push, Pop, Interval, Stab}
 use Rattle.em_plain.specs.Command.{command_in, commands_in}

@@ -65,6 +65,7 @@ stays q held s t i h a o =
             st.packed z (i.packed z);
         filled_is = st.filled_is ∙ i.filled_is;
         len_most = i.len_most;
+        since_none = i.since_none;
         blocks_most = i.blocks_most;
       },
       λ told. ap in_order (st.items told),

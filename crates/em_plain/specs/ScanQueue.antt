@@ -61,6 +61,7 @@ pub record IsScanQueue (s : RigState) (q : ScanQueue) : Type 0 where
   pub packed : IsTrue s.device.told → IsPackedSoFar s q.writer
   pub filled_is : filled s q.writer ≡ q.writer.count
   pub len_most : q.writer.count ≤ q.since
+  pub since_none : q.writer.count ≡ 0 → q.since ≡ 0
   pub blocks_most : q.writer.blocks ≤ q.most
 
 -- one free block is enough for each call

@@ -1,8 +1,7 @@
 -- The pairs of stabs while a chain of commands is read.
 use Rattle.std.specs.Prelude.{ℕ, ◌+◌, if◌then◌else◌, List, [], ◌∷◌, map, length}
 use Rattle.em_record.specs.declared.record.Record.{Record}
-use Rattle.em_model.specs.Stab.{NumberedInterval, holds_point, holders_of, stab_answers}
-use Rattle.em_model.proofs.StabLaws.{intervals_after}
+use Rattle.em_model.specs.Stab.{NumberedInterval, holds_point, holders_of, stab_answers, intervals_after}
 use Rattle.em_model.specs.declared.command.Command.{Command}
 use Rattle.em_model.specs.declared.command.Command.TheVariants.{Interval, Stab}
 use Rattle.em_plain.specs.Command.{commands_in}

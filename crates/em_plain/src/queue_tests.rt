@@ -278,3 +278,20 @@ fn items_come_as_worked_by_hand(rt: HostRuntime) -> Result<(), Fail> {
     }
     Ok(())
 }
+
+/// The script makes calls 1 to 11 of the device: call 0 begins it.
+#[test]
+fn a_call_that_fails_gives_the_frames_back(rt: HostRuntime) -> Result<(), Fail> {
+    for failing in 1..13 {
+        let want = if failing < 12 {
+            Err(EmFault::DeviceFault)
+        } else {
+            Ok(true)
+        };
+        let mut device = MemDevice::new(rt.alloc(), &[failing])?;
+        let (answer, _, (free, _)) = run(&rt, &mut device, 1, Script::ByHand)?;
+        assert_eq!(rt; answer, want, "call {failing}");
+        assert_eq!(rt; free, 48, "call {failing}");
+    }
+    Ok(())
+}

@@ -47,8 +47,6 @@ impl ScanQueue {
         ensures counts { IfOk result (λ q. counts_of q ≡ fresh_counts 1 0) }
         ensures complete { IsOk result }
     {
-        // At most two areas are free, which what holds of its frames says.
-        let _ = rig.free_areas();
         Ok(ScanQueue {
             writer: Writer::new(rig),
             calls: 0,
@@ -187,6 +185,8 @@ impl Queue for ScanQueue {
     ghost k_most = { λ q s h. h.k_most };
 
     ghost since_most = { λ q s h. h.since_most };
+
+    ghost since_none = { λ q s h e. h.since_none e };
 
     ghost blocks_most = { λ q s h. h.blocks_most };
 

@@ -49,6 +49,7 @@ sound_written s d m k n r w =
       block_is = w.moved.block ∙ h.block_is;
       moves_is = w.moved.moves ∙ ap next_count h.moves_is ∙ sym w.moves;
       shape = h.shape;
+      areas = h.areas;
       numbers = h.numbers;
       told = λ t. let y : IsTrue s.device.told = sym w.moved.told ∙ t in
           rw w.others.is
@@ -158,6 +159,7 @@ goes_first-sound s k link f =
       block_is = f.sound.block_is;
       moves_is = f.sound.moves_is;
       shape = f.sound.shape;
+      areas = f.sound.areas;
       numbers = record {
         blocks_low = x.blocks_low;
         blocks_high = x.blocks_high;
@@ -314,6 +316,7 @@ module _ (s t : RigState) (k : ℕ) (f : FreesBlock s t k) where
         block_is = g.block_is;
         moves_is = g.moves_is;
         shape = g.shape;
+        areas = g.areas;
         numbers = record {
           blocks_low = g.numbers.blocks_low;
           blocks_high = g.numbers.blocks_high;

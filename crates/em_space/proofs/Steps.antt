@@ -155,13 +155,14 @@ touches_pool s p shape = record {
   };
 }
 
-pub sound_pool : (s : RigState) (p : PoolCounts) → p.shape ≡ s.pool.shape → Sound s
-    → Sound (record s { pool = p })
-sound_pool s p shape h = record {
+pub sound_pool : (s : RigState) (p : PoolCounts) → p.shape ≡ s.pool.shape → p.free_areas ≤ 2
+    → Sound s → Sound (record s { pool = p })
+sound_pool s p shape areas h = record {
   blocks_is = h.blocks_is;
   block_is = rw shape h.block_is;
   moves_is = h.moves_is;
   shape = rw shape h.shape;
+  areas = areas;
   numbers = h.numbers;
   told = λ t. rw shape (h.told t);
   free = h.free;
@@ -174,7 +175,7 @@ goes_with_frame h a c free g =
     let b = record a { pool = lent a.pool } in
     let frames = g.frames in
     record {
-      sound = sound_pool c (given c.pool) refl g.sound;
+      sound = sound_pool c (given c.pool) refl g.sound.areas g.sound;
       touches = touches_then h a c (record c { pool = given c.pool })
           (touches_after h a b c (touches_pool a (lent a.pool) refl) g.touches)
           (touches_pool c (given c.pool) refl);

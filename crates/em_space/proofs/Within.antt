@@ -1,12 +1,32 @@
 -- Values whose blocks come from others or weren't in use.
-use Rattle.std.proofs.Common.{ℕ, List, [], ◌∷◌, IsTrue, ◌∙◌}
+use Rattle.std.proofs.Common.{◌≡◌, ℕ, List, [], ◌∷◌, ◌++◌, length, IsTrue, ◌∙◌, arith}
 use Rattle.em_space.specs.Rig.{RigState, Touches, Goes}
 use Rattle.em_space.specs.Held.{Apart, AllInUse, NoneInUse, Within}
-use Rattle.em_space.proofs.Apart.{off_new}
+use Rattle.em_space.proofs.Apart.{off_left, off_new, off_right}
 use Rattle.em_space.proofs.Steps.{touches_trans, same_frames_then}
 
 pub within_same : (s : RigState) (ks : List ℕ) → Within s ks ks
 within_same s ks = record { off = λ z j u o. o }
+
+-- no block at all
+pub within_none : (s : RigState) (held ks : List ℕ) → (IsTrue s.device.told → 0 ≡ length ks)
+    → Within s held ks
+within_none s held [] e = record { off = λ z j u o. tt }
+within_none s held (k ∷ ks) e = record {
+  off = λ z j u o. absurd (let n = e z in omega arith);
+}
+
+-- each of two lists
+pub within_left : (s : RigState) (ks js : List ℕ) → Within s (ks ++ js) ks
+within_left s ks js = record { off = λ z j u o. off_left j ks js o }
+
+pub within_right : (s : RigState) (ks js : List ℕ) → Within s (ks ++ js) js
+within_right s ks js = record { off = λ z j u o. off_right j ks js o }
+
+-- a value that holds the same blocks as before
+pub within_kept : (s : RigState) (held ks js : List ℕ) → Within s held ks
+    → (IsTrue s.device.told → js ≡ ks) → Within s held js
+within_kept s held ks js w e = record { off = λ z j u o. rw (e z) (w.off z j u o) }
 
 -- new blocks alone
 pub within_new : (s : RigState) (held ks : List ℕ) → (IsTrue s.device.told → NoneInUse s ks)

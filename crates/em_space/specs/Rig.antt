@@ -47,6 +47,7 @@ pub record Sound (s : RigState) : Type 0 where
   pub block_is : s.device.block ≡ s.pool.shape.block
   pub moves_is : s.device.moves ≡ s.moves
   pub shape : IsShape s.pool.shape
+  pub areas : s.pool.free_areas ≤ 2
   pub numbers : AreNumbers s.blocks s.head s.used s.most
   pub told : IsTrue s.device.told → IsLaidOut s.device.contents s.blocks s.pool.shape.block
   pub free : IsTrue s.device.told → IsFreeList s.device.contents s.most s.used s.head

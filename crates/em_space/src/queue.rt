@@ -155,6 +155,10 @@ pub trait Queue {
     ghost since_most: { (q : Self) (s : RigState) → HasItsFrames q s
         → (counts q).since ≤ (counts q).k };
 
+    /// With no item no call came since it had none.
+    ghost since_none: { (q : Self) (s : RigState) → IsQueue q s → (counts q).len ≡ 0
+        → (counts q).since ≡ 0 };
+
     /// It holds at most as many blocks as its greatest number says, and of them at most as many that
     /// weren't stored as it holds single frames.
     ghost blocks_most: { (q : Self) (s : RigState) → IsQueue q s

@@ -10,10 +10,10 @@ use Rattle.std.proofs.lemmas.List.{append-nil, map-append}
 use Rattle.em_record.proofs.Order.{at_least_with, below_ranks, order_push, with_later, with_least}
 use Rattle.em_record.specs.Order.{AtLeast, in_order, is_below, with_record, with_records}
 use Rattle.em_record.specs.declared.record.Record.{Record}
-use Rattle.em_model.specs.Queue.{Item, Queue, goes_before, least, least_of, no_items, without_number, without_least, queue_answer_of, queue_step}
+use Rattle.em_model.specs.Queue.{Item, Queue, goes_before, least, least_of, no_items, without_number, without_least, queue_answer_of, queue_step, number_of}
 use Rattle.em_model.specs.declared.command.Command.TheVariants.{Push, Pop}
-use Rattle.em_model.proofs.Ascending.{Ascend}
-use Rattle.em_model.proofs.QueueLaws.{in_order_after, kept_head, least_among, lost_head, none_before_least, number_from, number_of, without_none}
+use Rattle.em_model.specs.Ascending.{Ascend}
+use Rattle.em_model.proofs.QueueLaws.{in_order_after, kept_head, least_among, lost_head, none_before_least, number_from, without_none}
 use Rattle.em_space.specs.Queue.{Lacks}
 use Rattle.emtool.specs.Answer.{popped_line, queue_text}
 use Rattle.emtool.specs.Print.{popped_in}

@@ -5,17 +5,21 @@ use Rattle.em_io.specs.Sink.{IsRule}
 use Rattle.em_io.proofs.Sent.{part-of, sent-nothing}
 use Rattle.em_record.specs.declared.record.Record.{Record}
 use Rattle.em_model.specs.Stab.{stab_answers}
-use Rattle.em_space.specs.Queue.{QueueCounts, Leaves}
-use Rattle.em_space.specs.Rig.{RigState, Cause, Touches}
+use Rattle.em_space.specs.Queue.{QueueCounts, Leaves, fresh_counts}
+use Rattle.em_space.specs.Rig.{RigState, Cause, Sound, Touches}
 use Rattle.em_space.specs.declared.fault.EmFault.TheVariants as em
-use Rattle.em_space.proofs.Steps.{cause_after}
+use Rattle.em_space.proofs.Steps.{cause_after, goes_nothing}
+use Rattle.em_space.proofs.Within.{touches_within, within_none}
 use Rattle.em_chain.specs.Counts.{ceiling}
+use Rattle.em_plain.specs.QueueLaws.{blocks_is}
+use Rattle.em_plain.specs.ScanQueue.{IsScanQueue, counts_of, queue_blocks}
+use Rattle.em_plain.specs.declared.scan_queue.ScanQueue.{ScanQueue}
 use Rattle.emtool.specs.CommandLine.{first_fault, good_commands}
 use Rattle.emtool.specs.Due.{output_text, text_unless}
 use Rattle.emtool.specs.Answer.{text_for}
 use Rattle.emtool.specs.Run.{Outside}
 use Rattle.emtool.specs.RunSize.{commands_taken}
-use Rattle.emtool.specs.Serve.{IsFilledBy}
+use Rattle.emtool.specs.Serve.{IsAlone, IsFilledBy}
 use Rattle.emtool.specs.Print.{records_text}
 use Rattle.emtool.specs.Service.{IsFilled, kind_is, records_for}
 use Rattle.emtool.specs.Stop.{Faults, IfStopsFull, OnFault, PrintCause, StopCause}
@@ -138,6 +142,23 @@ filled_alone tells text left s t c used some l full most n = record {
       let u = full.most in
       rw (l.touches.shape) (omega (arith, rises, u, most));
 }
+
+-- a new queue is alone on a rig of which no block is or was in use,
+pub alone_fresh : (s : RigState) (c : QueueCounts) (frames areas : ℕ)
+    → c ≡ fresh_counts frames areas → s.used ≡ 0 → s.most ≡ 0 → IsAlone s c
+alone_fresh s c frames areas e used most = rw e (record {
+  used = used;
+  most = omega (arith, most);
+  paid = inr (omega (arith, used));
+})
+
+-- and has no block that a call of its own could change
+pub touches_fresh : (s t : RigState) (q : ScanQueue) → Sound s → IsScanQueue s q
+    → counts_of q ≡ fresh_counts 1 0 → Touches (queue_blocks s q) s t → Touches [] s t
+touches_fresh s t q sound i e h =
+    touches_within s s t [] (queue_blocks s q) (goes_nothing s sound).touches
+    (within_none s [] (queue_blocks s q)
+    (λ z. sym (ap (λ (c : QueueCounts). c.blocks) e) ∙ blocks_is q s i z)) h
 
 -- A queue that was alone on a full device gave its frames back.
 pub queue_filled : (tells : Bool) (text left : List ℕ) (s t : RigState) (c : QueueCounts)

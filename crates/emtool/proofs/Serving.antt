@@ -1,16 +1,13 @@
 -- A queue file that is answered command by command.
-use Rattle.std.proofs.Common.{◌≡◌, ℕ, ◌+◌, ◌-◌, ◌≤◌, ◌^◌, List, [], ◌∷◌, ◌++◌, ap, ◌∙◌, arith, length, refl, IsTrue, Result, Ok, Err, inl, inr, ⊎_elim}
+use Rattle.std.proofs.Common.{◌≡◌, ℕ, ◌+◌, ◌-◌, ◌≤◌, ◌^◌, List, [], ◌∷◌, ◌++◌, ap, ◌∙◌, arith, length, Result, Ok, Err, inl, inr, ⊎_elim}
 use Rattle.std.proofs.lemmas.Grind.{flat_map-append}
 use Rattle.std.specs.Prelude.{IsErr}
 use Rattle.std.specs.Result.{IsErrAnd}
 use Rattle.em_io.specs.Sink.{Sent, SentPart}
-use Rattle.em_record.specs.Shape.{fan_of}
 use Rattle.em_record.specs.declared.record.Record.{Record}
 use Rattle.em_model.specs.Queue.{Queue, queue_answer_of, queue_answers_from, queue_step}
 use Rattle.em_model.specs.declared.command.Command.{Command}
-use Rattle.em_frames.specs.Pool.{PoolCounts}
-use Rattle.em_space.specs.Held.{Within}
-use Rattle.em_space.specs.Queue.{CanServe, Pays, QueueCounts, Served, Serves, Shares}
+use Rattle.em_space.specs.Queue.{Pays, QueueCounts, Served, Serves}
 use Rattle.em_space.specs.Rig.{RigState}
 use Rattle.em_space.specs.declared.fault.EmFault.TheVariants.{DeviceFault, Full, Damaged}
 use Rattle.emtool.specs.Answer.{popped_line, queue_text}
@@ -84,43 +81,6 @@ stops_full held s t c d faults after (Em DeviceFault) a v cause p = tt
 stops_full held s t c d faults after (Em (Full used)) a v cause p =
     filled_by held s t c d used a v p cause
 stops_full held s t c d faults after (Em (Damaged block)) a v cause p = tt
-
--- the pool and the queue over several calls
-pub shares_then : (c d e : QueueCounts) (p q r : PoolCounts) → Shares c d p q → Shares d e q r
-    → Shares c e p r
-shares_then c d e p q r x y = record {
-  shape = y.shape ∙ x.shape;
-  free = let a = x.free in let b = y.free in omega (arith, a, b);
-  areas = let a = x.areas in let b = y.areas in omega (arith, a, b);
-  rack = y.rack ∙ x.rack;
-  peak = let a = x.peak in let b = y.peak in omega (arith, a, b);
-}
-
-pub shares_none : (c : QueueCounts) (p : PoolCounts) → Shares c c p p
-shares_none c p = record {
-  shape = refl;
-  free = refl;
-  areas = refl;
-  rack = refl;
-  peak = omega arith;
-}
-
--- as many frames are free after a call that didn't give up
-pub still_serves : (c d : QueueCounts) (p q : PoolCounts) → CanServe p → Shares c d p q
-    → d.frames ≡ c.frames → d.areas ≡ c.areas → CanServe q
-still_serves c d p q f x same areas = record {
-  singles =
-      let e = ap fan_of x.shape in let a = x.free in let b = f.singles in
-      omega (arith, e, a, b, same);
-  areas = let a = x.areas in let b = f.areas in omega (arith, a, b, areas);
-  rack = x.rack ∙ f.rack;
-}
-
--- a queue with no block
-pub within_none : (s : RigState) (ks : List ℕ) → (IsTrue s.device.told → 0 ≡ length ks)
-    → Within s [] ks
-within_none s [] e = record { off = λ z j u o. tt }
-within_none s (k ∷ ks) e = record { off = λ z j u o. absurd (let n = e z in omega arith) }
 
 -- Before the first command.
 

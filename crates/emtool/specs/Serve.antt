@@ -2,8 +2,7 @@
 use Rattle.std.specs.Prelude.{◌≡◌, ℕ, ◌+◌, ◌-◌, ◌≤◌, ◌^◌, ◌⊎◌, List, [], ◌∷◌, map, Result, OnOk, IfErr}
 use Rattle.em_record.specs.Count.{Rose}
 use Rattle.em_io.specs.Sink.{SentPart}
-use Rattle.em_model.specs.Queue.{Item, Queue}
-use Rattle.em_model.proofs.QueueLaws.{AreInOrder}
+use Rattle.em_model.specs.Queue.{Item, Queue, AreInOrder}
 use Rattle.em_record.specs.Order.{in_order}
 use Rattle.em_record.specs.declared.record.Record.{Record}
 use Rattle.em_space.specs.Queue.{QueueCounts}

@@ -1,10 +1,24 @@
 //! Runs of queue and stab files over the outside in memory.
+ghost use Rattle.std.specs.Prelude.{◌<◌};
 
 use crate::status::{Malform, Status};
 use crate::tests::{PLAIN, Setting, run};
 use crate::text::TextKind;
 use std::alloc::Global;
 use std::test::Fail;
+
+/// The file of a queue, of 43 bytes.
+const QUEUE: &[u8] = b"push 4 1\npush 4 2\npop\npush 4 0\npop\npop\npop\n";
+
+/// The lines that it is answered by.
+const POPPED: &[u8] = b"4 1\n4 2\n4 0\n-\n";
+
+/// The file of an interval list, of 94 bytes.
+const STAB: &[u8] =
+    b"stab 5\niv 5 5\niv 7 18446744073709551615\nstab 5\nstab 6\nstab 18446744073709551615\niv 0 5\nstab 5\n";
+
+/// The lines that it is answered by.
+const HELD: &[u8] = b"-\n0\n-\n1\n0 2\n";
 
 /// The status of a faulty line.
 fn malformed(kind: TextKind, place: u64) -> Status {
@@ -17,11 +31,7 @@ fn malformed(kind: TextKind, place: u64) -> Status {
 #[test]
 fn queue_files_are_answered(rt: HostRuntime) -> Result<(), Fail> {
     let cases: [(&[u8], Status, &[u8]); 5] = [
-        (
-            b"push 4 1\npush 4 2\npop\npush 4 0\npop\npop\npop\n",
-            Status::Done,
-            b"4 1\n4 2\n4 0\n-\n",
-        ),
+        (QUEUE, Status::Done, POPPED),
         (
             b"push 1 2\npop\npush x 1\n",
             malformed(TextKind::BadNumber, 3),
@@ -43,28 +53,102 @@ fn queue_files_are_answered(rt: HostRuntime) -> Result<(), Fail> {
     Ok(())
 }
 
-/// The shelf gives 5 bytes a call. Call 0 opens the file, and its pops end in calls 5, 7, 8 and 9;
-/// call 10 finds its end. Each line is printed before the next call.
-#[test]
-fn each_line_of_a_queue_comes_when_its_pop_is_read(rt: HostRuntime) -> Result<(), Fail> {
-    let text = b"push 4 1\npush 4 2\npop\npush 4 0\npop\npop\npop\n";
-    let cases: [(u64, &[u8]); 6] = [
-        (0, b""),
-        (5, b""),
-        (6, b"4 1\n"),
-        (8, b"4 1\n4 2\n"),
-        (9, b"4 1\n4 2\n4 0\n"),
-        (10, b"4 1\n4 2\n4 0\n-\n"),
-    ];
-    for (call, output) in cases {
-        let failing = [call];
-        let setting = Setting {
-            shelf_fails: &failing,
+/// The part of the outside of which a call fails.
+#[derive(Clone, Copy)]
+enum Part {
+    Device,
+    Shelf,
+    Output,
+}
+
+/// A setting in which these calls of a part fail.
+fn failing(part: Part, calls: &[u64]) -> Setting<'_>
+    ensures { 0 < result.piece }
+{
+    match part {
+        Part::Device => Setting {
+            device_fails: calls,
             ..PLAIN
-        };
-        let (status, out, _) = run(&rt, &["queue", "a"], text, setting)?;
-        assert!(rt; status == Status::ReadFault);
-        assert_eq!(rt; out.bytes(), output);
+        },
+        Part::Shelf => Setting {
+            shelf_fails: calls,
+            ..PLAIN
+        },
+        Part::Output => Setting {
+            out_fails: calls,
+            ..PLAIN
+        },
+    }
+}
+
+/// Call 0 of the device begins it. The first two pops of the queue make 4 calls each: the block is
+/// stored, loaded and released, and its header read again, since one item is left. The third pop
+/// makes 3 of them, and the last none. The commands of the other file are stored by call 1 and loaded
+/// in search of stabs by call 2, and again for each stab but the first, before which there is none;
+/// call 7 stores the pairs, calls 8 and 9 release the commands, and call 10 loads the pairs.
+///
+/// The shelf gives 5 bytes a call, and call 0 opens the file. The pops of the queue end in calls 5, 7,
+/// 8 and 9, and call 10 finds the end; call 20 finds the other's. A line goes out in one call.
+#[test]
+fn each_failing_call_ends_the_run(rt: HostRuntime) -> Result<(), Fail> {
+    let cases: [(&str, Part, u64, Status, &[u8]); 32] = [
+        ("queue", Part::Device, 0, Status::DeviceFault, b""),
+        ("queue", Part::Device, 1, Status::DeviceFault, b""),
+        ("queue", Part::Device, 4, Status::DeviceFault, b""),
+        ("queue", Part::Device, 5, Status::DeviceFault, b"4 1\n"),
+        ("queue", Part::Device, 8, Status::DeviceFault, b"4 1\n"),
+        ("queue", Part::Device, 9, Status::DeviceFault, b"4 1\n4 2\n"),
+        (
+            "queue",
+            Part::Device,
+            11,
+            Status::DeviceFault,
+            b"4 1\n4 2\n",
+        ),
+        ("queue", Part::Device, 12, Status::Done, POPPED),
+        ("queue", Part::Shelf, 0, Status::ReadFault, b""),
+        ("queue", Part::Shelf, 5, Status::ReadFault, b""),
+        ("queue", Part::Shelf, 6, Status::ReadFault, b"4 1\n"),
+        ("queue", Part::Shelf, 8, Status::ReadFault, b"4 1\n4 2\n"),
+        (
+            "queue",
+            Part::Shelf,
+            9,
+            Status::ReadFault,
+            b"4 1\n4 2\n4 0\n",
+        ),
+        ("queue", Part::Shelf, 10, Status::ReadFault, POPPED),
+        ("queue", Part::Shelf, 11, Status::Done, POPPED),
+        ("queue", Part::Output, 0, Status::WriteFault, b""),
+        ("queue", Part::Output, 1, Status::WriteFault, b"4 1\n"),
+        (
+            "queue",
+            Part::Output,
+            3,
+            Status::WriteFault,
+            b"4 1\n4 2\n4 0\n",
+        ),
+        ("queue", Part::Output, 4, Status::Done, POPPED),
+        ("stab", Part::Device, 0, Status::DeviceFault, b""),
+        ("stab", Part::Device, 1, Status::DeviceFault, b""),
+        ("stab", Part::Device, 6, Status::DeviceFault, b""),
+        ("stab", Part::Device, 7, Status::DeviceFault, b""),
+        ("stab", Part::Device, 10, Status::DeviceFault, b""),
+        ("stab", Part::Device, 11, Status::Done, HELD),
+        ("stab", Part::Shelf, 0, Status::ReadFault, b""),
+        ("stab", Part::Shelf, 20, Status::ReadFault, b""),
+        ("stab", Part::Shelf, 21, Status::Done, HELD),
+        ("stab", Part::Output, 0, Status::WriteFault, b""),
+        ("stab", Part::Output, 2, Status::WriteFault, b"-\n0\n"),
+        ("stab", Part::Output, 4, Status::WriteFault, b"-\n0\n-\n1\n"),
+        ("stab", Part::Output, 5, Status::Done, HELD),
+    ];
+    for (command, part, call, status, output) in cases {
+        let text = if command == "queue" { QUEUE } else { STAB };
+        let calls = [call];
+        let (got, out, _) = run(&rt, &[command, "a"], text, failing(part, &calls))?;
+        assert!(rt; got == status, "call {call}");
+        assert_eq!(rt; out.bytes(), output, "call {call}");
     }
     Ok(())
 }
@@ -72,11 +156,7 @@ fn each_line_of_a_queue_comes_when_its_pop_is_read(rt: HostRuntime) -> Result<()
 #[test]
 fn stab_files_are_answered(rt: HostRuntime) -> Result<(), Fail> {
     let cases: [(&[u8], Status, &[u8]); 4] = [
-        (
-            b"stab 5\niv 5 5\niv 7 18446744073709551615\nstab 5\nstab 6\nstab 18446744073709551615\niv 0 5\nstab 5\n",
-            Status::Done,
-            b"-\n0\n-\n1\n0 2\n",
-        ),
+        (STAB, Status::Done, HELD),
         (b"iv 7 3\n", malformed(TextKind::LowAboveHigh, 1), b""),
         (b"", Status::Done, b""),
         (

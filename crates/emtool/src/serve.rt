@@ -1,5 +1,5 @@
 // A queue file is answered pop by pop.
-ghost use Rattle.std.specs.Prelude.{◌≡◌, ◌<◌, ◌≤◌, ◌^◌, true, [], IfErr, IfOk, IsTrue, OnOk};
+ghost use Rattle.std.specs.Prelude.{◌≡◌, ◌<◌, ◌≤◌, ◌^◌, true, IfErr, IfOk, IsTrue, OnOk};
 ghost use Rattle.em_io.specs.Feed.{rest};
 ghost use Rattle.em_model.specs.Queue.{queue_answer_of, queue_step};
 ghost use Rattle.em_space.specs.Held.{Within};
@@ -11,7 +11,7 @@ ghost use Rattle.emtool.specs.CommandLine.{good_commands};
 ghost use Rattle.emtool.specs.Kind.{IsOfKind};
 ghost use Rattle.emtool.specs.Reads.{Reads};
 ghost use Rattle.emtool.specs.RunSize.{commands_taken};
-ghost use Rattle.emtool.specs.Serve.{Answers, Follows, IsFilledBy, Model, NumberedTo, ServeCause};
+ghost use Rattle.emtool.specs.Serve.{Answers, Follows, IsAlone, IsFilledBy, Model, NumberedTo, ServeCause};
 ghost use Rattle.emtool.specs.Stop.{IfStopsFull, Prints, ReadsAll, StopCause, fault_counts};
 
 use crate::line::take_line;
@@ -89,7 +89,7 @@ fn serve_one<D: Device, W: Sink, Q: Queue>(
 }
 
 /// Answers the commands of a queue file by a queue that was never called, up to the first fault, on
-/// a rig of which no block is or was in use.
+/// a rig of which all blocks in use are the queue's.
 pub fn serve<D: Device, H: Shelf, W: Sink, Q: Queue>(
     rig: &mut Rig<'_, D>,
     queue: &mut Q,
@@ -102,13 +102,12 @@ pub fn serve<D: Device, H: Shelf, W: Sink, Q: Queue>(
     requires free { CanServe (seen D.state rig.old).pool }
     requires fresh { (Q.counts queue.old).n ≡ 0 }
     requires empty { (Q.counts queue.old).len ≡ 0 }
-    requires blocks { (Q.counts queue.old).blocks ≡ 0 }
-    requires used { (seen D.state rig.old).used ≡ 0 }
-    requires none_ever { (seen D.state rig.old).most ≡ 0 }
+    requires alone { IsAlone (seen D.state rig.old) (Q.counts queue.old) }
     requires ready { ((H.stand shelf.old).slot feed.old.slot).ready ≡ true }
     requires place { feed.old.place ≡ 0 }
     ensures sound { Sound (seen D.state rig.new) }
-    ensures touches { Touches [] (seen D.state rig.old) (seen D.state rig.new) }
+    ensures touches { Touches (Q.blocks queue.old (seen D.state rig.old))
+        (seen D.state rig.old) (seen D.state rig.new) }
     ensures frames { Q.HasItsFrames queue.new (seen D.state rig.new) }
     ensures shares { Shares (Q.counts queue.old) (Q.counts queue.new)
         (seen D.state rig.old).pool (seen D.state rig.new).pool }

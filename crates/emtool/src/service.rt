@@ -17,7 +17,9 @@ use em_space::{EmFault, Rig};
 
 /// A map or an interval list. It can't be dropped.
 pub enum Service {
+    /// For the commands of a map file.
     Map(ScanMap),
+    /// For the commands of a stab file.
     Stab(ScanStab),
 }
 

@@ -31,6 +31,7 @@ pub struct Setting<'a> {
     pub err_fails: &'a [u64],
 }
 
+/// Nothing fails, and a line goes out in one call.
 pub const PLAIN: Setting<'static> = Setting {
     piece: 1000,
     device_fails: &[],

@@ -1,10 +1,8 @@
-use Rattle.std.proofs.Common.{◌≡◌, ◌+◌, ◌≤◌, List, [], ◌∷◌, ◌++◌, arith, length, refl}
+use Rattle.std.proofs.Common.{[], ◌∷◌, ◌++◌, arith, refl}
 use Rattle.std.proofs.lemmas.List.{length_push}
-use Rattle.em_record.specs.declared.record.Record.{Record}
 use Rattle.em_space.specs.Seen.{seen}
 use Rattle.em_space.proofs.Steps.{touches_then}
 use Rattle.em_chain.specs.Chain.{chain_blocks}
-use Rattle.em_chain.specs.Effects.{OnlyMoves}
 use Rattle.em_chain.proofs.Keeps.{lent_same, lent_given}
 use Rattle.em_chain.proofs.Loops.{extending_first, extending_more, extending_touches}
 use Rattle.em_chain.proofs.tests.extend.Goals as goal

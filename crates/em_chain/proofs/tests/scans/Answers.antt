@@ -1,9 +1,6 @@
-use Rattle.std.proofs.Common.{◌≡◌, ◌+◌, List, [], ◌∷◌, ◌++◌}
-use Rattle.em_record.specs.declared.record.Record.{Record}
-use Rattle.em_space.specs.Rig.{RigState, Goes, Touches}
+use Rattle.std.proofs.Common.{[], ◌∷◌, ◌++◌}
 use Rattle.em_space.specs.Seen.{seen}
 use Rattle.em_space.proofs.Steps.{touches_then}
-use Rattle.em_chain.specs.Chain.{chain_blocks}
 use Rattle.em_chain.proofs.Keeps.{lent_same, lent_given}
 use Rattle.em_chain.proofs.Loops.{scanning_first, scanning_more, scanning_touches}
 use Rattle.em_chain.proofs.tests.scans.Goals as goal

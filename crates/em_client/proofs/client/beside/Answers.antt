@@ -1,13 +1,18 @@
-use Rattle.std.proofs.Common.{ap, refl, sym, ◌∙◌, ◌++◌, ◌∷◌, [], arith, List, option_to_list, take, append_assoc, IsTrue}
+use Rattle.std.proofs.Common.{ap, refl, sym, ◌∙◌, ◌++◌, ◌∷◌, [], arith, length, List, Option, option_to_list, take, append_assoc, IsTrue}
 use Rattle.std.proofs.lemmas.List.{append-nil}
 use Rattle.em_record.specs.declared.record.Record.{Record}
+use Rattle.em_space.specs.Held.{Apart}
+use Rattle.em_space.specs.Rig.{Cause}
 use Rattle.em_space.specs.Seen.{seen}
-use Rattle.em_space.proofs.Steps.{goes_nothing}
-use Rattle.em_space.proofs.Within.{touches_within, within_then}
+use Rattle.em_space.proofs.Steps.{cause_after, goes_nothing}
+use Rattle.em_space.proofs.Queues.{out_same, shares_none, shares_same, shares_then, still_serves}
+use Rattle.em_space.proofs.Within.{touches_within, within_kept, within_left, within_right, within_then}
 use Rattle.em_chain.specs.Writer.{WriterStays, writer_blocks, writer_items}
 use Rattle.em_chain.proofs.Keeps.{touches_none}
 use Rattle.em_chain.proofs.Withins.{within_grows}
-use Rattle.em_client.proofs.Clients.{apart_append, apart_beside, left_next, out_same, shares_none, shares_same, shares_then, still_serves, take_next, within_kept, within_left, within_right, writer_beside}
+use Rattle.em_chain.proofs.Parts.{err_of}
+use Rattle.em_chain.proofs.Queues.{apart_beside, apart_grown, writer_beside}
+use Rattle.em_client.proofs.Clients.{left_next, take_next}
 use Rattle.em_client.proofs.client.beside.Goals as goal
 
 pub returns-in_default-clause-writer : goal.returns-in_default-clause-writer
@@ -16,7 +21,8 @@ returns-in_default-clause-writer g c =
     let e = c.in_ok-item.ensures in
     let s = seen g.D.Device.state c.loop-count.rig in
     let t = seen g.D.Device.state c.pop.new.rig in
-    (writer_beside s t c.loop-count.writer _ _ _ inv.writer e.serves e.served inv.apart).is
+    (writer_beside s t c.loop-count.writer _ _ _ inv.writer e.serves e.served.frames
+    inv.apart).is
 
 pub returns-in_default-clause-apart : goal.returns-in_default-clause-apart
 returns-in_default-clause-apart g c = λ told.
@@ -24,9 +30,12 @@ returns-in_default-clause-apart g c = λ told.
     let e = c.in_ok-item.ensures in
     let s = seen g.D.Device.state c.loop-count.rig in
     let t = seen g.D.Device.state c.pop.new.rig in
-    let st = writer_beside s t c.loop-count.writer _ _ _ inv.writer e.serves e.served inv.apart in
-    apart_beside s t c.loop-count.writer _ _ inv.writer st e.within inv.apart
-    (inv.touches.told ∙ told)
+    let w = c.loop-count.writer in
+    let z = inv.touches.told ∙ told in
+    let st = writer_beside s t w _ _ _ inv.writer e.serves e.served.frames
+    inv.apart in
+    rw (st.blocks z) (apart_beside s _ _ (writer_blocks s w) z e.within
+    (inv.writer.told z).holds.in_use (inv.apart z))
 
 pub returns-in_default-clause-written : goal.returns-in_default-clause-written
 returns-in_default-clause-written g c = λ told.
@@ -34,7 +43,8 @@ returns-in_default-clause-written g c = λ told.
     let e = c.in_ok-item.ensures in
     let s = seen g.D.Device.state c.loop-count.rig in
     let t = seen g.D.Device.state c.pop.new.rig in
-    let st = writer_beside s t c.loop-count.writer _ _ _ inv.writer e.serves e.served inv.apart in
+    let st = writer_beside s t c.loop-count.writer _ _ _ inv.writer e.serves e.served.frames
+    inv.apart in
     st.items (inv.touches.told ∙ told) ∙ inv.written told
 
 pub append-requires-clause-is : goal.append-requires-clause-is
@@ -43,7 +53,8 @@ append-requires-clause-is g c =
     let e = c.in_ok-item.ensures in
     let s = seen g.D.Device.state c.loop-count.rig in
     let t = seen g.D.Device.state c.pop.new.rig in
-    (writer_beside s t c.loop-count.writer _ _ _ inv.writer e.serves e.served inv.apart).is
+    (writer_beside s t c.loop-count.writer _ _ _ inv.writer e.serves e.served.frames
+    inv.apart).is
 
 pub returns-in_err-append-clause-frames : goal.returns-in_err-append-clause-frames
 returns-in_err-append-clause-frames g c =
@@ -72,6 +83,7 @@ loop-count-init g c =
       apart = c.requires.apart;
       count = omega arith;
       n = omega arith;
+      remaining = omega arith;
       len = omega arith;
       blocks = omega arith;
       left = λ z. refl;
@@ -96,12 +108,24 @@ returns-in_err-append-clause-touches g c =
     let t = seen g.D.Device.state c.pop.new.rig in
     let u = seen g.D.Device.state c.append.new.rig in
     let w = c.loop-count.writer in
-    let st : WriterStays s t w =
-    writer_beside s t w _ _ _ inv.writer e.serves e.served inv.apart in
+    let st : WriterStays s t w = writer_beside s t w _ _ _ inv.writer e.serves e.served.frames
+    inv.apart in
     touches_within _ t u _ (writer_blocks t w)
     (touches_within _ s t _ _ inv.touches inv.within e.serves.touches)
     (within_kept _ _ _ (writer_blocks t w) inv.within_list
     (λ z. st.blocks (inv.touches.told ∙ z))) c.append.ensures.goes.touches
+
+pub returns-in_err-append-clause-cause : goal.returns-in_err-append-clause-cause
+returns-in_err-append-clause-cause g c =
+    let inv = c.loop-count.invariant in
+    let first = seen g.D.Device.state c.args.rig.now in
+    let s = seen g.D.Device.state c.loop-count.rig in
+    let t = seen g.D.Device.state c.pop.new.rig in
+    let u = seen g.D.Device.state c.append.new.rig in
+    err_of _ c.in_err-append.field-0.0 (Cause first u) c.from_residual-in_err-append.ensures.1
+    (cause_after _ first t u _
+    (touches_within _ s t _ _ inv.touches inv.within c.in_ok-item.ensures.serves.touches)
+    c.in_err-append.ensures.cause)
 
 pub loop-count-preserved : goal.loop-count-preserved
 loop-count-preserved g c =
@@ -117,12 +141,14 @@ loop-count-preserved g c =
     let t = seen g.D.Device.state c.pop.new.rig in
     let u = seen g.D.Device.state c.append.new.rig in
     let all = g.Q.Queue.items c.args.queue.now (seen g.D.Device.state c.args.rig.now) in
-    let st : WriterStays s t w =
-    writer_beside s t w _ _ _ inv.writer e.serves e.served inv.apart in
-    let apart = λ (z : IsTrue t.device.told).
-    apart_beside s t w _ _ inv.writer st e.within inv.apart (sym e.serves.touches.told ∙ z) in
+    let st : WriterStays s t w = writer_beside s t w _ _ _ inv.writer e.serves e.served.frames
+    inv.apart in
+    let apart = λ (z : IsTrue s.device.told). apart_beside s _ _ (writer_blocks s w) z e.within
+    (inv.writer.told z).holds.in_use (inv.apart z) in
     let out = out_same _ _ _ (laws.out q t e.frames) a.goes.frames in
-    let kept = laws.stays q (writer_blocks t w) t u e.is a.goes.touches apart out in
+    let off : IsTrue t.device.told → Apart (g.Q.Queue.blocks q t) (writer_blocks t w) =
+    λ z. let zs = sym e.serves.touches.told ∙ z in rw (st.blocks zs) (apart zs) in
+    let kept = laws.stays q (writer_blocks t w) t u e.is a.goes.touches off out in
     let touches = touches_within _ s t _ _ inv.touches inv.within e.serves.touches in
     let list = within_kept _ _ _ (writer_blocks t w) inv.within_list
     (λ z. st.blocks (inv.touches.told ∙ z)) in
@@ -142,10 +168,14 @@ loop-count-preserved g c =
       free = still_serves _ _ _ _ inv.free one e.served.frames e.served.areas;
       apart = λ z.
           let z1 = sym a.goes.touches.told ∙ z in
-          rw (kept.2 z1) (apart_append t u w v x _ a.appends (laws.holds q t e.is z1).in_use
-          (apart z1) z1);
+          rw (kept.2 z1) (apart_grown t _ (writer_blocks t w) _ z1 (laws.holds q t e.is z1).in_use
+          (off z1) (a.appends.grown z1));
       count = omega arith;
       n = let m = e.serves.n in omega (arith, m, inv.n);
+      remaining =
+          let m = e.len in
+          let one = ap (λ (o : Option Record). length (option_to_list o)) c.in-Some.is in
+          omega (arith, m, one, inv.remaining);
       len = let m = a.appends.count_is in omega (arith, m, inv.len);
       blocks = let m = a.costs.more in omega (arith, m, inv.blocks);
       left = λ z.

@@ -28,6 +28,7 @@ invariant-loop-count g l =
           → Apart (g.Q.Queue.blocks l.queue now) (writer_blocks now l.writer);
       count : l.count ≤ l.limit;
       n : counts.n ≡ old.n + l.count;
+      remaining : l.count + counts.len ≡ old.len;
       len : l.writer.count ≡ l.fn.writer.count + l.count;
       blocks : l.writer.blocks ≤ l.fn.writer.blocks + l.count;
       left : IsTrue first.device.told → g.Q.Queue.items l.queue now ≡ drop l.count items;

@@ -1,9 +1,10 @@
 use Rattle.std.proofs.Common.{[], sym, ◌∙◌}
 use Rattle.em_space.specs.Seen.{seen}
 use Rattle.em_space.proofs.Held.{apart_none}
+use Rattle.em_space.proofs.Queues.{out_given, out_lent}
 use Rattle.em_plain.specs.QueueLaws.{out, stays}
 use Rattle.em_plain.specs.ScanQueue.{counts_of, queue_blocks}
-use Rattle.em_client.proofs.Clients.{out_given, out_lent, queue_beside}
+use Rattle.em_client.proofs.Clients.{queue_beside}
 use Rattle.em_client.proofs.tests.copies.Goals as goal
 
 pub beside-requires-clause-is : goal.beside-requires-clause-is
@@ -14,7 +15,7 @@ beside-requires-clause-is g c =
     let is = c.in_ok-push_three.ensures.is in
     let lends = c.new-writer.ensures.lends in
     (stays q [] s t is lends.touches (λ z. apart_none (queue_blocks s q))
-    (out_lent (counts_of q) s.pool t.pool (out q s is.rest) lends.frames)).0
+    (out_lent 1 (counts_of q) s.pool t.pool (out q s is.rest) lends.frames)).0
 
 pub beside-requires-clause-apart : goal.beside-requires-clause-apart
 beside-requires-clause-apart g c = λ z. rw c.new-writer.ensures.begins.held
@@ -32,6 +33,6 @@ returns-in_ok-same-in-Ok-clause-is g c =
     queue_beside u v x c.beside.new.queue c.beside.new.writer _ b.queue c.finish.ensures.gives
     c.in_ok-chain-in-Ok.ensures.finishes c.reads.ensures.goes
     (λ z. b.apart (sym b.touches.told ∙ z))
-    (out_given (counts_of q) (counts_of c.beside.new.queue) s.pool t.pool u.pool v.pool
+    (out_given 1 (counts_of q) (counts_of c.beside.new.queue) s.pool t.pool u.pool v.pool
     (out q s c.in_ok-push_three.ensures.is.rest) c.new-writer.ensures.lends.frames b.shares
     c.finish.ensures.gives.frames)

@@ -12,8 +12,14 @@ use Rattle.emtool.specs.Serve.{Answers}
 use Rattle.emtool.specs.Stop.{StopCause, fault_counts}
 use Rattle.emtool.specs.declared.text.FileKind.TheVariants as kind
 use Rattle.emtool.proofs.EndLaws.{ended_stop}
-use Rattle.emtool.proofs.Running.{queue_filled, queue_stops}
+use Rattle.emtool.proofs.Running.{alone_fresh, queue_filled, queue_stops, touches_fresh}
 use Rattle.emtool.proofs.run.run_queue.Goals as goal
+
+pub serve-done-requires-clause-alone : goal.serve-done-requires-clause-alone
+serve-done-requires-clause-alone g c =
+    let r = c.requires in
+    alone_fresh (seen g.D.Device.state c.args.rig.now) (counts_of c.args.queue) 1 0 r.fresh r.used
+    r.none_ever
 
 pub returns-in-Err-clause-ended : goal.returns-in-Err-clause-ended
 returns-in-Err-clause-ended g c =
@@ -24,6 +30,7 @@ returns-in-Err-clause-ended g c =
     let last = seen g.D.Device.state c.abandon.new.rig in
     let text = (stand.slot First).left in
     let counts = counts_of c.serve-done.new.queue in
+    let req = c.requires in
     let r = c.in-Err.ensures in
     let l = c.abandon.ensures.leaves in
     let feed = c.new-feed.ensures in
@@ -49,7 +56,8 @@ returns-in-Err-clause-ended g c =
     feed (c.serve-done.ensures.answers t d) in
     rw (c.status_of.ensures.is)
     (ended_stop g.H.Shelf.tells kind.Queue text _ _ first last
-    (touches_then [] first mid last r.touches l.touches) l.sound refl refl stop faults later
+    (touches_then [] first mid last
+    (touches_fresh first mid c.args.queue req.sound req.is req.fresh r.touches) l.touches) l.sound refl refl stop faults later
     (queue_stops g.H.Shelf.tells kind.Queue text faults later first mid last counts stop l cause)
     (queue_filled g.H.Shelf.tells text (after.slot First).left mid last counts stop some l r.full
     r.frames.most_most calls)

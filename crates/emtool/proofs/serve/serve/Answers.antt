@@ -1,10 +1,12 @@
-use Rattle.std.proofs.Common.{◌≡◌, ◌+◌, [], ap, sym, ◌∙◌, refl, arith, inr, length, IsTrue}
+use Rattle.std.proofs.Common.{◌≡◌, ◌+◌, ap, sym, ◌∙◌, refl, arith, length, IsTrue}
 use Rattle.em_io.specs.Feed.{rest}
 use Rattle.em_io.proofs.Sent.{part-more, part-rest, sent-nothing}
 use Rattle.em_model.specs.Queue.{no_items, queue_answer_of, queue_answers_from, queue_step}
 use Rattle.em_space.specs.Seen.{seen}
+use Rattle.em_space.proofs.Queues.{shares_none, shares_then, still_serves}
 use Rattle.em_space.proofs.Steps.{goes_nothing}
-use Rattle.em_space.proofs.Within.{touches_within, within_then}
+use Rattle.em_space.proofs.Within.{touches_within, within_same, within_then}
+use Rattle.em_chain.proofs.Keeps.{touches_none}
 use Rattle.emtool.specs.Answer.{queue_text}
 use Rattle.emtool.specs.CommandLine.{parsed_from}
 use Rattle.emtool.specs.LineTaken.{LineTaken}
@@ -13,7 +15,7 @@ use Rattle.emtool.specs.declared.text.FileKind.TheVariants.{Queue}
 use Rattle.emtool.proofs.Printing.{sent_line}
 use Rattle.emtool.proofs.QueueModel.{follows_first}
 use Rattle.emtool.proofs.ReadLaws.{counted_left, counted_more, counted_none}
-use Rattle.emtool.proofs.Serving.{alone_next, next_answer, numbered_none, shares_none, shares_then, still_serves, stopped, within_none}
+use Rattle.emtool.proofs.Serving.{alone_next, next_answer, numbered_none, stopped}
 use Rattle.emtool.proofs.Steps.{reads_then}
 use Rattle.emtool.proofs.serve.serve.Goals as goal
 
@@ -27,17 +29,12 @@ loop-next-init g c =
     λ d. sym r.empty ∙ laws.len_is c.args.queue.now s r.queue d in
     record {
       sound = r.sound;
-      touches = (goes_nothing s r.sound).touches;
+      touches = touches_none _ s s (goes_nothing s r.sound).touches;
       queue = r.queue;
       shares = shares_none (g.Q.Queue.counts c.args.queue.now) s.pool;
       free = r.free;
-      within = within_none s (g.Q.Queue.blocks c.args.queue.now s)
-          (λ d. sym r.blocks ∙ laws.blocks_is c.args.queue.now s r.queue d);
-      alone = record {
-        used = r.used ∙ sym r.blocks;
-        most = omega (arith, r.none_ever);
-        paid = inr (omega (arith, r.used));
-      };
+      within = within_same s _;
+      alone = r.alone;
       number = omega (arith, r.fresh);
       few = omega (arith, r.fresh);
       limit = omega (arith, r.empty);
@@ -131,11 +128,11 @@ loop-next-preserved g c =
     let n = v.serves.n in
     record {
       sound = v.serves.sound;
-      touches = touches_within first mid last [] _ inv.touches inv.within v.serves.touches;
+      touches = touches_within first mid last _ _ inv.touches inv.within v.serves.touches;
       queue = v.queue;
       shares = shares_then _ _ _ _ _ _ inv.shares v.serves.frames;
       free = still_serves _ _ _ _ inv.free v.serves.frames v.served.frames v.served.areas;
-      within = within_then first mid [] _ _ inv.touches inv.within v.within;
+      within = within_then first mid _ _ _ inv.touches inv.within v.within;
       alone = alone_next _ mid last _ _ inv.alone v.serves v.served;
       number = omega (arith, inv.number, n);
       few = let m = rw c.in-Some.is at l.number in omega (arith, m, n, inv.number);

@@ -1,4 +1,4 @@
-use Rattle.std.proofs.Common.{◌≡◌, ◌+◌, ◌-◌, ◌*◌, ◌≤◌, ◌^◌, [], IsTrue}
+use Rattle.std.proofs.Common.{◌≡◌, ◌+◌, ◌-◌, ◌*◌, ◌≤◌, ◌^◌, IsTrue}
 use Rattle.em_io.specs.Feed.{rest}
 use Rattle.em_space.specs.Held.{Within}
 use Rattle.em_space.specs.Queue.{CanServe, Shares}
@@ -21,13 +21,14 @@ invariant-loop-next g l =
     let text = rest l.fn.feed (g.H.Shelf.stand l.fn.shelf) in
     let left = rest l.feed (g.H.Shelf.stand l.shelf) in
     let c = g.Q.Queue.counts l.queue in
+    let held = g.Q.Queue.blocks l.fn.queue first in
     record {
       sound : Sound now;
-      touches : Touches [] first now;
+      touches : Touches held first now;
       queue : g.Q.Queue.IsQueue l.queue now;
       shares : Shares (g.Q.Queue.counts l.fn.queue) c first.pool now.pool;
       free : CanServe now.pool;
-      within : Within first [] (g.Q.Queue.blocks l.queue now);
+      within : Within first held (g.Q.Queue.blocks l.queue now);
       alone : IsAlone now c;
       number : l.number ≡ c.n + 1;
       few : c.n ≤ 2 ^ 40;
