@@ -25,6 +25,7 @@ use Rattle.em_plain.specs.Answering.{Answering, AnswersAll, AnswersOne, ReadsAt}
 use Rattle.em_plain.specs.Collects.{Collected, GaveUp}
 use Rattle.em_plain.specs.Command.{commands_in}
 use Rattle.em_plain.specs.MapAnswers.{answer_records, answers_at}
+use Rattle.em_plain.proofs.Frames.{same_given}
 use Rattle.em_plain.proofs.AnswerLists.{answers-more, take_all}
 use Rattle.em_plain.proofs.Collecting.{collects_blocks, collects_ends, collects_finished, collects_first, collects_refused, collects_stopped, moves_refused, refused_most, refused_unmoved}
 use Rattle.em_plain.proofs.Reading.{reads_kept}
@@ -116,18 +117,10 @@ answering_refused s t u v c r w number h most g f a =
 -- The writer gave its frame back after a call.
 gives_after : (h : List ℕ) (s t u : RigState) → Goes h s t → GivesFrame [] t u → GivesFrame h s u
 gives_after h s t u g k =
-    let gf = g.frames in
-    let kf = k.frames in
     record {
       sound = k.sound;
       touches = touches_then h s t u g.touches k.touches;
-      frames = record {
-        shape = kf.shape ∙ gf.shape;
-        free = kf.free ∙ ap (λ n. n + 1) gf.free;
-        rack = kf.rack ∙ gf.rack;
-        free_areas = kf.free_areas ∙ gf.free_areas;
-        peak = omega (arith, gf.peak, kf.peak);
-      };
+      frames = same_given s.pool t.pool u.pool g.frames k.frames;
     }
 
 pub answering_abandoned : (s t u v : RigState) (c : Chain) (r : Reader) (w : Writer) (number : ℕ)

@@ -2,7 +2,7 @@
 use Rattle.std.proofs.Common.{◌≡◌, ℕ, ◌+◌, ◌-◌, ◌^◌, ◌≤◌, List, [], ◌++◌, length, refl, ap, sym, ◌∙◌, arith, false, IsTrue, inl, inr, ⊎_elim, Result, Ok, Err, OnOk}
 use Rattle.em_record.specs.Shape.{ShapeNumbers}
 use Rattle.em_record.specs.declared.record.Record.{Record}
-use Rattle.em_frames.specs.Pool.{PoolCounts, HasFrames}
+use Rattle.em_frames.specs.Pool.{HasFrames}
 use Rattle.em_space.specs.Rig.{RigState, Owes}
 use Rattle.em_space.specs.declared.fault.EmFault.{EmFault}
 use Rattle.em_space.proofs.Held.{apart_none, in_use_kept}
@@ -10,7 +10,7 @@ use Rattle.em_space.proofs.Steps.{touches_then, touches_trans}
 use Rattle.em_chain.specs.Chain.{IsChain, chain_blocks, chain_items}
 use Rattle.em_chain.specs.Effects.{LendsFrame, GivesFrame, Unmoved}
 use Rattle.em_chain.specs.Reads.{Opens}
-use Rattle.em_chain.specs.Writer.{IsWriter, WriterStays, writer_blocks}
+use Rattle.em_chain.specs.Writer.{writer_blocks}
 use Rattle.em_chain.specs.declared.chain.Chain.{Chain}
 use Rattle.em_chain.specs.declared.reader.Reader.{Reader}
 use Rattle.em_chain.specs.declared.writer.Writer.{Writer}
@@ -18,21 +18,7 @@ use Rattle.em_chain.proofs.Keeps.{lent_given, lent_same, touches_none}
 use Rattle.em_chain.proofs.Laws.{chain_stays, writer_stays}
 use Rattle.em_plain.specs.Adds.{IsAdding, OwesFirst, Adds, AddsBeside, ReadsBeside, ReadsChain}
 use Rattle.em_plain.proofs.Adding.{adds_told}
-
--- a frame that is out stays out where no more are free
-has_yet : (len : ℕ) (p q : PoolCounts) → q.shape ≡ p.shape → q.free ≤ p.free → HasFrames 1 len p
-    → HasFrames 1 len q
-has_yet len p q e f h = record {
-  len_is = h.len_is ∙ ap (λ (x : ShapeNumbers). x.block) (sym e);
-  out = rw e (omega (arith, h.out));
-}
-
--- A frame was lent beside a writer.
-writer_lent : (s t : RigState) (w : Writer) → IsWriter s w → LendsFrame s t → WriterStays s t w
-writer_lent s t w i l =
-    let f = l.frames.free in
-    writer_stays [] s t w l.touches (λ z. apart_none (writer_blocks s w))
-    (has_yet _ s.pool t.pool l.frames.shape (omega arith) i.frame) i
+use Rattle.em_plain.proofs.Frames.{writer_lent}
 
 pub beside_lent : (s t : RigState) (c : Chain) (w : Writer) → AddsBeside s c w → LendsFrame s t
     → Unmoved s t → AddsBeside t c w

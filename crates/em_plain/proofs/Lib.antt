@@ -5,6 +5,7 @@ pub mod Answering
 pub mod Calls
 pub mod Collecting
 pub mod Commands
+pub mod Frames
 pub mod Lacking
 pub mod Least
 pub mod Lending

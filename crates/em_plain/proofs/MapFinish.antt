@@ -21,6 +21,7 @@ use Rattle.em_plain.specs.CommandList.{AnsweredBy, IsCommandList, held, list_blo
 use Rattle.em_plain.specs.MapAnswers.{answer_records}
 use Rattle.em_plain.specs.Room.{StaysWithin, plain_room}
 use Rattle.em_plain.specs.declared.command_list.CommandList.{CommandList}
+use Rattle.em_plain.proofs.Frames.{given_same}
 use Rattle.em_plain.proofs.Noting.{list_blocks_are}
 use Rattle.em_plain.proofs.Room.{ceiling_rises}
 
@@ -47,18 +48,10 @@ commands_within s t u l c d h =
 gives_within : (held ks : List ℕ) (s t u : RigState) → GivesFrame held s t → Within s held ks
     → Goes ks t u → GivesFrame held s u
 gives_within held ks s t u h w g =
-    let a = h.frames in
-    let b = g.frames in
     record {
       sound = g.sound;
       touches = touches_within s t u held ks h.touches w g.touches;
-      frames = record {
-        shape = b.shape ∙ a.shape;
-        free = b.free ∙ a.free;
-        rack = b.rack ∙ a.rack;
-        free_areas = b.free_areas ∙ a.free_areas;
-        peak = omega (arith, a.peak, b.peak);
-      };
+      frames = given_same s.pool t.pool u.pool h.frames g.frames;
     }
 
 -- a call that changed no block that was in use

@@ -26,6 +26,7 @@ use Rattle.em_plain.specs.Room.{StaysWithin, plain_room}
 use Rattle.em_plain.specs.StabAnswers.{stab_pairs}
 use Rattle.em_plain.specs.StabScan.{pairs_in}
 use Rattle.em_plain.specs.declared.command_list.CommandList.{CommandList}
+use Rattle.em_plain.proofs.Frames.{given_same}
 use Rattle.em_plain.proofs.Noting.{list_blocks_are}
 use Rattle.em_plain.proofs.Room.{ceiling_rises}
 
@@ -63,18 +64,10 @@ commands_stay s a b l c e = chain_kept a b c e.goes e.finishes.is
 pub ending_gives : (s a b : RigState) (l : CommandList) (c : Chain) → Ending s a b l c
     → GivesFrame (list_blocks s l) s b
 ending_gives s a b l c e =
-    let g = e.gives.frames in
-    let f = e.goes.frames in
     record {
       sound = e.goes.sound;
       touches = touches_then (list_blocks s l) s a b e.gives.touches e.goes.touches;
-      frames = record {
-        shape = f.shape ∙ g.shape;
-        free = f.free ∙ g.free;
-        rack = f.rack ∙ g.rack;
-        free_areas = f.free_areas ∙ g.free_areas;
-        peak = omega (arith, g.peak, f.peak);
-      };
+      frames = given_same s.pool a.pool b.pool e.gives.frames e.goes.frames;
     }
 
 -- the blocks of the chain are those of the list
@@ -88,18 +81,11 @@ pub ending_released : (s a b t : RigState) (l : CommandList) (c : Chain) → End
     → Goes (chain_blocks b c) b t → GivesFrame (list_blocks s l) s t
 ending_released s a b t l c e g =
     let h = ending_gives s a b l c e in
-    let f = g.frames in
     record {
       sound = g.sound;
       touches = touches_trans (list_blocks s l) (chain_blocks b c) s b t h.touches g.touches
           (λ z j u o. rw (blocks_are s a b l c e z) o);
-      frames = record {
-        shape = f.shape ∙ h.frames.shape;
-        free = f.free ∙ h.frames.free;
-        rack = f.rack ∙ h.frames.rack;
-        free_areas = f.free_areas ∙ h.frames.free_areas;
-        peak = omega (arith, h.frames.peak, f.peak);
-      };
+      frames = given_same s.pool b.pool t.pool h.frames g.frames;
     }
 
 -- the blocks of the commands and those of so many pairs

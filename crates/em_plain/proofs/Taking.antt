@@ -3,7 +3,6 @@ use Rattle.std.proofs.Common.{◌≡◌, ℕ, zero, suc, ◌<◌, ◌≤◌, min
 use Rattle.em_record.specs.Order.{in_order}
 use Rattle.em_record.specs.Shape.{ShapeNumbers}
 use Rattle.em_record.specs.declared.record.Record.{Record}
-use Rattle.em_frames.specs.Pool.{PoolCounts, SameFrames, LentFrames, GivenFrames}
 use Rattle.em_space.specs.Queue.{Pays}
 use Rattle.em_space.specs.Rig.{RigState, Touches, Goes}
 use Rattle.em_space.proofs.Held.{apart_none}
@@ -20,15 +19,9 @@ use Rattle.em_chain.specs.declared.reader.Reader.{Reader}
 use Rattle.em_chain.specs.declared.writer.Writer.{Writer}
 use Rattle.em_chain.proofs.Keeps.{has_kept, lent_given, touches_none}
 use Rattle.em_chain.proofs.Laws.{writer_stays}
-use Rattle.em_chain.proofs.Parts.{has_lent}
 use Rattle.em_plain.specs.Least.{BeginsAnew, IsFull, Passed, TakesLeast}
+use Rattle.em_plain.proofs.Frames.{given_lent, same_given, writer_lent}
 use Rattle.em_plain.proofs.Paying.{pays_unmoved, pays_then, pays_of_writing, finish_pays}
-
--- The list stays as it is while the new writer is made.
-pub whole_stays : (s a : RigState) (w : Writer) → IsWriter s w → LendsFrame s a → WriterStays s a w
-whole_stays s a w i l =
-    writer_stays [] s a w l.touches (λ z. apart_none (writer_blocks s w))
-    (has_lent 1 (length w.frame) s.pool a.pool l.frames i.frame) i
 
 -- with no record there is no block
 none_full : (s : RigState) (w : Writer) → IsWriter s w → filled s w ≡ w.count → w.count ≡ 0
@@ -38,15 +31,6 @@ none_full s w i full none = none_by w.blocks (λ e. i.last.fill_low (i.last.some
     none_by : (b : ℕ) → (0 < b → 1 ≤ w.fill) → b ≡ 0
     none_by zero low = refl
     none_by (suc b) low = let e = low (omega arith) in absurd (omega arith)
-
-same_given : (a b c : PoolCounts) → SameFrames a b → GivenFrames 1 b c → GivenFrames 1 a c
-same_given a b c x y = record {
-  shape = y.shape ∙ x.shape;
-  free = let f = x.free in let g = y.free in omega arith;
-  rack = y.rack ∙ x.rack;
-  free_areas = y.free_areas ∙ x.free_areas;
-  peak = omega (arith, x.peak, y.peak);
-}
 
 -- A writer with no record still has none.
 pub begins_still : (s t : RigState) (w : Writer) → Begins s w → WriterStays s t w → Begins t w
@@ -63,15 +47,6 @@ begins_still s t w b st =
       blocks = e;
       filled_is = st.filled_is ∙ b.filled_is;
     }
-
-given_lent : (a b c : PoolCounts) → GivenFrames 1 a b → LentFrames 1 b c → SameFrames a c
-given_lent a b c x y = record {
-  shape = y.shape ∙ x.shape;
-  free = let f = x.free in let g = y.free in omega arith;
-  rack = y.rack ∙ x.rack;
-  free_areas = y.free_areas ∙ x.free_areas;
-  peak = omega (arith, x.peak, y.peak);
-}
 
 -- The steps up to the moment at which the list is read: a new writer was made, the list was
 -- finished, and a reader was made that takes it.
@@ -135,7 +110,7 @@ restart_blocks : (s a b c : RigState) (w f : Writer) (chain : Chain) (r : Reader
 restart_blocks s a b c w f chain r h z =
     let za = h.lends.touches.told ∙ z in
     let zb = h.gives.touches.told ∙ za in
-    h.opens.blocks zb ∙ h.finishes.blocks za ∙ (whole_stays s a w h.full.is h.lends).blocks z
+    h.opens.blocks zb ∙ h.finishes.blocks za ∙ (writer_lent s a w h.full.is h.lends).blocks z
 
 restart_items : (s a b c : RigState) (w f : Writer) (chain : Chain) (r : Reader)
     → Restarts s a b c w f chain r → IsTrue s.device.told
@@ -143,7 +118,7 @@ restart_items : (s a b c : RigState) (w f : Writer) (chain : Chain) (r : Reader)
 restart_items s a b c w f chain r h z =
     let za = h.lends.touches.told ∙ z in
     let zb = h.gives.touches.told ∙ za in
-    h.opens.items zb ∙ h.finishes.items za ∙ (whole_stays s a w h.full.is h.lends).items z
+    h.opens.items zb ∙ h.finishes.items za ∙ (writer_lent s a w h.full.is h.lends).items z
 
 -- The list was finished, or its last block couldn't be stored.
 pub finish_goes : (s a b : RigState) (w : Writer) → IsWriter s w → LendsFrame s a
@@ -152,7 +127,7 @@ finish_goes s a b w i l g = record {
   sound = g.sound;
   touches = touches_trans (writer_blocks s w) (writer_blocks a w) s a b
       (touches_none (writer_blocks s w) s a l.touches) g.touches
-      (λ z j u o. rw ((whole_stays s a w i l).blocks z) o);
+      (λ z j u o. rw ((writer_lent s a w i l).blocks z) o);
   frames = lent_given s.pool a.pool b.pool l.frames g.frames;
 }
 

@@ -12,6 +12,7 @@ use Rattle.em_space.proofs.Within.{touches_within, within_then}
 use Rattle.em_plain.specs.CommandList.{BeginsList, NoteCosts, Notes, held, list_blocks, list_len, unstored}
 use Rattle.em_plain.specs.Room.{StaysWithin, plain_room}
 use Rattle.em_plain.specs.declared.command_list.CommandList.{CommandList}
+use Rattle.em_plain.proofs.Frames.{same_given}
 use Rattle.em_plain.proofs.Room.{ceiling_rises}
 use Rattle.em_chain.specs.Effects.{GivesFrame}
 use Rattle.em_plain.specs.StabAnswers.{stab_pairs}
@@ -106,13 +107,7 @@ pub list_gives : (s t u : RigState) (l : CommandList) → Goes [] s t → Lists 
 list_gives s t u l before a g = record {
   sound = g.sound;
   touches = touches_within s t u [] (list_blocks t l) before.touches a.within g.touches;
-  frames = record {
-    shape = g.frames.shape ∙ before.frames.shape;
-    free = g.frames.free ∙ ap (λ n. n + 1) before.frames.free;
-    rack = g.frames.rack ∙ before.frames.rack;
-    free_areas = g.frames.free_areas ∙ before.frames.free_areas;
-    peak = let x = g.frames.peak in let y = before.frames.peak in omega (arith, x, y);
-  };
+  frames = same_given s.pool t.pool u.pool before.frames g.frames;
 }
 
 -- What a full device says, where a command wasn't given.

@@ -1,7 +1,8 @@
 use Rattle.std.proofs.lemmas.Result.{IfOk-weaker}
 use Rattle.em_space.specs.Seen.{seen}
 use Rattle.em_plain.specs.Least.{Passed, TakesLeast}
-use Rattle.em_plain.proofs.Taking.{Restarts, whole_stays, begins_anew, finish_goes, take_goes, takes_least}
+use Rattle.em_plain.proofs.Frames.{writer_lent}
+use Rattle.em_plain.proofs.Taking.{Restarts, begins_anew, finish_goes, take_goes, takes_least}
 use Rattle.em_plain.proofs.scan_queue.take_least.Goals as goal
 
 pub finish-requires-clause-is : goal.finish-requires-clause-is
@@ -9,7 +10,7 @@ finish-requires-clause-is g c =
     let s = seen g.D.Device.state c.args.rig.now in
     let a = seen g.D.Device.state c.new-fresh.new.rig in
     rw c.replace-whole.ensures.value
-    (whole_stays s a c.args.list.now c.requires.is.is c.new-fresh.ensures.lends).is
+    (writer_lent s a c.args.list.now c.requires.is.is c.new-fresh.ensures.lends).is
 
 pub returns-in_err-chain-clause-goes : goal.returns-in_err-chain-clause-goes
 returns-in_err-chain-clause-goes g c =
