@@ -32,7 +32,7 @@ const BLOCKS: u64 = 1 << 20;
 /// The most digits of the number of records.
 const MOST_DIGITS: usize = 10;
 
-/// The greatest number of so many digits.
+/// The greatest number of this many digits.
 const MOST_RECORDS: u64 = 9_999_999_999;
 
 /// The number that a word spells, where it is one of 1 to 10 digits.
@@ -70,7 +70,7 @@ fn count_of(rt: &HostRuntime) -> Result<u64, Stop>
     }
 }
 
-/// Appends and reads so many records.
+/// Appends and reads this many records.
 fn run(alloc: Global, count: u64) -> Result<Measured, Stop>
     requires { count ≤ 2 ^ 40 }
     ensures sum { IfOk result (λ run. run.sum ≡ sum_from 0 (records_below count)) }

@@ -1,11 +1,11 @@
 -- The effects of the calls on a cell, of a rig before and after.
-use Rattle.std.specs.Prelude.{◌≡◌, ℕ, ◌+◌, ◌<◌, ◌≤◌, IsTrue}
-use Rattle.em_record.specs.Count.{next_count}
+use Rattle.std.specs.Prelude.{◌≡◌, ◌↔◌, ℕ, ◌+◌, ◌<◌, ◌≤◌, [], ◌∷◌, max, Result, Err, IfErr, IfOk, IsOk, IsTrue, OnOk}
+use Rattle.em_record.specs.Count.{Rose, next_count}
 use Rattle.em_frames.specs.Pool.{SameFrames, LentFrames}
-use Rattle.em_space.specs.Rig.{RigState, Cause, IfDamaged, SameBlocks}
+use Rattle.em_space.specs.Rig.{RigState, BlockCause, Cause, Goes, IfDamaged, Owes, SameBlocks}
 use Rattle.em_space.specs.Held.{NoneInUse}
 use Rattle.em_space.specs.declared.fault.EmFault.{EmFault}
-use Rattle.em_space.specs.declared.fault.EmFault.TheVariants.{DeviceFault}
+use Rattle.em_space.specs.declared.fault.EmFault.TheVariants.{DeviceFault, Full}
 use Rattle.em_cell.specs.Cell.{IsPending, Keeps, blocks_of, pending_blocks, pending_number}
 use Rattle.em_cell.specs.declared.cell.Cell.{Cell}
 use Rattle.em_cell.specs.declared.pending.Pending.{Pending}
@@ -35,6 +35,34 @@ pub record MakesNone (old new : RigState) (fault : EmFault) : Type 0 where
 pub record MakeCause (old new : RigState) (fault : EmFault) : Type 0 where
   pub cause : Cause old new fault
   pub damaged : IfDamaged fault (λ block. old.head ≡ block + 1)
+
+-- A cell of this number was made, in a block that it stores and so pays for, or none was; no block
+-- that was in use before was changed.
+pub record MakesCell (number : ℕ) (old new : RigState) (result : Result Cell EmFault)
+    : Type 0 where
+  pub goes : Goes [] old new
+  pub made : IfOk result (Makes old new number)
+  pub none : IfErr result (MakesNone old new)
+  pub paid : OnOk result (Owes 0 old new)
+
+-- A new block was asked for: `Full` comes exactly if all blocks are in use, and over a device that
+-- tells and counts no fault a call with another block left is Ok.
+pub record TakesBlock {T : Type 0} (old new : RigState) (result : Result T EmFault)
+    : Type 0 where
+  pub most : new.most ≡ max old.most new.used
+  pub full : (result ≡ Err (Full old.used)) ↔ (old.used ≡ old.blocks)
+  pub complete : IsTrue old.device.told → old.used < old.blocks
+      → (Rose old.device.faults new.device.faults → ⊥) → IsOk result
+  pub cause : IfErr result (MakeCause old new)
+
+-- The block of a cell was needed: over a device that tells and counts no fault it is as it was left,
+-- and if a block isn't, it is the cell's.
+pub record NeedsBlock {T : Type 0} (cell : Cell) (old new : RigState) (result : Result T EmFault)
+    : Type 0 where
+  pub complete : IsTrue old.device.told → (Rose old.device.faults new.device.faults → ⊥)
+      → IsOk result
+  pub cause : IfErr result (BlockCause old new)
+  pub damaged : IfErr result (λ fault. IfDamaged fault (λ block. blocks_of cell ≡ block ∷ []))
 
 -- A number waits with a frame for a block that wasn't in use.
 pub record Awaits (old new : RigState) (number : ℕ) (p : Pending) : Type 0 where

@@ -21,11 +21,11 @@ HasMark first = first.c ≡ 4
 abbrev pub blocks_of : Cell → List ℕ
 blocks_of cell = cell.block ∷ []
 
--- the first record of its block, where the device tells
+-- the first record of its block, if the device tells
 abbrev pub first_of : RigState → Cell → Record
 first_of s cell = header (block_at s.device cell.block)
 
--- the number that it keeps, where the device tells
+-- the number that it keeps, if the device tells
 abbrev pub value : RigState → Cell → ℕ
 value s cell = (first_of s cell).a
 

@@ -2,7 +2,7 @@ ghost use Rattle.std.specs.Prelude.{◌≡◌, ◌<◌, ◌≤◌, ◌+◌, max,
 ghost use Rattle.em_record.specs.Count.{Rose, next_count};
 ghost use Rattle.em_space.specs.Rig.{Sound, Goes, Cause, BlockCause, Owes};
 ghost use Rattle.em_space.specs.Seen.{seen};
-ghost use Rattle.em_cell.specs.Calls.{Makes, MakesNone, MakeCause};
+ghost use Rattle.em_cell.specs.Calls.{MakesCell, TakesBlock};
 ghost use Rattle.em_cell.specs.Cell.{IsCell, Keeps, blocks_of};
 
 use crate::cell::Cell;
@@ -48,15 +48,8 @@ pub fn beside<D: Device>(
 pub fn make_in_steps<D: Device>(rig: &mut Rig<'_, D>, number: u64) -> Result<Cell, EmFault>
     requires sound { Sound (seen D.state rig.old) }
     requires free { 0 < (seen D.state rig.old).pool.free }
-    ensures goes { Goes [] (seen D.state rig.old) (seen D.state rig.new) }
-    ensures made { IfOk result (Makes (seen D.state rig.old) (seen D.state rig.new) number) }
-    ensures none { IfErr result (MakesNone (seen D.state rig.old) (seen D.state rig.new)) }
-    ensures complete { IsTrue (seen D.state rig.old).device.told
-        → (seen D.state rig.old).used < (seen D.state rig.old).blocks
-        → (Rose (seen D.state rig.old).device.faults (seen D.state rig.new).device.faults → ⊥)
-        → IsOk result }
-    ensures cause { IfErr result (MakeCause (seen D.state rig.old) (seen D.state rig.new)) }
-    ensures paid { OnOk result (Owes 0 (seen D.state rig.old) (seen D.state rig.new)) }
+    ensures makes { MakesCell number (seen D.state rig.old) (seen D.state rig.new) result }
+    ensures takes { TakesBlock (seen D.state rig.old) (seen D.state rig.new) result }
 {
     let pending = Pending::new(rig, number)?;
     pending.finish(rig)

@@ -1,11 +1,11 @@
-ghost use Rattle.std.specs.Prelude.{◌≡◌, ◌↔◌, ◌<◌, ◌≤◌, ◌+◌, length, set, max, [], ◌∷◌, OnOk, OnErr, IfOk, IfErr, IsTrue, IsOk, Err, MatchOption};
+ghost use Rattle.std.specs.Prelude.{◌≡◌, ◌<◌, ◌≤◌, ◌+◌, length, set, [], ◌∷◌, OnOk, OnErr, IfOk, IfErr, IsTrue, IsOk, MatchOption};
 ghost use Rattle.em_record.specs.Count.{Rose};
 ghost use Rattle.em_frames.specs.Device.{block_at};
 ghost use Rattle.em_space.specs.Free.{header};
 ghost use Rattle.em_space.specs.Rig.{Sound, InUse, Goes, BlockCause, DeviceCause, IfDamaged, Owes, SameBlocks, MovesToRelease};
 ghost use Rattle.em_space.specs.Held.{Holds};
 ghost use Rattle.em_space.specs.Seen.{seen};
-ghost use Rattle.em_cell.specs.Calls.{MovesOne, Makes, MakesNone, MakeCause, Ends};
+ghost use Rattle.em_cell.specs.Calls.{MovesOne, MakesCell, TakesBlock, NeedsBlock, Ends};
 ghost use Rattle.em_cell.specs.Cell.{HasMark, IsCell, Keeps, blocks_of, cell_header, value};
 
 use em_frames::{Device, Frame};
@@ -65,25 +65,14 @@ impl Cell {
     /// A cell of this number in a new block: one move, and one more where the block was in use
     /// before. After a fault the block may be in use, and no cell holds it.
     ///
-    /// `Full` comes exactly where all blocks are in use, `Damaged` where the first of the freed
+    /// `Full` comes exactly if all blocks are in use, `Damaged` where the first of the freed
     /// blocks isn't laid out as one.
     pub fn new<D: Device>(rig: &mut Rig<'_, D>, number: u64) -> Result<Cell, EmFault>
         requires sound { Sound (seen D.state rig.old) }
         requires free { 0 < (seen D.state rig.old).pool.free }
-        ensures goes { Goes [] (seen D.state rig.old) (seen D.state rig.new) }
-        ensures made { IfOk result (Makes (seen D.state rig.old) (seen D.state rig.new) number) }
-        ensures none { IfErr result (MakesNone (seen D.state rig.old) (seen D.state rig.new)) }
-        ensures most { (seen D.state rig.new).most
-            ≡ max (seen D.state rig.old).most (seen D.state rig.new).used }
+        ensures makes { MakesCell number (seen D.state rig.old) (seen D.state rig.new) result }
+        ensures takes { TakesBlock (seen D.state rig.old) (seen D.state rig.new) result }
         ensures moves { (seen D.state rig.new).moves ≤ (seen D.state rig.old).moves + 2 }
-        ensures full { (result ≡ Err (EmFault.Full (seen D.state rig.old).used))
-            ↔ ((seen D.state rig.old).used ≡ (seen D.state rig.old).blocks) }
-        ensures complete { IsTrue (seen D.state rig.old).device.told
-            → (seen D.state rig.old).used < (seen D.state rig.old).blocks
-            → (Rose (seen D.state rig.old).device.faults (seen D.state rig.new).device.faults → ⊥)
-            → IsOk result }
-        ensures cause { IfErr result (MakeCause (seen D.state rig.old) (seen D.state rig.new)) }
-        ensures paid { OnOk result (Owes 0 (seen D.state rig.old) (seen D.state rig.new)) }
         ensures owes { Owes 1 (seen D.state rig.old) (seen D.state rig.new) }
     {
         let block = rig.alloc()?;
@@ -103,12 +92,7 @@ impl Cell {
         ensures moved { MovesOne (seen D.state rig.old) (seen D.state rig.new) }
         ensures number { IfOk result (λ n. IsTrue (seen D.state rig.old).device.told
             → n ≡ value (seen D.state rig.old) self.now) }
-        ensures complete { IsTrue (seen D.state rig.old).device.told
-            → (Rose (seen D.state rig.old).device.faults (seen D.state rig.new).device.faults → ⊥)
-            → IsOk result }
-        ensures cause { IfErr result (BlockCause (seen D.state rig.old) (seen D.state rig.new)) }
-        ensures damaged { IfErr result (λ fault. IfDamaged fault (λ block.
-            blocks_of self.now ≡ block ∷ [])) }
+        ensures needs { NeedsBlock self.now (seen D.state rig.old) (seen D.state rig.new) result }
         ensures owes { Owes 0 (seen D.state rig.old) (seen D.state rig.new) }
     {
         let mut frame = rig.lend();
@@ -151,12 +135,7 @@ impl Cell {
         ensures same { OnErr result (SameBlocks (seen D.state rig.old) (seen D.state rig.new)) }
         ensures most { (seen D.state rig.new).most ≡ (seen D.state rig.old).most }
         ensures moves { MovesToRelease (seen D.state rig.old) (seen D.state rig.new) }
-        ensures complete { IsTrue (seen D.state rig.old).device.told
-            → (Rose (seen D.state rig.old).device.faults (seen D.state rig.new).device.faults → ⊥)
-            → IsOk result }
-        ensures cause { IfErr result (BlockCause (seen D.state rig.old) (seen D.state rig.new)) }
-        ensures damaged { IfErr result (λ fault. IfDamaged fault (λ block.
-            blocks_of self ≡ block ∷ [])) }
+        ensures needs { NeedsBlock self (seen D.state rig.old) (seen D.state rig.new) result }
         ensures owes { Owes 0 (seen D.state rig.old) (seen D.state rig.new) }
     {
         let Cell { block } = self;

@@ -8,6 +8,3 @@ mod pending;
 pub use caller::{beside, make_in_steps, renew};
 pub use cell::Cell;
 pub use pending::Pending;
-
-#[cfg(test)]
-mod tests;

@@ -1,9 +1,9 @@
-ghost use Rattle.std.specs.Prelude.{◌≡◌, ◌↔◌, ◌<◌, max, [], OnErr, IfOk, IfErr, IsTrue, IsOk, Err};
+ghost use Rattle.std.specs.Prelude.{◌≡◌, ◌<◌, [], OnErr, IfOk, IfErr, IsOk};
 ghost use Rattle.em_record.specs.Count.{Rose};
 ghost use Rattle.em_frames.specs.Pool.{GivenFrames, given};
 ghost use Rattle.em_space.specs.Rig.{Sound, Touches, DeviceCause, Owes, MovesToAlloc};
 ghost use Rattle.em_space.specs.Seen.{seen};
-ghost use Rattle.em_cell.specs.Calls.{MovesOne, MakeCause, Awaits, AwaitsNone, Finishes};
+ghost use Rattle.em_cell.specs.Calls.{MovesOne, TakesBlock, Awaits, AwaitsNone, Finishes};
 ghost use Rattle.em_cell.specs.Cell.{IsPending, HasItsFrame, pending_blocks};
 
 use crate::cell::{Cell, lay_out};
@@ -20,7 +20,7 @@ pub struct Pending {
 impl Pending {
     /// This number, for a new block, by the moves of `Rig::alloc`. After a fault no block is taken.
     ///
-    /// `Full` comes exactly where all blocks are in use, `Damaged` where the first of the freed
+    /// `Full` comes exactly if all blocks are in use, `Damaged` where the first of the freed
     /// blocks isn't laid out as one.
     pub fn new<D: Device>(rig: &mut Rig<'_, D>, number: u64) -> Result<Pending, EmFault>
         requires sound { Sound (seen D.state rig.old) }
@@ -29,16 +29,8 @@ impl Pending {
         ensures touches { Touches [] (seen D.state rig.old) (seen D.state rig.new) }
         ensures awaits { IfOk result (Awaits (seen D.state rig.old) (seen D.state rig.new) number) }
         ensures none { OnErr result (AwaitsNone (seen D.state rig.old) (seen D.state rig.new)) }
-        ensures most { (seen D.state rig.new).most
-            ≡ max (seen D.state rig.old).most (seen D.state rig.new).used }
+        ensures takes { TakesBlock (seen D.state rig.old) (seen D.state rig.new) result }
         ensures moves { MovesToAlloc (seen D.state rig.old) (seen D.state rig.new) }
-        ensures full { (result ≡ Err (EmFault.Full (seen D.state rig.old).used))
-            ↔ ((seen D.state rig.old).used ≡ (seen D.state rig.old).blocks) }
-        ensures complete { IsTrue (seen D.state rig.old).device.told
-            → (seen D.state rig.old).used < (seen D.state rig.old).blocks
-            → (Rose (seen D.state rig.old).device.faults (seen D.state rig.new).device.faults → ⊥)
-            → IsOk result }
-        ensures cause { IfErr result (MakeCause (seen D.state rig.old) (seen D.state rig.new)) }
         ensures owes { Owes 1 (seen D.state rig.old) (seen D.state rig.new) }
     {
         let block = rig.alloc()?;

@@ -1,15 +1,13 @@
--- Chains and readers beside calls that change no block that was in use.
-use Rattle.std.proofs.Common.{◌≡◌, ℕ, List, [], length, ap, subst, Bool, false, if◌then◌else◌}
+-- Chains beside calls that change no block that was in use.
+use Rattle.std.proofs.Common.{◌≡◌, ℕ, List, [], ap, subst, Bool, false, if◌then◌else◌}
 use Rattle.em_space.specs.Rig.{RigState, Goes}
 use Rattle.em_space.proofs.Held.{apart_none}
 use Rattle.em_space.proofs.Steps.{goes_then}
 use Rattle.em_chain.specs.Chain.{IsChain, ChainStays, chain_blocks}
-use Rattle.em_chain.specs.Reader.{IsReader, ReaderStays, reader_blocks, rest_of}
+use Rattle.em_chain.specs.Reader.{reader_blocks, rest_of}
 use Rattle.em_chain.specs.declared.chain.Chain.{Chain}
 use Rattle.em_chain.specs.declared.reader.Reader.{Reader}
-use Rattle.em_chain.proofs.Keeps.{has_kept}
 use Rattle.em_chain.proofs.Laws.{chain_stays}
-use Rattle.em_chain.proofs.Readers.{reader_stays}
 
 -- a reader that leaves its blocks to a chain changes none
 pub goes_over : (a b c : RigState) (r : Reader) → r.taking ≡ false → Goes [] a b
@@ -21,8 +19,3 @@ goes_over a b c r over x y =
 
 pub chain_kept : (s t : RigState) (c : Chain) → Goes [] s t → IsChain s c → ChainStays s t c
 chain_kept s t c g is = chain_stays [] s t c g.touches (λ y. apart_none (chain_blocks s c)) is
-
-pub reader_kept : (s t : RigState) (r : Reader) → Goes [] s t → IsReader s r → ReaderStays s t r
-reader_kept s t r g is =
-    reader_stays [] s t r g.touches (λ y. apart_none (chain_blocks s (rest_of r)))
-    (has_kept 1 (length r.frame) s.pool t.pool g.frames is.frame) is

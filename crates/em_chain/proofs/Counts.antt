@@ -1,18 +1,20 @@
 -- How many blocks records take, and how many moves.
-use Rattle.std.proofs.Common.{◌≡◌, ℕ, zero, suc, ◌+◌, ◌-◌, ◌*◌, ◌/◌, ◌<◌, ◌≤◌, List, [], ◌∷◌, length, refl, sym, ◌∙◌, arith, IsTrue, ◌⊎◌, inl, inr, ⊎_elim}
+use Rattle.std.proofs.Common.{◌≡◌, ℕ, zero, suc, ◌+◌, ◌-◌, ◌*◌, ◌/◌, ◌<◌, ◌≤◌, List, [], ◌∷◌, length, refl, sym, ap, ◌∙◌, arith, IsTrue, ◌⊎◌, inl, inr, ⊎_elim}
 use Rattle.std.proofs.lemmas.List.{length-append}
 use Rattle.std.proofs.lemmas.Nat.{div_below, le-div}
-use Rattle.std.proofs.Math.Nat.{mul-suc, mul-add, mul-add-div, mul_comm}
+use Rattle.std.proofs.Math.Nat.{div-mul-le_self, mul-suc, mul-add, mul-add-div, mul_comm}
 use Rattle.em_record.specs.declared.record.Record.{Record}
 use Rattle.em_space.specs.Free.{header}
 use Rattle.em_space.specs.Rig.{RigState}
-use Rattle.em_chain.specs.List.{IsRun, AllButLast, items_in, payload}
-use Rattle.em_chain.specs.Chain.{payload_in, IsChain, IsPacked, chain_blocks, chain_contents}
+use Rattle.em_chain.specs.List.{IsRunOpen, AllButLast, items_in, payload}
+use Rattle.em_chain.specs.Chain.{payload_in, IsChain, IsPacked, IsTight, chain_blocks, chain_contents}
 use Rattle.em_chain.specs.Writer.{IsWriter, filled}
+use Rattle.em_chain.specs.View.{IsView}
 use Rattle.em_chain.specs.Counts.{ceiling}
 use Rattle.em_chain.specs.declared.chain.Chain.{Chain}
 use Rattle.em_chain.specs.declared.writer.Writer.{Writer}
 use Rattle.em_chain.proofs.Readers.{length_payload}
+use Rattle.em_chain.proofs.Views.{view_of}
 
 -- how many blocks n records take
 pub blocks_by : (p b f n : ℕ) → 0 < p → p * (b - 1) + f ≡ n → (b ≡ 0 → f ≡ 0) → (0 < b → 1 ≤ f)
@@ -48,7 +50,7 @@ pub record Fullness (p n len : ℕ) : Type 0 where
   pub some : 0 < n → 1 ≤ last
   pub most : last ≤ p
 
-full_length : (p link : ℕ) (ks : List ℕ) (cs : List (List Record)) → IsRun p link ks cs
+full_length : (p link : ℕ) (ks : List ℕ) (cs : List (List Record)) → IsRunOpen p link ks cs
     → AllButLast p cs → Fullness p (length ks) (length (items_in cs))
 full_length p link [] [] r f = record {
   last = 0;
@@ -92,28 +94,33 @@ full_length p link (k ∷ j ∷ ks) (c ∷ d ∷ cs) r f =
       most = h.most;
     }
 
--- the blocks of a packed chain follow from its count
+-- the blocks of a tight view follow from its places,
+pub tight_blocks : (s : RigState) (c : Chain) → 128 ≤ s.pool.shape.block → IsView s c
+    → IsTrue s.device.told → IsTight s c → c.blocks ≡ ceiling (c.skip + c.count) (payload_in s)
+tight_blocks s c low i z q =
+    let u = i.told z in
+    let h = full_length (payload_in s) c.head (chain_blocks s c) (chain_contents s c) u.list.run
+    q.full in
+    sym u.list.blocks_is ∙ blocks_by (payload_in s) (length (chain_blocks s c)) h.last
+    (c.skip + c.count) (omega arith) (h.is ∙ sym u.list.count_is) h.none h.some h.most
+
+-- and those of a packed chain from its count
 pub packed_blocks : (s : RigState) (c : Chain) → 128 ≤ s.pool.shape.block → IsChain s c
     → IsTrue s.device.told → IsPacked s c → c.blocks ≡ ceiling c.count (payload_in s)
 packed_blocks s c low i z q =
-    let u = i.told z in
-    let h = full_length (payload_in s) c.head (chain_blocks s c) (chain_contents s c) u.list.run
-    q.is.full in
-    let sk = q.is.skip_is in
-    let ci = u.list.count_is in
-    let n = u.list.blocks_is in
-    sym n ∙ blocks_by (payload_in s) (length (chain_blocks s c)) h.last c.count (omega arith) (h.is
-    ∙ omega arith) h.none h.some h.most
+    tight_blocks s c low (view_of s c i) z (record { full = q.is.full })
+    ∙ (let e : c.skip + c.count ≡ c.count = omega (arith, q.is.skip_is) in
+    ap (λ (n : ℕ). ceiling n (payload_in s)) e)
 
-lt_or_le : (a b : ℕ) → (a < b) ⊎ (b ≤ a)
+pub lt_or_le : (a b : ℕ) → (a < b) ⊎ (b ≤ a)
 lt_or_le zero zero = inr (omega arith)
 lt_or_le zero (suc b) = inl (omega arith)
 lt_or_le (suc a) zero = inr (omega arith)
 lt_or_le (suc a) (suc b) = ⊎_elim (λ (l : a < b). inl (omega arith))
     (λ (l : b ≤ a). inr (omega arith)) (lt_or_le a b)
 
--- x records more take at most so many blocks more
-more_by : (p b c x : ℕ) → 0 < p → p * c < p * b + x → c < b + ceiling x p
+-- x records more take at most this many blocks more
+pub more_by : (p b c x : ℕ) → 0 < p → p * c < p * b + x → c < b + ceiling x p
 more_by p b c x pos lt =
     ⊎_elim (λ (l : c < b). omega arith)
     (λ (l : b ≤ c).
@@ -128,54 +135,28 @@ more_by p b c x pos lt =
     omega arith)
     (lt_or_le c b)
 
-pub grown_blocks : (p b0 f0 x b f : ℕ) → 0 < p → f0 ≤ p → (b0 ≡ 0 → f0 ≡ 0) → (0 < b → 1 ≤ f)
-    → p * (b - 1) + f ≡ p * (b0 - 1) + f0 + x → b ≤ b0 + ceiling x p
-grown_blocks p b0 f0 x zero f pos m z o e = omega arith
-grown_blocks p zero f0 x (suc c) f pos m z o e =
-    let f1 = o (omega arith) in
-    let f2 = z refl in
-    let e1 : suc c - 1 ≡ c = omega arith in
-    let e0 : 0 - 1 ≡ 0 = omega arith in
-    let g : p * c + f ≡ p * 0 + f0 + x = rw (e1, e0) at e in
-    more_by p 0 c x pos (omega arith)
-grown_blocks p (suc b0) f0 x (suc c) f pos m z o e =
-    let f1 = o (omega arith) in
-    let e1 : suc c - 1 ≡ c = omega arith in
-    let e0 : suc b0 - 1 ≡ b0 = omega arith in
-    let g : p * c + f ≡ p * b0 + f0 + x = rw (e1, e0) at e in
-    let ms = mul-suc p b0 in
-    more_by p (suc b0) c x pos (omega arith)
+-- more records take no fewer blocks
+pub ceiling_more : (m n p : ℕ) → 0 < p → m ≤ n → ceiling m p ≤ ceiling n p
+ceiling_more m n p pos h =
+    let q = div-mul-le_self (m + p - 1) p in
+    le-div ((m + p - 1) / p) (n + p - 1) p pos (omega arith)
 
-some_ceiling : (p x : ℕ) → 0 < p → 1 ≤ ceiling (x + 1) p
-some_ceiling p x pos = le-div 1 (x + 1 + p - 1) p pos (omega arith)
+-- x records after those that b blocks hold take at most this many blocks more
+pub ceiling_sum : (p b f x : ℕ) → 0 < p → f ≤ p * b → ceiling (f + x) p ≤ b + ceiling x p
+ceiling_sum p b f x pos h =
+    let m = ceiling_more (f + x) (p * b + x) p pos (omega arith) in
+    let q : p * b + x + p - 1 ≡ p * b + (x + p - 1) = omega arith in
+    let d = mul-add-div pos b (x + p - 1) in
+    rw (q, d) at m
 
-refused_none : (p b0 x b : ℕ) → 0 < p → b ≡ 0 → b + 1 ≤ b0 + ceiling (x + 1) p
-refused_none p b0 x b pos q = let c = some_ceiling p x pos in omega arith
+filled_by : (p b f : ℕ) → (b ≡ 0 → f ≡ 0) → f ≤ p → p * (b - 1) + f ≤ p * b
+filled_by p zero f z m = rw (z refl) (grind arith)
+filled_by p (suc c) f z m =
+    let s = mul-suc p c in
+    let e : suc c - 1 ≡ c = omega arith in
+    rw e (omega arith)
 
-refused_full : (p b0 f0 x b f : ℕ) → 0 < p → f0 ≤ p → (b0 ≡ 0 → f0 ≡ 0)
-    → p * (b - 1) + f ≡ p * (b0 - 1) + f0 + x → f ≡ p → b + 1 ≤ b0 + ceiling (x + 1) p
-refused_full p b0 f0 x zero f pos m z e q = let c = some_ceiling p x pos in omega arith
-refused_full p zero f0 x (suc c) f pos m z e q =
-    let f2 = z refl in
-    let e1 : suc c - 1 ≡ c = omega arith in
-    let e0 : 0 - 1 ≡ 0 = omega arith in
-    let g : p * c + f ≡ p * 0 + f0 + x = rw (e1, e0) at e in
-    let ms = mul-suc p c in
-    let r = more_by p 0 (suc c) (x + 1) pos (omega arith) in
-    omega arith
-refused_full p (suc b0) f0 x (suc c) f pos m z e q =
-    let e1 : suc c - 1 ≡ c = omega arith in
-    let e0 : suc b0 - 1 ≡ b0 = omega arith in
-    let g : p * c + f ≡ p * b0 + f0 + x = rw (e1, e0) at e in
-    let ms = mul-suc p c in
-    let mt = mul-suc p b0 in
-    let r = more_by p (suc b0) (suc c) (x + 1) pos (omega arith) in
-    omega arith
-
--- where the last of x records left the blocks full, one more fills another block at most
-pub refused_blocks : (p b0 f0 x b f : ℕ) → 0 < p → f0 ≤ p → (b0 ≡ 0 → f0 ≡ 0)
-    → p * (b - 1) + f ≡ p * (b0 - 1) + f0 + x → (b ≡ 0) ⊎ (f ≡ p)
-    → b + 1 ≤ b0 + ceiling (x + 1) p
-refused_blocks p b0 f0 x b f pos m z e o =
-    ⊎_elim (λ (q : b ≡ 0). refused_none p b0 x b pos q) (λ (q : f ≡ p). refused_full p b0 f0 x b f
-    pos m z e q) o
+-- the places that a writer went through are of its blocks
+pub filled_most : (s : RigState) (w : Writer) → IsWriter s w → filled s w ≤ payload_in s * w.blocks
+filled_most s w i = filled_by (payload_in s) w.blocks w.fill
+    (λ e. i.last.fill_none (i.last.none e)) i.last.fill_most

@@ -7,21 +7,24 @@ use Rattle.std.proofs.lemmas.List.Edits.{take-paste, length-paste}
 use Rattle.std.proofs.lemmas.List.{length-set, length-map, length-append, length-take-le, length-drop, drop-append-le, drop_at, drop-take, drop-drop}
 use Rattle.em_record.specs.declared.record.Record.{Record}
 use Rattle.em_frames.specs.Device.{block_at}
+use Rattle.em_frames.specs.Pool.{SameFrames}
 use Rattle.em_space.specs.Free.{header, linked_from, Off, AreDistinct}
-use Rattle.em_space.specs.Rig.{RigState, InUse, Touches}
+use Rattle.em_space.specs.Rig.{RigState, Sound, InUse, Touches, Goes}
 use Rattle.em_space.specs.Held.{AllInUse, Apart, contents_of}
 use Rattle.em_space.proofs.Held.{contents_kept, all_kept}
-use Rattle.em_space.proofs.Steps.{touches_trans}
-use Rattle.em_chain.proofs.Keeps.{payload_kept, touches_wider}
+use Rattle.em_space.proofs.Steps.{touches_trans, touches_wider}
+use Rattle.em_chain.proofs.Keeps.{payload_kept, touches_between}
 use Rattle.em_chain.specs.List.{with_link, shifted, block_header, payload, items_in, IsBlock, IsRun, last_link, SkipFits, Words, items_of, IsList}
 use Rattle.em_chain.specs.Chain.{payload_in, IsChain, IsStored, chain_items, chain_blocks, chain_contents, words_of}
 use Rattle.em_chain.specs.Joins.{Joins, Unskips}
 use Rattle.em_chain.specs.declared.chain.Chain.{Chain}
-use Rattle.em_space.proofs.Apart.{off_append, off_left, off_right}
-use Rattle.em_chain.proofs.Blocks.{apart_sym, apart_right, in_use_append, in_use_left, distinct_last, contents_append}
+use Rattle.em_space.proofs.Apart.{off_left, off_right}
+use Rattle.em_space.proofs.Lists.{apart_right, apart_sym, distinct_join, in_use_append, in_use_left}
+use Rattle.em_chain.proofs.Blocks.{distinct_last, contents_append}
 use Rattle.em_chain.proofs.Lists.{follow_all, last_block, header_with_link, payload_with_link, is_with_link, items_push}
 use Rattle.em_chain.proofs.Laws.{chain_stays, split}
-use Rattle.em_chain.proofs.Readers.{opened, length_payload}
+use Rattle.em_chain.proofs.Readers.{opened, opened_list, length_payload}
+use Rattle.em_chain.proofs.Views.{view_of}
 
 run_join : (p link l : ℕ) (ks js : List ℕ) (cs ds : List (List Record)) (b c : List Record)
     → length ks ≡ length cs
@@ -92,11 +95,6 @@ list_join p l n w v ks js cs ds b e h g sk pos hb =
       },
       rw (all, sk) (drop-append-le w.skip (items_in (cs ++ b ∷ [])) (items_in ds) (omega arith)),
     )
-
-distinct_join : (xs ys : List ℕ) → AreDistinct xs → AreDistinct ys → Apart xs ys
-    → AreDistinct (xs ++ ys)
-distinct_join [] ys a b c = b
-distinct_join (x ∷ xs) ys a b c = (off_append x xs ys a.0 c.0, distinct_join xs ys a.1 b c.1)
 
 abbrev pub joined_chain : Chain → Chain → Chain
 joined_chain f g = record {
@@ -285,11 +283,12 @@ pub unskip_is : (s t : RigState) (f : Chain) → IsChain s f → 0 < f.blocks
     (header (block_at s.device (f.head - 1))).a (header (block_at s.device (f.head - 1))).b)
     → InUse t (f.head - 1) → Unskips s t f (record f { skip = 0 })
 unskip_is s t f i pos h hb hu =
-    let o = λ (z : IsTrue s.device.told). opened s f i z pos in
+    let o = λ (z : IsTrue s.device.told). opened s f (view_of s f i) z pos in
     let e1 = λ (z : IsTrue s.device.told). let hd = (o z).head in let e : f.head - 1 ≡ (o z).first =
     omega arith in e in
     let list = λ (z : IsTrue s.device.told). list_unskip (payload_in s) (o z).first (words_of f)
-    (o z).rest (block_at s.device (o z).first) (contents_of s (o z).rest) (o z).list in
+    (o z).rest (block_at s.device (o z).first) (contents_of s (o z).rest)
+    (opened_list s f (o z) i z) in
     let pt : payload_in t ≡ payload_in s = payload_kept ((f.head - 1) ∷ []) s t h in
     let apart = λ (z : IsTrue s.device.told). let a : Apart (o z).rest ((f.head - 1) ∷ []) =
     rw (e1 z) (apart_sym ((o z).first ∷ []) (o z).rest (((o z).holds.distinct z).0, tt)) in a in
@@ -341,17 +340,17 @@ unskip_is s t f i pos h hb hu =
     }
 
 -- calls that may change the first or the last block alone
-pub touches_head : (s t : RigState) (f : Chain) → IsChain s f → 0 < f.blocks
+touches_head : (s t : RigState) (f : Chain) → IsChain s f → 0 < f.blocks
     → Touches ((f.head - 1) ∷ []) s t → Touches (chain_blocks s f) s t
 touches_head s t f i pos h =
     touches_wider (chain_blocks s f) ((f.head - 1) ∷ []) s t h (λ z j u o.
-    let p = opened s f i z pos in
+    let p = opened s f (view_of s f i) z pos in
     let hd = p.head in
     let e1 : f.head - 1 ≡ p.first = omega arith in
     let o2 : Off j (p.first ∷ p.rest) = subst (λ (ks : List ℕ). Off j ks) p.is o in
     rw e1 (o2.0, tt))
 
-pub touches_tail : (s t : RigState) (f : Chain) → IsChain s f → 0 < f.blocks
+touches_tail : (s t : RigState) (f : Chain) → IsChain s f → 0 < f.blocks
     → Touches ((f.tail - 1) ∷ []) s t → Touches (chain_blocks s f) s t
 touches_tail s t f i pos h =
     touches_wider (chain_blocks s f) ((f.tail - 1) ∷ []) s t h (λ z j u o.
@@ -362,6 +361,26 @@ touches_tail s t f i pos h =
     let e1 : f.tail - 1 ≡ r.last = omega arith in
     let o2 : Off j (r.first ++ r.last ∷ []) = subst (λ (ks : List ℕ). Off j ks) r.is o in
     rw e1 (off_right j r.first (r.last ∷ []) o2))
+
+-- A call to which a frame was lent may have changed the first block alone,
+pub head_goes : {s m u t : RigState} (f : Chain) → IsChain s f → 0 < f.blocks → Touches [] s m
+    → Touches ((f.head - 1) ∷ []) m u → Touches [] u t → Sound t → SameFrames s.pool t.pool
+    → Goes (chain_blocks s f) s t
+head_goes {s} {m} {u} {t} f i pos x y z sound frames = record {
+  sound = sound;
+  touches = touches_head s t f i pos (touches_between ((f.head - 1) ∷ []) x y z);
+  frames = frames;
+}
+
+-- or the last one.
+pub tail_goes : {s m u t : RigState} (f : Chain) → IsChain s f → 0 < f.blocks → Touches [] s m
+    → Touches ((f.tail - 1) ∷ []) m u → Touches [] u t → Sound t → SameFrames s.pool t.pool
+    → Goes (chain_blocks s f) s t
+tail_goes {s} {m} {u} {t} f i pos x y z sound frames = record {
+  sound = sound;
+  touches = touches_tail s t f i pos (touches_between ((f.tail - 1) ∷ []) x y z);
+  frames = frames;
+}
 
 -- the second chain after a change of it, and the first beside it
 pub joins_after : (s t u : RigState) (f g h c : Chain) → IsChain s f → (IsTrue s.device.told

@@ -1,56 +1,31 @@
 -- What calls on a rig keep.
-use Rattle.std.proofs.Common.{◌≡◌, ℕ, List, [], get_or, set, refl, sym, ap, ◌∙◌, subst, arith, Bool, true, false, IsTrue, IsFalse, Result, Ok, Err, IfErr}
+use Rattle.std.proofs.Common.{◌≡◌, ℕ, List, [], get_or, set, refl, sym, ap, ◌∙◌, arith, IsTrue, IsFalse, Result, Ok, Err, IfErr}
 use Rattle.std.proofs.lemmas.List.{get_or-set_same}
 use Rattle.em_record.specs.Count.{Rose}
 use Rattle.em_record.specs.Shape.{ShapeNumbers, payload_of}
 use Rattle.em_record.specs.declared.record.Record.{Record}
 use Rattle.em_frames.specs.Device.{block_at}
 use Rattle.em_frames.specs.Pool.{PoolCounts, SameFrames, LentFrames, GivenFrames, HasFrames}
-use Rattle.em_space.specs.Free.{Off}
 use Rattle.em_space.specs.Rig.{RigState, Sound, InUse, Touches, BlockCause}
 use Rattle.em_space.specs.declared.fault.EmFault.{EmFault}
 use Rattle.em_space.specs.declared.fault.EmFault.TheVariants.{DeviceFault, Full, Damaged}
 use Rattle.em_space.proofs.Held.{in_use_below}
+use Rattle.em_space.proofs.Steps.{touches_after, touches_then, touches_wider}
 use Rattle.em_chain.specs.Chain.{payload_in}
 use Rattle.em_chain.specs.Effects.{Completes}
-
--- a device that can't tell is one that doesn't
-pub untold_by : (b : Bool) → (IsTrue b → ⊥) → IsFalse b
-untold_by true h = absurd (h refl)
-untold_by false h = refl
 
 pub payload_kept : (held : List ℕ) (s t : RigState) → Touches held s t
     → payload_in t ≡ payload_in s
 payload_kept held s t h = ap (λ (x : ShapeNumbers). payload_of x) h.shape
 
--- blocks of a longer list may have changed
-pub touches_wider : (h g : List ℕ) (a b : RigState) → Touches g a b
-    → (IsTrue a.device.told → (k : ℕ) → InUse a k → Off k h → Off k g) → Touches h a b
-touches_wider h g a b x w = record {
-  name = x.name;
-  told = x.told;
-  blocks = x.blocks;
-  shape = x.shape;
-  faults = x.faults;
-  most = x.most;
-  moves = x.moves;
-  others = λ t k u o. x.others t k u (w t k u o);
-}
-
 pub touches_none : (held : List ℕ) (s t : RigState) → Touches [] s t → Touches held s t
 touches_none held s t k = touches_wider held [] s t k (λ z j u o. tt)
 
-pub touches_same : (held : List ℕ) (s t : RigState) → t ≡ s → Touches held s t
-touches_same held s t e = subst (λ (x : RigState). Touches held s x) (sym e) (record {
-  name = refl;
-  told = refl;
-  blocks = refl;
-  shape = refl;
-  faults = omega arith;
-  most = omega arith;
-  moves = omega arith;
-  others = λ z k u o. record { in_use = u; contents = refl };
-})
+-- the second one of three calls may change some blocks
+pub touches_between : {s m u t : RigState} (held : List ℕ) → Touches [] s m → Touches held m u
+    → Touches [] u t → Touches held s t
+touches_between {s} {m} {u} {t} held x y z =
+    touches_then held s u t (touches_after held s m u x y) z
 
 -- a block in use holds what was stored there
 pub stored_at : (s t : RigState) (k : ℕ) (b : List Record) → Sound s → InUse s k

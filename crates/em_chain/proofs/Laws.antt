@@ -8,6 +8,7 @@ use Rattle.em_space.specs.Free.{header, linked_from}
 use Rattle.em_space.specs.Rig.{RigState, Sound, InUse, Touches}
 use Rattle.em_space.specs.Held.{AllInUse, Apart, contents_of}
 use Rattle.em_space.proofs.Held.{in_use_kept, in_use_below, holds_kept, contents_kept, all_kept, apart_none}
+use Rattle.em_space.proofs.Lists.{apart_left, apart_right, in_use_append, in_use_left, in_use_right}
 use Rattle.em_chain.proofs.Keeps.{payload_kept}
 use Rattle.em_chain.specs.List.{block_header, IsBlock, IsRun, last_link, IsHeader}
 use Rattle.em_chain.specs.Chain.{word_list, payload_in, ChainStays, IsChain, chain_blocks, chain_contents}
@@ -15,41 +16,22 @@ use Rattle.em_chain.specs.Writer.{IsWriter, front, linked, pending, writer_block
 use Rattle.em_chain.specs.Writes.{Finishes, Resumes}
 use Rattle.em_chain.specs.declared.writer.Writer.{Writer}
 use Rattle.em_chain.specs.declared.chain.Chain.{Chain}
-use Rattle.em_chain.proofs.Blocks.{apart_left, apart_right, in_use_append, in_use_left, in_use_right, distinct_last, contents_append}
+use Rattle.em_chain.proofs.Blocks.{distinct_last, contents_append}
 use Rattle.em_chain.proofs.Lists.{follow, follow_all, last_block}
+use Rattle.em_chain.proofs.Views.{view_of, view_stays, packs}
 use Rattle.em_chain.proofs.Writers.{linked_at, pending_at}
 
 -- A chain over a call that leaves its blocks alone.
-pub chain_blocks_kept : (held : List ℕ) (s t : RigState) (c : Chain) → Touches held s t
-    → IsTrue s.device.told → Apart (chain_blocks s c) held → IsChain s c
-    → chain_blocks t c ≡ chain_blocks s c
-chain_blocks_kept held s t c h z a i =
-    let u = i.told z in
-    let ck : contents_of t (chain_blocks s c) ≡ chain_contents s c =
-    contents_kept held s t (chain_blocks s c) h z a u.holds.in_use in
-    let run = rw (← ck) at u.list.run in
-    let e : linked_from (length (chain_blocks s c)) t.device.contents c.head ≡ chain_blocks s c =
-    follow_all (payload_in s) t.device.contents c.head (chain_blocks s c) run in
-    ap (λ (n : ℕ). linked_from n t.device.contents c.head) (sym u.list.blocks_is) ∙ e
-
 pub chain_stays : (held : List ℕ) (s t : RigState) (c : Chain) → Touches held s t
     → (IsTrue s.device.told → Apart (chain_blocks s c) held) → IsChain s c → ChainStays s t c
 chain_stays held s t c h a i =
-    let eb = λ (z : IsTrue s.device.told). chain_blocks_kept held s t c h z (a z) i in
-    let ec = λ (z : IsTrue s.device.told). contents_kept held s t (chain_blocks s c) h z (a z)
-    (i.told z).holds.in_use in
-    let pt : payload_in t ≡ payload_in s = payload_kept held s t h in
+    let v = view_stays held s t c h a (view_of s c i) in
     record {
-      is = record {
-        count_most = i.count_most;
-        blocks_most = i.blocks_most;
-        told = λ y. let z : IsTrue s.device.told = sym h.told ∙ y in
-            let v = holds_kept held s t (chain_blocks s c) h a (i.told z).holds in
-            record { holds = rw (eb z) v; list = rw (pt, eb z, ec z) (i.told z).list };
-      };
-      items = λ z. rw (eb z, ec z) refl;
-      blocks = eb;
-      packed = λ z g. record { is = rw (pt, eb z, ec z) g.is };
+      is = v.closed i;
+      items = v.items;
+      blocks = v.blocks;
+      packed = λ z. packs refl (v.tight z);
+      tight = v.tight;
     }
 
 -- the length of the front of a list
@@ -95,6 +77,7 @@ writer_stays held s t w h a f i =
         last = record {
           none = i.last.none;
           none_count = i.last.none_count;
+          none_skip = i.last.none_skip;
           some = i.last.some;
           in_use = all_kept held s t (linked w.tail) h (λ z. apart_right (front s w) (linked w.tail)
               held (a z)) i.last.in_use;
@@ -111,6 +94,7 @@ writer_stays held s t w h a f i =
       items = λ z. rw ((ef z).0, (ef z).1) refl;
       blocks = λ z. rw (ef z).0 refl;
       packed = λ z g. record { is = rw (pt, (ef z).0, (ef z).1) g.is };
+      tight = λ z g. record { full = rw (pt, (ef z).0, (ef z).1) g.full };
       filled_is = rw pt refl;
     }
 
@@ -161,6 +145,8 @@ finish_some s t w l h b k i =
       items = λ z. rw (eb z, ca z) refl;
       blocks = λ z. eb z;
       packed = λ z g. record { is = rw (pt, eb z, ca z) g.is };
+      tight = λ z g. record { full = rw (pt, eb z, ca z) g.full };
+      skip_is = refl;
       count_is = refl;
       blocks_is = refl;
     }
@@ -283,6 +269,7 @@ resume_is s t c b h i pos eb f tp ts hd lo hi =
         last = record {
           none = λ y. absurd (omega arith);
           none_count = λ y. absurd (omega arith);
+          none_skip = λ y. absurd (omega arith);
           some = λ y. tp;
           in_use = subst (λ (n : ℕ). AllInUse t (linked n)) (sym tq) (rw linked_at (
             record {
@@ -308,6 +295,8 @@ resume_is s t c b h i pos eb f tp ts hd lo hi =
       items = λ z. rw (e z).1 refl;
       blocks = λ z. (e z).0;
       packed = λ z g. record { is = rw (pt, (e z).1) g.is };
+      tight = λ z g. record { full = rw (pt, (e z).1) g.full };
+      skip_is = λ z. refl;
       count_is = λ z. refl;
       count_most = omega arith;
       blocks_is = refl;

@@ -6,9 +6,15 @@ pub mod Keeps
 pub mod Laws
 pub mod Lists
 pub mod Loops
+pub mod Pairs
 pub mod Parts
+pub mod Paying
 pub mod Queues
 pub mod Readers
 pub mod Rows
+pub mod Sessions
+pub mod Tight
+pub mod Views
 pub mod Withins
 pub mod Writers
+pub mod Writings

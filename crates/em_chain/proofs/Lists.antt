@@ -1,27 +1,45 @@
 -- Steps of a list of blocks.
-use Rattle.std.proofs.Common.{◌≡◌, ℕ, suc, ◌+◌, ◌<◌, ◌≤◌, List, [], ◌∷◌, ◌++◌, length, get_or, set, take, drop, refl, sym, ap, ◌∙◌, arith, map, add-one, append_assoc}
+use Rattle.std.proofs.Common.{◌≡◌, ℕ, ◌+◌, ◌<◌, ◌≤◌, List, [], ◌∷◌, ◌++◌, length, get_or, set, take, drop, refl, sym, ap, ◌∙◌, arith, map, add-one, append_assoc}
 use Rattle.std.proofs.lemmas.Grind.{flat_map-append}
 use Rattle.std.proofs.Math.Seq.{take-suc-set}
-use Rattle.std.proofs.lemmas.List.{drop-append-le, append-nil, length-set, length_push}
+use Rattle.std.proofs.lemmas.List.{drop-append-le, append-nil, length-map, length-set, length_push}
 use Rattle.em_record.specs.declared.record.Record.{Record}
 use Rattle.em_space.specs.Free.{header, linked_from}
-use Rattle.em_chain.specs.List.{with_link, block_header, payload, items_in, IsBlock, IsRun, last_link, SkipFits, AllButLast, Words, items_of, IsList, IsPackedIn}
+use Rattle.em_chain.specs.List.{with_link, block_header, payload, items_in, IsBlock, IsRun, IsRunOpen, last_link, SkipFits, AllButLast, Words, items_of, IsList}
+
+-- the front of a run
+pub run_front : (p link : ℕ) (ks js : List ℕ) (cs ds : List (List Record)) → length ks ≡ length cs
+    → IsRun p link (ks ++ js) (cs ++ ds) → IsRunOpen p link ks cs
+run_front p link [] js [] ds e h = tt
+run_front p link [] js (c ∷ cs) ds e h = absurd (omega arith)
+run_front p link (k ∷ ks) js [] ds e h = absurd (omega arith)
+run_front p link (k ∷ ks) js (c ∷ cs) ds e h =
+    (h.0, h.1, run_front p (header c).a ks js cs ds (omega arith) h.2)
+
+pub run_open : (p link : ℕ) (ks : List ℕ) (cs : List (List Record)) → IsRun p link ks cs
+    → IsRunOpen p link ks cs
+run_open p link [] [] h = tt
+run_open p link [] (c ∷ cs) h = absurd h
+run_open p link (k ∷ ks) [] h = absurd h
+run_open p link (k ∷ ks) (c ∷ cs) h = (h.0, h.1, run_open p (header c).a ks cs h.2)
 
 -- the blocks of a run are found by their links
+pub follow_open : (p : ℕ) (bs : List (List Record)) (link : ℕ) (ks : List ℕ)
+    → IsRunOpen p link ks (map (λ (k : ℕ). get_or bs k []) ks) → linked_from (length ks) bs link ≡ ks
+follow_open p bs link [] h = refl
+follow_open p bs link (k ∷ ks) h =
+    rw (h.0, add-one) (ap (λ (t : List ℕ). k ∷ t) (follow_open p bs (header (get_or bs k [])).a ks
+    h.2))
+
 pub follow : (p : ℕ) (bs : List (List Record)) (link : ℕ) (ks js : List ℕ) (ds : List (List Record))
     → IsRun p link (ks ++ js) (map (λ (k : ℕ). get_or bs k []) ks ++ ds)
     → linked_from (length ks) bs link ≡ ks
-follow p bs link [] js ds h = refl
-follow p bs link (k ∷ ks) js ds h =
-    rw (h.0, add-one) (ap (λ (t : List ℕ). k ∷ t) (follow p bs (header (get_or bs k [])).a ks js ds
-    h.2))
+follow p bs link ks js ds h = follow_open p bs link ks (run_front p link ks js
+    (map (λ (k : ℕ). get_or bs k []) ks) ds (sym (length-map ks (λ (k : ℕ). get_or bs k []))) h)
 
 pub follow_all : (p : ℕ) (bs : List (List Record)) (link : ℕ) (ks : List ℕ)
     → IsRun p link ks (map (λ (k : ℕ). get_or bs k []) ks) → linked_from (length ks) bs link ≡ ks
-follow_all p bs link [] h = refl
-follow_all p bs link (k ∷ ks) h =
-    rw (h.0, add-one) (ap (λ (t : List ℕ). k ∷ t) (follow_all p bs (header (get_or bs k [])).a ks
-    h.2))
+follow_all p bs link ks h = follow_open p bs link ks (run_open p link ks _ h)
 
 -- another last block in its place
 pub run_last : (p link l : ℕ) (ks : List ℕ) (cs : List (List Record)) (b c : List Record)
@@ -179,19 +197,12 @@ one_more w = record w { count = w.count + 1 }
 abbrev pub next_block : Words → ℕ → Words
 next_block w j = record w { count = w.count + 1; tail = j + 1; blocks = w.blocks + 1 }
 
-same_length : (p link : ℕ) (ks : List ℕ) (cs : List (List Record)) → IsRun p link ks cs
-    → length ks ≡ length cs
-same_length p link [] [] h = refl
-same_length p link [] (c ∷ cs) h = absurd h
-same_length p link (k ∷ ks) [] h = absurd h
-same_length p link (k ∷ ks) (c ∷ cs) h = ap suc (same_length p (header c).a ks cs h.2)
-
 -- One more record in the last block.
 pub record Puts (p : ℕ) (w v : Words) (ks js : List ℕ) (cs ds : List (List Record))
     (x : Record) : Type 0 where
   pub list : IsList p v js ds
   pub items : items_of v ds ≡ items_of w cs ++ x ∷ []
-  pub packed : IsPackedIn p w cs → IsPackedIn p v ds
+  pub full : AllButLast p cs → AllButLast p ds
 
 pub list_put : (p n l : ℕ) (x : Record) (w : Words) (ks : List ℕ) (cs : List (List Record))
     (b : List Record)
@@ -220,10 +231,7 @@ list_put p n l x w ks cs b e lt hb h =
         skip_fits = skip_more w.skip cs b (with_record n x b) (omega arith) h.skip_fits;
       };
       items = rw it (drop-append-le w.skip (items_in (cs ++ b ∷ [])) (x ∷ []) (omega arith));
-      packed = λ q. record {
-        skip_is = q.skip_is;
-        full = full_last p cs b (with_record n x b) q.full;
-      };
+      full = full_last p cs b (with_record n x b);
     }
 
 -- One more block, with one record.
@@ -258,11 +266,7 @@ list_next p n l j x w ks cs b d e np pos hb ld h =
             h.skip_fits;
       };
       items = rw it (drop-append-le w.skip (items_in (cs ++ b ∷ [])) (x ∷ []) (omega arith));
-      packed = λ q. record {
-        skip_is = q.skip_is;
-        full =
-            full_push p cs b (with_link (j + 1) n b) (with_record 0 x d) (hcb ∙ np) q.full;
-      };
+      full = full_push p cs b (with_link (j + 1) n b) (with_record 0 x d) (hcb ∙ np);
     }
 
 -- The first block, with one record.

@@ -6,6 +6,7 @@ use Rattle.em_space.specs.Held.{AllInUse, Apart, Within}
 use Rattle.em_space.specs.Queue.{QueueCounts, Serves, Shares}
 use Rattle.em_space.specs.Rig.{RigState}
 use Rattle.em_space.proofs.Within.{within_apart}
+use Rattle.em_space.proofs.Lists.{apart_sym}
 use Rattle.em_chain.specs.Chain.{ChainStays, IsChain, chain_blocks}
 use Rattle.em_chain.specs.Reader.{IsReader, ReaderStays, rest_of}
 use Rattle.em_chain.specs.Within.{Grows}
@@ -13,7 +14,6 @@ use Rattle.em_chain.specs.Writer.{IsWriter, WriterStays, writer_blocks}
 use Rattle.em_chain.specs.declared.chain.Chain.{Chain}
 use Rattle.em_chain.specs.declared.reader.Reader.{Reader}
 use Rattle.em_chain.specs.declared.writer.Writer.{Writer}
-use Rattle.em_chain.proofs.Blocks.{apart_sym}
 use Rattle.em_chain.proofs.Laws.{chain_stays, writer_stays}
 use Rattle.em_chain.proofs.Readers.{reader_stays}
 use Rattle.em_chain.proofs.Withins.{within_grows}

@@ -5,17 +5,17 @@ use Rattle.em_frames.specs.Device.{block_at}
 use Rattle.em_space.specs.Free.{header, linked_from, Off}
 use Rattle.em_space.specs.Rig.{RigState, Sound, InUse, Touches, Goes}
 use Rattle.em_space.specs.Held.{Holds, Apart, contents_of}
-use Rattle.em_space.proofs.Steps.{touches_trans, same_frames_then}
+use Rattle.em_space.proofs.Steps.{same_frames_then, touches_after, touches_trans, touches_wider}
 use Rattle.em_space.proofs.Held.{contents_kept, all_kept}
 use Rattle.em_chain.specs.List.{IsRun, IsBlock, IsHeader, LinksTo}
 use Rattle.em_chain.specs.Chain.{payload_in, chain_blocks}
 use Rattle.em_chain.specs.Row.{row, IsRow, Drops, Discarding}
 use Rattle.em_chain.specs.declared.chain.Chain.{Chain}
 use Rattle.em_space.proofs.Apart.{off_right}
-use Rattle.em_chain.proofs.Blocks.{apart_sym}
+use Rattle.em_space.proofs.Lists.{apart_sym}
 use Rattle.em_chain.proofs.Lists.{follow_all}
 use Rattle.em_chain.proofs.Laws.{header_is, link_within}
-use Rattle.em_chain.proofs.Keeps.{payload_kept, touches_wider}
+use Rattle.em_chain.proofs.Keeps.{payload_kept}
 
 -- the first block of a row
 pub record RowHead (s : RigState) (link n : ℕ) : Type 0 where
@@ -92,40 +92,48 @@ row_drops s t link next n r z h e =
       ends = record { gone = o.first ∷ []; is = rw (o.is, ln) refl };
     }
 
-pub row_touches : (s t : RigState) (link n : ℕ)
-    → (IsTrue s.device.told → IsRow s link (n + 1)) → Touches ((link - 1) ∷ []) s t
-    → Touches (row s link (n + 1)) s t
-row_touches s t link n r h =
-    touches_wider (row s link (n + 1)) ((link - 1) ∷ []) s t h (λ z j u o.
-    let p = row_head s link n (r z) in
-    let lk = p.link_is in
-    let e1 : link - 1 ≡ p.first = omega arith in
-    let o2 : Off j (p.first ∷ p.rest) = subst (λ (ks : List ℕ). Off j ks) p.is o in
-    rw e1 (o2.0, tt))
+pub row_goes : {s m t : RigState} (link n : ℕ) → (IsTrue s.device.told → IsRow s link (n + 1))
+    → Goes [] s m → Goes ((link - 1) ∷ []) m t → Goes (row s link (n + 1)) s t
+row_goes {s} {m} {t} link n r g h = record {
+  sound = h.sound;
+  touches = touches_wider (row s link (n + 1)) ((link - 1) ∷ []) s t
+      (touches_after ((link - 1) ∷ []) s m t g.touches h.touches) (λ z j u o.
+      let p = row_head s link n (r z) in
+      let lk = p.link_is in
+      let e1 : link - 1 ≡ p.first = omega arith in
+      let o2 : Off j (p.first ∷ p.rest) = subst (λ (ks : List ℕ). Off j ks) p.is o in
+      rw e1 (o2.0, tt));
+  frames = same_frames_then s.pool m.pool t.pool g.frames h.frames;
+}
 
-pub discard_touches : (s t u : RigState) (c : Chain) (link n : ℕ) → Discarding s t c link n
-    → Touches (row t link n) t u → Touches (chain_blocks s c) s u
-discard_touches s t u c link n h g = touches_trans (chain_blocks s c) (row t link n) s t u h.touches
-    g (λ z k i o.
-    let e = h.ends z in
-    let o2 : Off k (e.gone ++ row t link n) = subst (λ (ks : List ℕ). Off k ks) e.is o in
-    off_right k e.gone (row t link n) o2)
+pub discard_goes : {s t u : RigState} {m : ℕ} (c : Chain) (link n : ℕ) → m ≡ n + 1
+    → Discarding s t c link m → Goes (row t link (n + 1)) t u → Goes (chain_blocks s c) s u
+discard_goes {s} {t} {u} c link n e h g = record {
+  sound = g.sound;
+  touches = touches_trans (chain_blocks s c) (row t link (n + 1)) s t u h.touches g.touches
+      (λ z k i o.
+      let a = rw e at (h.ends z) in
+      let o2 : Off k (a.gone ++ row t link (n + 1)) = subst (λ (ks : List ℕ). Off k ks) a.is o in
+      off_right k a.gone (row t link (n + 1)) o2);
+  frames = same_frames_then s.pool t.pool u.pool h.frames g.frames;
+}
 
-pub discard_more : (s t u : RigState) (c : Chain) (link next n : ℕ)
-    → Discarding s t c link (n + 1) → Goes (row t link (n + 1)) t u
+pub discard_more : {s t u : RigState} {b : ℕ} (c : Chain) (link next n : ℕ) → b ≡ n + 1
+    → Discarding s t c link b → Goes (row t link (n + 1)) t u
     → (IsTrue t.device.told → Drops t u link next n)
     → u.moves ≤ t.moves + 2 → u.used + 1 ≡ t.used → u.most ≡ t.most → Discarding s u c next n
-discard_more s t u c link next n h g d m q k =
+discard_more {s} {t} {u} c link next n e h g d m q k =
     let td = h.touches.told in
     let hm = h.moves in
     let hu = h.used in
+    let goes = discard_goes c link n e h g in
     record {
-      sound = g.sound;
-      touches = discard_touches s t u c link (n + 1) h g.touches;
-      frames = same_frames_then s.pool t.pool u.pool h.frames g.frames;
+      sound = goes.sound;
+      touches = goes.touches;
+      frames = goes.frames;
       is_row = λ z. (d (td ∙ z)).is;
       ends = λ z.
-          let a = h.ends z in
+          let a = rw e at (h.ends z) in
           let b = (d (td ∙ z)).ends in
           record {
             gone = a.gone ++ b.gone;

@@ -5,20 +5,23 @@ use Rattle.std.proofs.lemmas.List.{append-nil, length-set, length-map}
 use Rattle.em_record.specs.Shape.{ShapeNumbers}
 use Rattle.em_record.specs.declared.record.Record.{Record}
 use Rattle.em_frames.specs.Device.{block_at}
-use Rattle.em_frames.specs.Pool.{SameFrames}
+use Rattle.em_frames.specs.Pool.{SameFrames, GivenFrames}
 use Rattle.em_space.specs.Free.{header, linked_from, Off}
-use Rattle.em_space.specs.Rig.{RigState, InUse, Touches}
+use Rattle.em_space.specs.Rig.{RigState, Sound, InUse, Touches, Goes}
 use Rattle.em_space.specs.Held.{AllInUse, contents_of}
 use Rattle.em_space.proofs.Held.{in_use_kept, contents_kept, all_kept}
-use Rattle.em_chain.proofs.Keeps.{payload_kept, touches_wider}
+use Rattle.em_chain.proofs.Keeps.{payload_kept}
 use Rattle.em_chain.specs.List.{with_link, block_header}
 use Rattle.em_chain.specs.Chain.{payload_in}
+use Rattle.em_chain.specs.Effects.{GivesFrame}
 use Rattle.em_chain.specs.Within.{Grows}
-use Rattle.em_chain.specs.Writer.{IsWriter, IsWritten, IsPackedSoFar, front, linked, pending, writer_words, writer_blocks, writer_contents, writer_items}
+use Rattle.em_chain.specs.Writer.{HasLast, IsWriter, IsWritten, IsPackedSoFar, IsTightSoFar, front, linked, pending, writer_words, writer_blocks, writer_contents, writer_items}
 use Rattle.em_chain.specs.Writes.{Appends}
 use Rattle.em_chain.specs.declared.writer.Writer.{Writer}
 use Rattle.em_space.proofs.Apart.{off_right}
-use Rattle.em_chain.proofs.Blocks.{in_use_append, in_use_left, distinct_push, distinct_last, fresh_off, contents_append}
+use Rattle.em_space.proofs.Lists.{in_use_append, in_use_left}
+use Rattle.em_space.proofs.Steps.{same_frames_then, touches_after, touches_then, touches_wider}
+use Rattle.em_chain.proofs.Blocks.{distinct_push, distinct_last, fresh_off, contents_append}
 use Rattle.em_chain.proofs.Lists.{follow, with_record, length_with_record, payload_with_record, list_put, list_next, list_first, header_put}
 
 pub linked_at : (j : ℕ) → linked (j + 1) ≡ j ∷ []
@@ -26,6 +29,13 @@ linked_at j = rw add-one refl
 
 pub pending_at : (j : ℕ) (b : List Record) → pending (j + 1) b ≡ b ∷ []
 pending_at j b = rw add-one refl
+
+-- packed is tight with nothing passed over
+pub packs_so_far : {s t : RigState} {w v : Writer} → v.skip ≡ w.skip
+    → (IsTightSoFar s w → IsTightSoFar t v) → IsPackedSoFar s w → IsPackedSoFar t v
+packs_so_far e f g = record {
+  is = record { skip_is = e ∙ g.is.skip_is; full = (f (record { full = g.is.full })).full };
+}
 
 -- A block was taken into use, and another stored.
 pub record Took (s t : RigState) (l j : ℕ) (b : List Record) : Type 0 where
@@ -51,7 +61,7 @@ pub record Told (s t : RigState) (w v : Writer) (x : Record) : Type 0 where
   pub is : IsWritten t v
   pub items : writer_items t v ≡ writer_items s w ++ x ∷ []
   pub grown : Grows s (writer_blocks s w) (writer_blocks t v)
-  pub packed : IsPackedSoFar s w → IsPackedSoFar t v
+  pub tight : IsTightSoFar s w → IsTightSoFar t v
 
 next_told : (s t : RigState) (w : Writer) (l j : ℕ) (x : Record) → 128 ≤ s.pool.shape.block
     → IsWriter s (record w { tail = suc l }) → w.fill ≡ payload_in s
@@ -98,7 +108,7 @@ next_told s t w l j x low h full k z =
       };
       items = rw ct q.items;
       grown = record { more = j ∷ []; is = bl; fresh = (k.fresh z, tt) };
-      packed = λ g. record { is = rw (pt, ct) (q.packed g.is) };
+      tight = λ g. record { full = rw (pt, ct) (q.full g.full) };
     }
 
 filled_step : (p b : ℕ) → 0 < b → p * (b + 1 - 1) ≡ p * (b - 1) + p
@@ -109,6 +119,23 @@ filled_step p (suc b) h = let e : suc b + 1 - 1 ≡ suc b = omega arith in let f
 pub pos_of : (b : ℕ) → (b ≡ 0 → ⊥) → 0 < b
 pos_of zero h = absurd (h refl)
 pos_of (suc b) h = omega arith
+
+-- a block that has its first record
+last_new : (t : RigState) (w : Writer) (j : ℕ) → 128 ≤ t.pool.shape.block → InUse t j
+    → header w.frame ≡ block_header 0 1
+    → HasLast t (record w { tail = j + 1; blocks = w.blocks + 1; fill = 1 })
+last_new t w j low u hd = record {
+  none = λ y. absurd (omega arith);
+  none_count = λ y. absurd (omega arith);
+  none_skip = λ y. absurd (omega arith);
+  some = λ y. omega arith;
+  in_use = rw (linked_at j) (u, tt);
+  fill_is = λ y. ap (λ (r : Record). r.b) hd;
+  fill_low = λ y. omega arith;
+  fill_none = λ y. absurd (omega arith);
+  fill_most = omega arith;
+  last = λ y. hd;
+}
 
 -- the last block is full
 pub next_is : (s t : RigState) (w : Writer) (l j : ℕ) (x : Record) → 128 ≤ s.pool.shape.block
@@ -129,6 +156,7 @@ next_is s t w l j x low e cm bm h full k =
     let hd : header (with_record 0 x (with_link (j + 1) w.fill w.frame)) ≡ block_header 0 1 =
     header_put (with_link (j + 1) w.fill w.frame) (block_header 0 1) x 0
     (rw length-set (omega arith)) in
+    let lt : 128 ≤ t.pool.shape.block = rw (ap (λ (x : ShapeNumbers). x.block) fr.shape) low in
     record {
       is = record {
         count_most = omega arith;
@@ -139,22 +167,14 @@ next_is s t w l j x low e cm bm h full k =
               ∙ sym (ap (λ (x : ShapeNumbers). x.block) fr.shape);
           out = rw (fr.shape, fr.free) h.frame.out;
         };
-        last = record {
-          none = λ y. absurd (omega arith);
-          none_count = λ y. absurd (omega arith);
-          some = λ y. omega arith;
-          in_use = rw (linked_at j) (k.in_use, tt);
-          fill_is = λ y. ap (λ (r : Record). r.b) hd;
-          fill_low = λ y. omega arith;
-          fill_none = λ y. absurd (omega arith);
-          fill_most = omega arith;
-          last = λ y. hd;
-        };
+        last = last_new t (record v { blocks = w.blocks }) j lt k.in_use hd;
         told = λ y. (told (sym k.touches.told ∙ y)).is;
       };
       items = λ z. (told z).items;
       grown = λ z. (told z).grown;
-      packed = λ z. (told z).packed;
+      packed = λ z. packs_so_far refl (told z).tight;
+      tight = λ z. (told z).tight;
+      skip_is = refl;
       filled_is = let b0 : 0 < w.blocks = pos_of w.blocks (λ q. let y =
           h.last.none q in absurd (omega arith)) in rw (pt)
           (ap (λ (n : ℕ). n + 1) (filled_step (payload_in s) w.blocks b0) ∙ omega arith);
@@ -191,7 +211,7 @@ put_told s w l x low h lt z =
       };
       items = q.items;
       grown = record { more = []; is = sym (append-nil (ks ++ l ∷ [])); fresh = tt };
-      packed = λ g. record { is = q.packed g.is };
+      tight = λ g. record { full = q.full g.full };
     }
 
 pub put_is : (s : RigState) (w : Writer) (x : Record) → 128 ≤ s.pool.shape.block → 0 < w.tail
@@ -215,6 +235,7 @@ put_is s w x low pos cm h lt =
         last = record {
           none = h.last.none;
           none_count = λ y. let q = h.last.none y in absurd (omega arith);
+          none_skip = h.last.none_skip;
           some = h.last.some;
           in_use = h.last.in_use;
           fill_is = λ y. ap (λ (r : Record). r.b) hd;
@@ -227,7 +248,9 @@ put_is s w x low pos cm h lt =
       };
       items = λ z. (told z).items;
       grown = λ z. (told z).grown;
-      packed = λ z. (told z).packed;
+      packed = λ z. packs_so_far refl (told z).tight;
+      tight = λ z. (told z).tight;
+      skip_is = refl;
       filled_is = omega arith;
       count_is = refl;
     }
@@ -272,7 +295,7 @@ first_told s t w j x low h k z =
       };
       items = rw (ct, payload_with_record 0 x w.frame (omega arith), sk) refl;
       grown = record { more = j ∷ []; is = bl; fresh = (k.fresh z, tt) };
-      packed = λ g. record { is = rw (pt, ct) (record { skip_is = refl; full = tt }) };
+      tight = λ g. record { full = rw (pt, ct) tt };
     }
 
 pub first_is : (s t : RigState) (w : Writer) (j : ℕ) (x : Record) → 128 ≤ s.pool.shape.block
@@ -293,9 +316,11 @@ first_is s t w j x low e h k =
     let fl = h.frame.len_is in
     let fr = k.frames in
     let c0 : w.count ≡ 0 = h.last.none_count e in
+    let sk : 0 ≡ w.skip = sym (h.last.none_skip e) in
     let f0 : w.fill ≡ 0 = h.last.fill_none e1 in
     let hd : header (with_record 0 x w.frame) ≡ block_header 0 1 =
     header_put w.frame (block_header 0 1) x 0 (omega arith) in
+    let lt : 128 ≤ t.pool.shape.block = rw (ap (λ (x : ShapeNumbers). x.block) fr.shape) low in
     record {
       is = record {
         count_most = omega arith;
@@ -306,22 +331,14 @@ first_is s t w j x low e h k =
           out =
               rw (fr.shape, fr.free) h.frame.out;
         };
-        last = record {
-          none = λ y. absurd (omega arith);
-          none_count = λ y. absurd (omega arith);
-          some = λ y. omega arith;
-          in_use = rw (linked_at j) (k.in_use, tt);
-          fill_is = λ y. ap (λ (r : Record). r.b) hd;
-          fill_low = λ y. omega arith;
-          fill_none = λ y. absurd (omega arith);
-          fill_most = omega arith;
-          last = λ y. hd;
-        };
+        last = last_new t (record v { blocks = 0 }) j lt k.in_use hd;
         told = λ y. (told (sym k.touches.told ∙ y)).is;
       };
       items = λ z. (told z).items;
       grown = λ z. (told z).grown;
-      packed = λ z. (told z).packed;
+      packed = λ z. packs_so_far sk (told z).tight;
+      tight = λ z. (told z).tight;
+      skip_is = sk;
       filled_is = rw (e, f0) (grind arith);
       count_is = rw c0 refl;
     }
@@ -351,10 +368,27 @@ new_in_use s m t w j h pos x y f u =
     )) u
 
 -- a call that may change the last block alone
-pub touches_last : (s t : RigState) (w : Writer) → 0 < w.tail
+touches_last : (s t : RigState) (w : Writer) → 0 < w.tail
     → Touches ((w.tail - 1) ∷ []) s t → Touches (writer_blocks s w) s t
 touches_last s t w pos k =
     let e : w.tail ≡ (w.tail - 1) + 1 = omega arith in
     touches_wider (writer_blocks s w) ((w.tail - 1) ∷ []) s t k
     (λ z j u o. rw linked_at at (subst (λ (n : ℕ). Off j (linked n)) e
     (off_right j (front s w) (linked w.tail) o)))
+
+pub goes_last : {s m t : RigState} (w : Writer) → 0 < w.tail → Goes [] s m
+    → Goes ((w.tail - 1) ∷ []) m t → Goes (writer_blocks s w) s t
+goes_last {s} {m} {t} w pos g h = record {
+  sound = h.sound;
+  touches = touches_last s t w pos
+      (touches_after ((w.tail - 1) ∷ []) s m t g.touches h.touches);
+  frames = same_frames_then s.pool m.pool t.pool g.frames h.frames;
+}
+
+pub gives_last : {s m t : RigState} (w : Writer) → 0 < w.tail → Touches ((w.tail - 1) ∷ []) s m
+    → Touches [] m t → Sound t → GivenFrames 1 s.pool t.pool → GivesFrame (writer_blocks s w) s t
+gives_last {s} {m} {t} w pos g h sound frames = record {
+  sound = sound;
+  touches = touches_last s t w pos (touches_then ((w.tail - 1) ∷ []) s m t g h);
+  frames = frames;
+}

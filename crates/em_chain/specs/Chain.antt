@@ -5,7 +5,7 @@ use Rattle.em_record.specs.declared.record.Record.{Record}
 use Rattle.em_space.specs.Free.{linked_from}
 use Rattle.em_space.specs.Rig.{RigState}
 use Rattle.em_space.specs.Held.{Holds, contents_of}
-use Rattle.em_chain.specs.List.{Words, IsList, IsPackedIn, items_of}
+use Rattle.em_chain.specs.List.{Words, IsList, IsPackedIn, AllButLast, items_of}
 use Rattle.em_chain.specs.declared.chain.Chain.{Chain}
 
 abbrev pub words_of : Chain → Words
@@ -50,6 +50,10 @@ pub record IsChain (s : RigState) (c : Chain) : Type 0 where
   pub blocks_most : c.blocks ≤ 2 ^ 56
   pub told : IsTrue s.device.told → IsStored s c
 
+-- every block but the last is full, whatever is passed over
+pub record IsTight (s : RigState) (c : Chain) : Type 0 where
+  pub full : AllButLast (payload_in s) (chain_contents s c)
+
 -- nothing is passed over, and every block but the last is full
 pub record IsPacked (s : RigState) (c : Chain) : Type 0 where
   pub is : IsPackedIn (payload_in s) (words_of c) (chain_contents s c)
@@ -60,3 +64,4 @@ pub record ChainStays (s t : RigState) (c : Chain) : Type 0 where
   pub items : IsTrue s.device.told → chain_items t c ≡ chain_items s c
   pub blocks : IsTrue s.device.told → chain_blocks t c ≡ chain_blocks s c
   pub packed : IsTrue s.device.told → IsPacked s c → IsPacked t c
+  pub tight : IsTrue s.device.told → IsTight s c → IsTight t c

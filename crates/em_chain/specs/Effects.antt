@@ -25,7 +25,7 @@ pub record Unmoved (old new : RigState) : Type 0 where
   pub same : SameBlocks old new
   pub moves : new.moves ≡ old.moves
 
--- No block was taken or freed, and at most so many moves were made.
+-- No block was taken or freed, and at most this many moves were made.
 pub record OnlyMoves (most : ℕ) (old new : RigState) : Type 0 where
   pub same : SameBlocks old new
   pub moves : new.moves ≤ old.moves + most

@@ -46,7 +46,7 @@ pub record CanMove (s : RigState) (block len : ℕ) : Type 0 where
   pub in_use : InUse s block
   pub len_is : len ≡ s.pool.shape.block
 
--- a chain block that has more than so many records, with a link to a block of the device
+-- a chain block that has more than this many records, with a link to a block of the device
 pub record CanShift (s : RigState) (block skip : ℕ) : Type 0 where
   pub is : IsBlock (payload_in s) (block_at s.device block)
   pub link_is : (header (block_at s.device block)).a ≤ s.blocks

@@ -3,11 +3,12 @@ pub mod Counts
 pub mod Effects
 pub mod Joins
 pub mod List
-pub mod Loops
 pub mod Parts
 pub mod Reader
 pub mod Reads
 pub mod Row
+pub mod Session
+pub mod View
 pub mod Within
 pub mod Writer
 pub mod Writes

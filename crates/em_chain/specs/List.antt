@@ -1,14 +1,14 @@
 -- Blocks of records that lead from one to the next. The first record of a chain block is its
 -- header: a is a link to the next block, 0 for none, else its number plus 1; b is the number of the
--- block's records, 1 to P; c is 1, the kind of a chain block; d is 0. The records stand behind the
--- header, and what stands behind them is anything.
+-- block's records, 1 to P; c is 1, the kind of a chain block; d is 0. The records stand after the
+-- header, and what stands after them is anything.
 use Rattle.std.specs.Prelude.{◌≡◌, ◌↔◌, ℕ, ◌+◌, ◌-◌, ◌<◌, ◌≤◌, List, [], ◌∷◌, length, take, drop, set}
 use Rattle.std.proofs.Math.Seq.{paste}
 use Rattle.std.specs.List.{flat_map}
 use Rattle.em_record.specs.declared.record.Record.{Record}
 use Rattle.em_space.specs.Free.{header}
 
--- the header of a chain block with this link and so many records
+-- the header of a chain block with this link and this many records
 abbrev pub block_header : ℕ → ℕ → Record
 block_header link n = record { a = link; b = n; c = 1; d = 0 }
 
@@ -27,7 +27,7 @@ pub record IsBlock (p : ℕ) (b : List Record) : Type 0 where
   pub most : (header b).b ≤ p
   pub len : length b ≡ p + 1
 
--- A record is the header of a chain block of at most so many records, on a device of so many
+-- A record is the header of a chain block of at most this many records, on a device of this many
 -- blocks.
 pub record IsHeader (first : Record) (most blocks : ℕ) : Type 0 where
   pub is : first ≡ block_header first.a first.b
@@ -35,7 +35,7 @@ pub record IsHeader (first : Record) (most blocks : ℕ) : Type 0 where
   pub most_is : first.b ≤ most
   pub link_is : first.a ≤ blocks
 
--- a link of a block that so many others follow
+-- a link of a block that this many others follow
 abbrev pub LinksTo : ℕ → ℕ → Type 0
 LinksTo link left = (link ≡ 0) ↔ (left ≡ 0)
 
@@ -45,6 +45,13 @@ IsRun p link [] [] = link ≡ 0
 IsRun p link [] (c ∷ cs) = ⊥
 IsRun p link (k ∷ ks) [] = ⊥
 IsRun p link (k ∷ ks) (c ∷ cs) = (link ≡ k + 1) × IsBlock p c × IsRun p (header c).a ks cs
+
+-- The same, and the last block may lead on.
+abbrev pub IsRunOpen : ℕ → ℕ → List ℕ → List (List Record) → Type 0
+IsRunOpen p link [] [] = Unit {0}
+IsRunOpen p link [] (c ∷ cs) = ⊥
+IsRunOpen p link (k ∷ ks) [] = ⊥
+IsRunOpen p link (k ∷ ks) (c ∷ cs) = (link ≡ k + 1) × IsBlock p c × IsRunOpen p (header c).a ks cs
 
 -- a link to the last block
 abbrev pub last_link : List ℕ → ℕ
@@ -81,6 +88,13 @@ pub record IsList (p : ℕ) (w : Words) (ks : List ℕ) (cs : List (List Record)
   pub run : IsRun p w.head ks cs
   pub blocks_is : length ks ≡ w.blocks
   pub tail_is : last_link ks ≡ w.tail
+  pub count_is : w.skip + w.count ≡ length (items_in cs)
+  pub skip_fits : SkipFits w.skip cs
+
+-- The same of blocks of which the last may lead on. The word for the last block isn't asked.
+pub record IsOpenList (p : ℕ) (w : Words) (ks : List ℕ) (cs : List (List Record)) : Type 0 where
+  pub run : IsRunOpen p w.head ks cs
+  pub blocks_is : length ks ≡ w.blocks
   pub count_is : w.skip + w.count ≡ length (items_in cs)
   pub skip_fits : SkipFits w.skip cs
 

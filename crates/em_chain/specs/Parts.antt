@@ -1,16 +1,21 @@
 -- A chain is cut in two.
-use Rattle.std.specs.Prelude.{◌≡◌, ℕ, ◌+◌, ◌*◌, ◌≤◌, max, List, [], ◌∷◌, ◌++◌, IsTrue, length, true, false}
+use Rattle.std.specs.Prelude.{◌≡◌, ℕ, ◌+◌, ◌*◌, ◌<◌, ◌≤◌, max, IfErr, List, [], ◌∷◌, ◌++◌, length, IsTrue, Bool, true, false, Result, Ok, Err}
 use Rattle.std.specs.List.{All}
+use Rattle.em_record.specs.Count.{Rose}
 use Rattle.em_record.specs.declared.record.Record.{Record}
-use Rattle.em_frames.specs.Pool.{SameFrames}
 use Rattle.em_space.specs.Held.{Apart}
-use Rattle.em_space.specs.Rig.{RigState, Sound, Touches, Owes}
-use Rattle.em_chain.specs.Chain.{IsChain, IsPacked, payload_in, chain_items, chain_blocks}
+use Rattle.em_space.specs.Ledger.{Stops}
+use Rattle.em_space.specs.Rig.{RigState, Goes, Owes, Cause, IfFull}
+use Rattle.em_space.specs.declared.fault.EmFault.{EmFault}
+use Rattle.em_space.specs.declared.fault.EmFault.TheVariants.{Full}
+use Rattle.em_chain.specs.Chain.{IsChain, IsPacked, IsTight, payload_in, chain_items, chain_blocks}
+use Rattle.em_chain.specs.Effects.{OnFull}
 use Rattle.em_record.specs.Order.{is_below}
-use Rattle.em_chain.specs.Reader.{IsReader, rest_of, reader_items, owed}
+use Rattle.em_chain.specs.Reader.{IsReader, rest_of, reader_items}
+use Rattle.em_chain.specs.Session.{Pairs, pair_blocks, pair_account, one_more}
 use Rattle.em_space.specs.Held.{Within}
 use Rattle.em_chain.specs.Within.{Ends}
-use Rattle.em_chain.specs.Writer.{IsWriter, IsPackedSoFar, writer_items, writer_blocks, filled}
+use Rattle.em_chain.specs.Writer.{IsWriter, IsPackedSoFar, NeedsBlock, writer_items, writer_blocks, filled}
 use Rattle.em_chain.specs.declared.chain.Chain.{Chain}
 use Rattle.em_chain.specs.declared.reader.Reader.{Reader}
 use Rattle.em_chain.specs.declared.writer.Writer.{Writer}
@@ -35,10 +40,27 @@ pub record Parts (s t : RigState) (c : Chain) (low : Record) (f g : Chain) : Typ
   pub first_blocks : Within s (chain_blocks s c) (chain_blocks t f)
   pub second_blocks : IsTrue s.device.told → Ends (chain_blocks s c) (chain_blocks t g)
   pub packed : IsTrue s.device.told → IsPacked t f
+  pub tight : IsTrue s.device.told → IsTight s c → IsTight t g
+  pub place_is : IsTrue s.device.told → IsTight s c → 0 < g.count
+      → g.skip + payload_in s * c.blocks ≡ c.skip + f.count + payload_in s * g.blocks
   pub count : f.count + g.count ≡ c.count
   pub used : t.used + c.blocks ≡ s.used + f.blocks + g.blocks
   pub moves : t.moves + 2 * g.blocks ≤ s.moves + 2 * c.blocks + 2 * f.blocks + 2
   pub stored : Owes 0 s t
+
+-- the first record of a list is below a bound, so that a first part has a record and needs a block
+abbrev pub NeedsPart : Record → List Record → Type 0
+NeedsPart low [] = ⊥
+NeedsPart low (x ∷ xs) = is_below x low ≡ true
+
+-- Over a device that tells, a cut is refused as full only if the first part needs a block; and if it
+-- counts no fault in the call, always if it needs one and all blocks are in use.
+pub record FullsPart {T : Type 0} (s t : RigState) (c : Chain) (low : Record)
+    (result : Result T EmFault) : Type 0 where
+  pub only : IfErr result (λ fault.
+      IfFull fault (λ used. IsTrue s.device.told → NeedsPart low (chain_items s c)))
+  pub always : IsTrue s.device.told → (Rose s.device.faults t.device.faults → ⊥)
+      → s.used ≡ s.blocks → NeedsPart low (chain_items s c) → result ≡ Err (Full s.used)
 
 -- One block more was in use at once, at most, and one at most isn't stored.
 pub record PartCosts (s t : RigState) (blocks : ℕ) : Type 0 where
@@ -64,44 +86,67 @@ pub record BeginsPart (s : RigState) (r : Reader) (w : Writer) : Type 0 where
   pub blocks : w.blocks ≡ 0
   pub filled_is : filled s w ≡ 0
 
--- What was read and written on the way.
-pub record Moving (s t : RigState) (r q : Reader) (w : Writer) (xs : List Record) : Type 0 where
-  pub filled_is : filled t w ≡ length xs
-  pub count_is : w.count ≡ length xs
-  pub left_is : q.count + length xs ≡ r.count
-  pub blocks_most : w.blocks ≤ length xs
-  pub room : w.blocks + q.blocks ≤ r.blocks + 1
-  pub place : length xs + payload_in s * q.blocks ≤ payload_in s * r.blocks + q.skip
-  pub used : t.used + r.blocks ≡ s.used + w.blocks + q.blocks
-  pub moves : t.moves + owed q ≤ s.moves + owed r + 2 * w.blocks
-  pub most : t.most ≤ max s.most (s.used + 1)
-  pub owes : Owes 1 s t
-  pub owes_none : w.blocks ≡ 0 → Owes 0 s t
-
--- These records, which are below a bound, were taken from the reader and written.
-pub record Parting (s t : RigState) (low : Record) (r q : Reader) (w : Writer) (xs : List Record)
-    : Type 0 where
-  pub sound : Sound t
-  pub touches : Touches (chain_blocks s (rest_of r)) s t
-  pub frames : SameFrames s.pool t.pool
-  pub pair : IsPair t q w
-  pub items : IsTrue s.device.told → reader_items s r ≡ xs ++ reader_items t q
-  pub written : IsTrue s.device.told → writer_items t w ≡ xs
-  pub below : AllBelow low xs
-  pub ends : IsTrue s.device.told → Ends (chain_blocks s (rest_of r)) (chain_blocks t (rest_of q))
-  pub within : Within s (chain_blocks s (rest_of r)) (writer_blocks t w)
-  pub packed : IsTrue s.device.told → IsPackedSoFar t w
-  pub moving : Moving s t r q w xs
-  pub fewer : q.blocks ≤ r.blocks
-  pub taken : r.taking ≡ true
-
 -- the list is empty, or its first record isn't below a bound
 abbrev pub IsPast : Record → List Record → Type 0
 IsPast low [] = Unit {0}
 IsPast low (x ∷ xs) = is_below x low ≡ false
 
+-- These records, which are below a bound, were taken from the reader and written.
+pub record Moved (peak : ℕ) (s t : RigState) (low : Record) (r q : Reader) (w v : Writer)
+    (xs : List Record) : Type 0 where
+  pub pairs : Pairs peak s t r q w v xs xs
+  pub below : AllBelow low xs
+
 -- The next record isn't below the bound.
-pub record Parted (s t : RigState) (low : Record) (r q : Reader) (w : Writer) : Type 0 where
-  pub moved : List Record
-  pub parting : Parting s t low r q w moved
+pub record Stands (peak : ℕ) (s t : RigState) (low : Record) (r q : Reader) (w v : Writer)
+    (xs : List Record) : Type 0 where
+  pub moved : Moved peak s t low r q w v xs
   pub past : IsTrue s.device.told → IsPast low (reader_items t q)
+
+-- what the blocks of a pair may be once a record more was written
+abbrev pub pair_more : RigState → Reader → Writer → ℕ
+pair_more s r w = one_more s w + r.blocks
+
+-- The next record, which is below the bound, was moved. If it needed a block, one was free.
+pub record MovedOne (s t : RigState) (low : Record) (r q : Reader) (w v : Writer) (x : Record)
+    : Type 0 where
+  pub moved : Moved (pair_more s r w) s t low r q w v (x ∷ [])
+  pub room : NeedsBlock s w → s.used < s.blocks
+
+-- A step gave up: refused as full only if the next record is below the bound.
+pub record StopsMoving (s t : RigState) (low : Record) (r : Reader) (w : Writer) (fault : EmFault)
+    : Type 0 where
+  pub stops : Stops (pair_more s r w) (2 * one_more s w) 1 (pair_blocks s r w) (pair_account r w)
+      s t fault
+  pub needs : IfFull fault (λ used. IsTrue s.device.told → NeedsPart low (reader_items s r))
+
+-- a record was moved, or stands
+abbrev pub Steps : RigState → RigState → Record → Reader → Reader → Writer → Writer
+    → Result Bool EmFault → Type 0
+Steps s t low r q w v (Ok true) = (x : Record) × MovedOne s t low r q w v x
+Steps s t low r q w v (Ok false) = Stands (pair_more s r w) s t low r q w v []
+Steps s t low r q w v (Err fault) = StopsMoving s t low r w fault
+
+-- Of the records that were moved the first one had a free block.
+pub record HadRoom (s t : RigState) (n : ℕ) : Type 0 where
+  pub none : n ≡ 0 → t.used ≡ s.used
+  pub some : 0 < n → s.used < s.blocks
+
+-- All records below the bound were moved, or what a fault left.
+pub record GaveUp (s t : RigState) (r : Reader) (fault : EmFault) : Type 0 where
+  pub goes : Goes (chain_blocks s (rest_of r)) s t
+  pub costs : PartCosts s t r.blocks
+  pub full : OnFull fault (s.used ≡ s.blocks)
+  pub cause : Cause s t fault
+
+-- The same, refused as full only if the first record is below the bound.
+pub record GaveUpAt (s t : RigState) (low : Record) (r : Reader) (fault : EmFault) : Type 0 where
+  pub gave_up : GaveUp s t r fault
+  pub needs : IfFull fault (λ used. IsTrue s.device.told → NeedsPart low (reader_items s r))
+
+abbrev pub MovesAll : RigState → RigState → Record → Reader → Reader → Writer → Writer
+    → Result (Unit {0}) EmFault → Type 0
+MovesAll s t low r q w v (Ok x) =
+    (xs : List Record) × Stands (r.blocks + 1) s t low r q w v xs
+    × (0 < length xs → s.used < s.blocks)
+MovesAll s t low r q w v (Err fault) = GaveUpAt s t low r fault

@@ -1,12 +1,13 @@
 -- A list that is being read: the words of what is left, and its first block in a frame.
-use Rattle.std.specs.Prelude.{◌≡◌, ℕ, ◌+◌, ◌-◌, ◌*◌, ◌≤◌, ◌<◌, List, [], IsTrue, length, if◌then◌else◌, false}
+use Rattle.std.specs.Prelude.{◌≡◌, ℕ, ◌+◌, ◌-◌, ◌*◌, ◌≤◌, ◌<◌, List, [], IsTrue, length, if◌then◌else◌, Bool, true, false}
 use Rattle.em_record.specs.declared.record.Record.{Record}
 use Rattle.em_frames.specs.Device.{block_at}
 use Rattle.em_frames.specs.Pool.{HasFrames}
 use Rattle.em_space.specs.Free.{header}
 use Rattle.em_space.specs.Rig.{RigState, InUse}
 use Rattle.em_chain.specs.List.{block_header}
-use Rattle.em_chain.specs.Chain.{payload_in, IsChain, chain_blocks, chain_items}
+use Rattle.em_chain.specs.Chain.{payload_in, IsChain, IsTight, chain_blocks, chain_items}
+use Rattle.em_chain.specs.View.{IsView}
 use Rattle.em_chain.specs.declared.reader.Reader.{Reader}
 use Rattle.em_chain.specs.declared.chain.Chain.{Chain}
 
@@ -38,9 +39,10 @@ pub record IsLoaded (s : RigState) (r : Reader) : Type 0 where
   pub most : (header r.frame).b ≤ payload_in s
   pub same : IsTrue s.device.told → r.frame ≡ block_at s.device (r.head - 1)
 
--- A reader: what is left is a chain, and the reader has a frame.
+-- A reader: what is left is a view, or a chain if the reader takes it, and the reader has a frame.
 pub record IsReader (s : RigState) (r : Reader) : Type 0 where
-  pub chain : IsChain s (rest_of r)
+  pub chain : IsView s (rest_of r)
+  pub closed : r.taking ≡ true → IsChain s (rest_of r)
   pub frame : HasFrames 1 (length r.frame) s.pool
   pub loaded : IsTrue r.loaded → IsLoaded s r
 
@@ -73,8 +75,11 @@ pub record ReaderStays (s t : RigState) (r : Reader) : Type 0 where
   pub items : IsTrue s.device.told → reader_items t r ≡ reader_items s r
   pub blocks : IsTrue s.device.told
       → chain_blocks t (rest_of r) ≡ chain_blocks s (rest_of r)
+  pub tight : IsTrue s.device.told → IsTight s (rest_of r) → IsTight t (rest_of r)
+  pub closed : IsChain s (rest_of r) → IsChain t (rest_of r)
 
 -- how the last record of a block leads on
-pub record LeadsOn (link blocks count : ℕ) : Type 0 where
-  pub last : blocks ≡ 1 → (link ≡ 0) × (count ≡ 1)
+pub record LeadsOn (link blocks count : ℕ) (taking : Bool) : Type 0 where
+  pub last : blocks ≡ 1 → count ≡ 1
+  pub closed : blocks ≡ 1 → taking ≡ true → link ≡ 0
   pub more : 1 < blocks → (0 < link) × (1 < count)

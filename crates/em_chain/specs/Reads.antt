@@ -3,30 +3,36 @@ use Rattle.std.specs.Prelude.{◌≡◌, ◌+◌, ◌*◌, ◌<◌, ◌≤◌, B
 use Rattle.em_record.specs.declared.record.Record.{Record}
 use Rattle.em_space.specs.Rig.{RigState}
 use Rattle.em_space.specs.declared.fault.EmFault.{EmFault}
-use Rattle.em_chain.specs.Chain.{payload_in, chain_blocks, chain_items}
+use Rattle.em_chain.specs.Chain.{payload_in, IsChain, IsTight, chain_blocks, chain_items}
 use Rattle.em_chain.specs.Within.{Ends}
 use Rattle.em_chain.specs.Reader.{IsReader, rest_of, reader_items, owed}
 use Rattle.em_chain.specs.declared.reader.Reader.{Reader}
 use Rattle.em_chain.specs.declared.chain.Chain.{Chain}
 
--- A reader of a chain, from its first record, that takes the chain or leaves it.
+-- A reader of a chain or a view, from its first record, that takes the blocks or leaves them.
 pub record Opens (s t : RigState) (c : Chain) (taking : Bool) (r : Reader) : Type 0 where
   pub is : IsReader t r
   pub items : IsTrue s.device.told → reader_items t r ≡ chain_items s c
   pub blocks : IsTrue s.device.told → chain_blocks t (rest_of r) ≡ chain_blocks s c
+  pub tight : IsTrue s.device.told → IsTight s c → IsTight t (rest_of r)
+  pub closed : IsChain s c → IsChain t (rest_of r)
   pub words : rest_of r ≡ c
   pub taking_is : r.taking ≡ taking
   pub owed_is : owed r ≡ (if taking then 2 * c.blocks else c.blocks)
 
--- One record was read, and what is left begins a place further on, or in the next block. With no
--- record left no block is left.
+-- One record was read, and what is left begins a place further on, or in the next block: exactly a
+-- place if every block but the last is full. With no record left no block is left.
 pub record Reads (s t : RigState) (r q : Reader) (x : Record) : Type 0 where
   pub is : IsReader t q
   pub items : IsTrue s.device.told → reader_items s r ≡ x ∷ reader_items t q
   pub blocks : IsTrue s.device.told → Ends (chain_blocks s (rest_of r)) (chain_blocks t (rest_of q))
+  pub tight : IsTrue s.device.told → IsTight s (rest_of r) → IsTight t (rest_of q)
+  pub closed : IsChain s (rest_of r) → IsChain t (rest_of q)
   pub count : q.count + 1 ≡ r.count
   pub fewer : q.blocks ≤ r.blocks
   pub place : r.skip + 1 + payload_in s * q.blocks ≤ q.skip + payload_in s * r.blocks
+  pub place_is : IsTrue s.device.told → IsTight s (rest_of r) → 0 < q.count
+      → q.skip + payload_in s * r.blocks ≡ r.skip + 1 + payload_in s * q.blocks
   pub skip_fits : q.skip < payload_in s
   pub none_left : q.count ≡ 0 → q.blocks ≡ 0
   pub taking : q.taking ≡ r.taking
@@ -53,6 +59,8 @@ pub record Fetches (s t : RigState) (r q : Reader) : Type 0 where
   pub ready : IsReader t q
   pub items : IsTrue s.device.told → reader_items t q ≡ reader_items s r
   pub blocks : IsTrue s.device.told → chain_blocks t (rest_of q) ≡ chain_blocks s (rest_of r)
+  pub tight : IsTrue s.device.told → IsTight s (rest_of r) → IsTight t (rest_of q)
+  pub closed : IsChain s (rest_of r) → IsChain t (rest_of q)
   pub rest : rest_of q ≡ rest_of r
   pub taking : q.taking ≡ r.taking
   pub loaded : q.loaded ≡ true

@@ -14,13 +14,13 @@ use Rattle.em_chain.specs.declared.chain.Chain.{Chain}
 abbrev pub row : RigState → ℕ → ℕ → List ℕ
 row s link n = linked_from n s.device.contents link
 
--- So many blocks follow a link.
+-- This many blocks follow a link.
 pub record IsRow (s : RigState) (link n : ℕ) : Type 0 where
   pub holds : Holds s (row s link n)
   pub run : IsRun (payload_in s) link (row s link n) (contents_of s (row s link n))
   pub len : length (row s link n) ≡ n
 
--- A block of the device, behind which so many follow where the device tells.
+-- A block of the device, after which this many follow if the device tells.
 pub record HasRow (s : RigState) (block left : ℕ) : Type 0 where
   pub below : block < s.blocks
   pub row_is : IsTrue s.device.told → IsRow s (block + 1) (left + 1)
@@ -30,7 +30,7 @@ pub record Drops (s t : RigState) (link next n : ℕ) : Type 0 where
   pub is : IsRow t next n
   pub ends : Ends (row s link (n + 1)) (row t next n)
 
--- So many blocks were released, by at most two moves each; where the call gave up, perhaps fewer.
+-- This many blocks were released, by at most two moves each; where the call gave up, perhaps fewer.
 pub record Frees {T : Type 0} (n : ℕ) (old new : RigState) (result : Result T EmFault) : Type 0
   where
     pub moves : new.moves ≤ old.moves + 2 * n
@@ -38,7 +38,7 @@ pub record Frees {T : Type 0} (n : ℕ) (old new : RigState) (result : Result T 
     pub used_most : new.used ≤ old.used
     pub most : new.most ≡ old.most
 
--- So many blocks of a chain are left.
+-- This many blocks of a chain are left.
 pub record Discarding (s t : RigState) (c : Chain) (link n : ℕ) : Type 0 where
   pub sound : Sound t
   pub touches : Touches (chain_blocks s c) s t

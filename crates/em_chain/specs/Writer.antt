@@ -5,7 +5,7 @@ use Rattle.em_frames.specs.Pool.{HasFrames}
 use Rattle.em_space.specs.Free.{header, linked_from}
 use Rattle.em_space.specs.Rig.{RigState}
 use Rattle.em_space.specs.Held.{Holds, AllInUse, contents_of}
-use Rattle.em_chain.specs.List.{Words, IsList, IsPackedIn, items_of, block_header}
+use Rattle.em_chain.specs.List.{Words, IsList, IsPackedIn, AllButLast, items_of, block_header}
 use Rattle.em_chain.specs.Chain.{payload_in}
 use Rattle.em_chain.specs.declared.writer.Writer.{Writer}
 
@@ -49,10 +49,11 @@ pub record IsWritten (s : RigState) (w : Writer) : Type 0 where
   pub holds : Holds s (writer_blocks s w)
   pub list : IsList (payload_in s) (writer_words w) (writer_blocks s w) (writer_contents s w)
 
--- The last block is there exactly where a block is, and the frame has it.
+-- The last block is there exactly if a block is, and the frame has it.
 pub record HasLast (s : RigState) (w : Writer) : Type 0 where
   pub none : w.blocks ≡ 0 → w.tail ≡ 0
   pub none_count : w.blocks ≡ 0 → w.count ≡ 0
+  pub none_skip : w.blocks ≡ 0 → w.skip ≡ 0
   pub some : 0 < w.blocks → 0 < w.tail
   pub in_use : AllInUse s (linked w.tail)
   pub fill_is : 0 < w.tail → (header w.frame).b ≡ w.fill
@@ -72,6 +73,10 @@ pub record IsWriter (s : RigState) (w : Writer) : Type 0 where
 -- The frame is the pool's: what is left to ask after a fault.
 abbrev pub WriterHasFrame : RigState → Writer → Type 0
 WriterHasFrame s w = HasFrames 1 (length w.frame) s.pool
+
+-- every block but the last is full, whatever is passed over
+pub record IsTightSoFar (s : RigState) (w : Writer) : Type 0 where
+  pub full : AllButLast (payload_in s) (writer_contents s w)
 
 -- nothing is passed over, and every block but the last is full
 pub record IsPackedSoFar (s : RigState) (w : Writer) : Type 0 where
@@ -96,4 +101,5 @@ pub record WriterStays (s t : RigState) (w : Writer) : Type 0 where
   pub items : IsTrue s.device.told → writer_items t w ≡ writer_items s w
   pub blocks : IsTrue s.device.told → writer_blocks t w ≡ writer_blocks s w
   pub packed : IsTrue s.device.told → IsPackedSoFar s w → IsPackedSoFar t w
+  pub tight : IsTrue s.device.told → IsTightSoFar s w → IsTightSoFar t w
   pub filled_is : filled t w ≡ filled s w

@@ -3,10 +3,10 @@ use Rattle.std.specs.Prelude.{◌≡◌, ◌+◌, ◌*◌, ◌<◌, ◌≤◌, m
 use Rattle.em_record.specs.declared.record.Record.{Record}
 use Rattle.em_space.specs.Rig.{RigState, Owes}
 use Rattle.em_space.specs.declared.fault.EmFault.{EmFault}
-use Rattle.em_chain.specs.Chain.{IsChain, IsPacked, chain_items, chain_blocks}
+use Rattle.em_chain.specs.Chain.{IsChain, IsPacked, IsTight, chain_items, chain_blocks}
 use Rattle.em_chain.specs.Effects.{OnlyMoves, Repays, OnFull}
 use Rattle.em_chain.specs.Within.{Grows}
-use Rattle.em_chain.specs.Writer.{IsWriter, IsPackedSoFar, NeedsBlock, writer_items, writer_blocks, filled}
+use Rattle.em_chain.specs.Writer.{IsWriter, IsPackedSoFar, IsTightSoFar, NeedsBlock, writer_items, writer_blocks, filled}
 use Rattle.em_chain.specs.declared.chain.Chain.{Chain}
 use Rattle.em_chain.specs.declared.writer.Writer.{Writer}
 
@@ -16,6 +16,8 @@ pub record Begins (s : RigState) (w : Writer) : Type 0 where
   pub items : writer_items s w ≡ []
   pub held : writer_blocks s w ≡ []
   pub packed : IsPackedSoFar s w
+  pub tight : IsTightSoFar s w
+  pub skip_is : w.skip ≡ 0
   pub count : w.count ≡ 0
   pub blocks : w.blocks ≡ 0
   pub filled_is : filled s w ≡ 0
@@ -26,6 +28,8 @@ pub record Appends (s t : RigState) (w v : Writer) (x : Record) : Type 0 where
   pub items : IsTrue s.device.told → writer_items t v ≡ writer_items s w ++ x ∷ []
   pub grown : IsTrue s.device.told → Grows s (writer_blocks s w) (writer_blocks t v)
   pub packed : IsTrue s.device.told → IsPackedSoFar s w → IsPackedSoFar t v
+  pub tight : IsTrue s.device.told → IsTightSoFar s w → IsTightSoFar t v
+  pub skip_is : v.skip ≡ w.skip
   pub filled_is : filled t v ≡ filled s w + 1
   pub count_is : v.count ≡ w.count + 1
 
@@ -53,6 +57,8 @@ pub record Finishes (s t : RigState) (w : Writer) (c : Chain) : Type 0 where
   pub items : IsTrue s.device.told → chain_items t c ≡ writer_items s w
   pub blocks : IsTrue s.device.told → chain_blocks t c ≡ writer_blocks s w
   pub packed : IsTrue s.device.told → IsPackedSoFar s w → IsPacked t c
+  pub tight : IsTrue s.device.told → IsTightSoFar s w → IsTight t c
+  pub skip_is : c.skip ≡ w.skip
   pub count_is : c.count ≡ w.count
   pub blocks_is : c.blocks ≡ w.blocks
 
@@ -69,6 +75,8 @@ pub record Resumes (s t : RigState) (c : Chain) (w : Writer) : Type 0 where
   pub items : IsTrue s.device.told → writer_items t w ≡ chain_items s c
   pub blocks : IsTrue s.device.told → writer_blocks t w ≡ chain_blocks s c
   pub packed : IsTrue s.device.told → IsPacked s c → IsPackedSoFar t w
+  pub tight : IsTrue s.device.told → IsTight s c → IsTightSoFar t w
+  pub skip_is : IsTrue s.device.told → w.skip ≡ c.skip
   pub count_is : IsTrue s.device.told → w.count ≡ c.count
   pub count_most : w.count ≤ c.count
   pub blocks_is : w.blocks ≡ c.blocks

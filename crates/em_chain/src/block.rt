@@ -51,14 +51,14 @@ pub fn has_more(first: Record, most: u64, blocks: u64, skip: u64) -> bool
     skip < first.b && is_header(first, most, blocks)
 }
 
-/// The same of a block that so many others follow.
+/// The same of a block that this many others follow.
 pub fn leads_to(first: Record, most: u64, blocks: u64, left: u64) -> bool
     ensures { IsTrue result ↔ (LinksTo first.a left × IsHeader first most blocks) }
 {
     (first.a == 0) == (left == 0) && is_header(first, most, blocks)
 }
 
-/// Whether a link leads to a block of a device of so many blocks.
+/// Whether a link leads to a block of a device of this many blocks.
 pub fn is_link(link: u64, blocks: u64) -> bool
     ensures { IsTrue result ↔ ((0 < link) × (link ≤ blocks)) }
 {

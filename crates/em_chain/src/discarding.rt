@@ -31,7 +31,7 @@ pub fn discard<D: Device>(rig: &mut Rig<'_, D>, chain: Chain) -> Result<(), EmFa
     Ok(())
 }
 
-/// Releases the first block behind a link, and answers its link. So many blocks follow it.
+/// Releases the first block after a link, and answers its link. This many blocks follow it.
 fn drop_block<D: Device>(rig: &mut Rig<'_, D>, link: u64, left: u64) -> Result<u64, EmFault>
     requires sound { Sound (seen D.state rig.old) }
     requires row { IsTrue (seen D.state rig.old).device.told
@@ -52,7 +52,7 @@ fn drop_block<D: Device>(rig: &mut Rig<'_, D>, link: u64, left: u64) -> Result<u
     Ok(next)
 }
 
-/// The link of a chain block that so many follow.
+/// The link of a chain block that this many follow.
 fn next_link<D: Device>(rig: &mut Rig<'_, D>, block: u64, left: u64) -> Result<u64, EmFault>
     requires sound { Sound (seen D.state rig.old) }
     requires row { HasRow (seen D.state rig.old) block left }

@@ -16,6 +16,3 @@ pub use joining::join;
 pub use parting::part_at;
 pub use reader::Reader;
 pub use writer::Writer;
-
-#[cfg(test)]
-mod tests;

@@ -1,13 +1,13 @@
-ghost use Rattle.std.specs.Prelude.{◌≡◌, ◌<◌, OnOk, IfOk, IfErr, IsTrue};
+ghost use Rattle.std.specs.Prelude.{◌≡◌, ◌<◌, IfOk, IfErr, IsTrue};
 ghost use Rattle.std.specs.List.Sorted.{IsSorted};
 ghost use Rattle.em_space.specs.Rig.{RigState, Sound, Goes, Cause};
 ghost use Rattle.em_space.specs.Seen.{seen};
 ghost use Rattle.em_chain.specs.Chain.{IsChain, chain_blocks, chain_items};
 ghost use Rattle.em_chain.specs.Effects.{Completes, OnFull};
 ghost use Rattle.em_record.specs.Order.{record_cmp, is_below};
-ghost use Rattle.em_chain.specs.Parts.{Parts, PartCosts, BeginsPart, Parted};
+ghost use Rattle.em_chain.specs.Parts.{Parts, PartCosts, FullsPart, IsPair, BeginsPart, Steps, MovesAll};
 ghost use Rattle.em_chain.specs.Reader.{ReaderHasFrame, rest_of};
-ghost use Rattle.em_chain.specs.Writer.{WriterHasFrame};
+ghost use Rattle.em_chain.specs.Writer.{WriterHasFrame, CanGrow};
 
 use crate::chain::Chain;
 use crate::reader::Reader;
@@ -17,7 +17,8 @@ use em_record::Record;
 use em_space::{EmFault, Rig};
 
 /// Cuts an ordered list at `low`: the records below it, in blocks that are written anew, and the
-/// others, which stay in their blocks. `Full` comes only where all blocks are in use at the start.
+/// others, which stay in their blocks. `Full` comes only if all blocks are in use at the start; over a
+/// device that tells, only if the first record is below `low` too, and then always, unless the device fails.
 pub fn part_at<D: Device>(
     rig: &mut Rig<'_, D>,
     chain: Chain,
@@ -35,6 +36,7 @@ pub fn part_at<D: Device>(
     ensures costs { PartCosts (seen D.state rig.old) (seen D.state rig.new) chain.blocks }
     ensures full { IfErr result (λ fault.
         OnFull fault ((seen D.state rig.old).used ≡ (seen D.state rig.old).blocks)) }
+    ensures full_exact { FullsPart (seen D.state rig.old) (seen D.state rig.new) chain low result }
     ensures complete { (seen D.state rig.old).used < (seen D.state rig.old).blocks
         → Completes (seen D.state rig.old) (seen D.state rig.new) result }
     ensures cause { IfErr result (Cause (seen D.state rig.old) (seen D.state rig.new)) }
@@ -65,27 +67,43 @@ fn move_below<D: Device>(
     requires sound { Sound (seen D.state rig.old) }
     requires begins { BeginsPart (seen D.state rig.old) reader.old writer.old }
     requires free { 0 < (seen D.state rig.old).pool.free }
-    ensures goes { Goes (chain_blocks (seen D.state rig.old) (rest_of reader.old))
-        (seen D.state rig.old) (seen D.state rig.new) }
+    ensures done { MovesAll (seen D.state rig.old) (seen D.state rig.new) low
+        reader.old reader.new writer.old writer.new result }
     ensures reader { ReaderHasFrame (seen D.state rig.new) reader.new }
     ensures writer { WriterHasFrame (seen D.state rig.new) writer.new }
-    ensures parted { OnOk result (Parted (seen D.state rig.old) (seen D.state rig.new) low
-        reader.old reader.new writer.new) }
-    ensures costs { PartCosts (seen D.state rig.old) (seen D.state rig.new)
-        (rest_of reader.old).blocks }
-    ensures full { IfErr result (λ fault.
-        OnFull fault ((seen D.state rig.old).used ≡ (seen D.state rig.old).blocks)) }
-    ensures cause { IfErr result (Cause (seen D.state rig.old) (seen D.state rig.new)) }
 {
     for _ in 0..reader.left() {
-        let item = reader.peek(rig)?;
-        if !is_below(item, low) {
+        if !move_one(rig, reader, writer, low)? {
             return Ok(());
         }
-        writer.append(rig, item)?;
-        let _taken = reader.next(rig)?;
     }
     Ok(())
+}
+
+/// Moves the next record, if it is below `low`.
+fn move_one<D: Device>(
+    rig: &mut Rig<'_, D>,
+    reader: &mut Reader,
+    writer: &mut Writer,
+    low: Record,
+) -> Result<bool, EmFault>
+    requires sound { Sound (seen D.state rig.old) }
+    requires pair { IsPair (seen D.state rig.old) reader.old writer.old }
+    requires some { 0 < (rest_of reader.old).count }
+    requires room { CanGrow writer.old }
+    requires free { 0 < (seen D.state rig.old).pool.free }
+    ensures done { Steps (seen D.state rig.old) (seen D.state rig.new) low
+        reader.old reader.new writer.old writer.new result }
+    ensures reader { ReaderHasFrame (seen D.state rig.new) reader.new }
+    ensures writer { WriterHasFrame (seen D.state rig.new) writer.new }
+{
+    let item = reader.peek(rig)?;
+    if !is_below(item, low) {
+        return Ok(false);
+    }
+    writer.append(rig, item)?;
+    let _taken = reader.next(rig)?;
+    Ok(true)
 }
 
 /// Whether the first record is below the second, by a, then b, then c, then d.

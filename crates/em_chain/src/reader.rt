@@ -1,8 +1,18 @@
+//! A list that is being read, as it lies in blocks. A header `h` leads to the next block:
+//!
+//!     head -> [h . . 3 4 5] -> [h 6 7 8 9 a] -> [h b c - - -] -> 0, or on to a block that isn't read
+//!                    ^ skip is 2: 1 and 2 are passed over or gone, and 3 is next
+//!
+//! Kept here: what is left is a view, or a chain if it is taken; the frame has the first block once it
+//! was loaded; with no record left no block is. Left to the rig: that blocks stay as they were stored.
+
 ghost use Rattle.std.specs.Prelude.{◌≡◌, ◌<◌, ◌+◌, get_or, [], ◌∷◌, OnOk, IfOk, IfErr, IfSome, IsTrue, Ok, None, true, false};
 ghost use Rattle.em_frames.specs.Device.{zero_record};
 ghost use Rattle.em_space.specs.Rig.{RigState, Sound, InUse, Goes, BlockCause};
+ghost use Rattle.em_space.specs.Ledger.{Costs};
 ghost use Rattle.em_space.specs.Seen.{seen};
 ghost use Rattle.em_chain.specs.Chain.{IsChain, ChainStays};
+ghost use Rattle.em_chain.specs.View.{IsView, ViewStays};
 ghost use Rattle.em_chain.specs.Effects.{LendsFrame, GivesFrame, Unmoved, Completes};
 ghost use Rattle.em_chain.specs.Reader.{LeadsOn};
 ghost use Rattle.em_chain.specs.Reads.{LetsGo};
@@ -30,12 +40,14 @@ pub struct Reader {
 impl Reader {
     ghost use Rattle.em_space.specs.Free.{header};
     ghost use Rattle.em_chain.specs.Reader.{IsReader, ReaderHasFrame, NeedsLoad, IsReady, IsAtLast, rest_of, reader_blocks};
+    ghost use Rattle.em_chain.specs.Session.{taking_account};
     ghost use Rattle.em_chain.specs.Reads.{Opens, Reads, AtEnd, ReadCosts, Fetches, Peeks};
 
-    /// A reader of a chain that keeps its blocks: each is read by one move, and none is released.
+    /// A reader of a chain, or of a view, that keeps its blocks: each is read by one move, and none is
+    /// released.
     pub fn over<D: Device>(rig: &mut Rig<'_, D>, chain: &Chain) -> Reader
         requires sound { Sound (seen D.state rig.old) }
-        requires is { IsChain (seen D.state rig.old) chain.now }
+        requires is { IsView (seen D.state rig.old) chain.now }
         requires free { 1 < (seen D.state rig.old).pool.free }
         ensures lends { LendsFrame (seen D.state rig.old) (seen D.state rig.new) }
         ensures unmoved { Unmoved (seen D.state rig.old) (seen D.state rig.new) }
@@ -100,6 +112,9 @@ impl Reader {
         ensures at_end { (rest_of self.old).count ≡ 0 → result ≡ Ok None }
         ensures costs { ReadCosts (seen D.state rig.old) (seen D.state rig.new)
             self.old self.new result }
+        ensures spends { self.old.taking ≡ true → Costs self.old.blocks 0 0
+            (taking_account self.old) (taking_account self.new)
+            (seen D.state rig.old) (seen D.state rig.new) result }
         ensures complete { Completes (seen D.state rig.old) (seen D.state rig.new) result }
         ensures cause { IfErr result (BlockCause (seen D.state rig.old) (seen D.state rig.new)) }
     {
@@ -129,6 +144,9 @@ impl Reader {
             Peeks (seen D.state rig.old) (seen D.state rig.new) self.old self.new x) }
         ensures costs { ReadCosts (seen D.state rig.old) (seen D.state rig.new)
             self.old self.new result }
+        ensures spends { self.old.taking ≡ true → Costs self.old.blocks 0 0
+            (taking_account self.old) (taking_account self.new)
+            (seen D.state rig.old) (seen D.state rig.new) result }
         ensures cause { IfErr result (BlockCause (seen D.state rig.old) (seen D.state rig.new)) }
     {
         self.ready(rig)?;
@@ -173,7 +191,8 @@ impl Reader {
         rig.load(self.head - 1, &mut self.frame)?;
         let first = self.frame.records()[0];
         let most = self.frame.records().len() as u64 - 1;
-        if !has_more(first, most, rig.blocks(), self.skip) {
+        let limit = link_limit(self.blocks, first.a, rig.blocks());
+        if !has_more(first, most, limit, self.skip) {
             return Err(EmFault::Damaged {
                 block: self.head - 1,
             });
@@ -227,49 +246,36 @@ impl Reader {
         ensures cause { IfErr result (BlockCause (seen D.state rig.old) (seen D.state rig.new)) }
     {
         let link = self.frame.records()[0].a;
-        if !leads_on(link, self.blocks, self.count) {
+        if !leads_on(link, self.blocks, self.count, self.taking) {
             return Err(EmFault::Damaged {
                 block: self.head - 1,
             });
         }
         let_go(rig, self.head - 1, self.taking)?;
-        self.head = link;
-        self.skip = 0;
-        self.tail = tail_after(link, self.tail);
-        self.count -= 1;
         self.blocks -= 1;
+        self.head = if_left(self.blocks, link);
+        self.skip = 0;
+        self.tail = if_left(self.blocks, self.tail);
+        self.count -= 1;
         self.loaded = false;
         Ok(())
     }
 
-    /// What is left, with no move. Of a reader made by `over` it is a second view of blocks that
-    /// the first chain keeps, and may only be read.
+    /// What is left, with no move: a chain if the reader took one, or read over one. Of a reader made
+    /// by `over` it is a view of blocks that another keeps, and may only be read.
     pub fn end<D: Device>(self, rig: &mut Rig<'_, D>) -> Chain
         requires sound { Sound (seen D.state rig.old) }
         requires is { IsReader (seen D.state rig.old) self }
         ensures gives { GivesFrame [] (seen D.state rig.old) (seen D.state rig.new) }
         ensures unmoved { Unmoved (seen D.state rig.old) (seen D.state rig.new) }
         ensures words { result ≡ rest_of self }
-        ensures stays { ChainStays (seen D.state rig.old) (seen D.state rig.new) (rest_of self) }
+        ensures view { ViewStays (seen D.state rig.old) (seen D.state rig.new) (rest_of self) }
+        ensures stays { IsChain (seen D.state rig.old) (rest_of self)
+            → ChainStays (seen D.state rig.old) (seen D.state rig.new) (rest_of self) }
     {
-        let Reader {
-            head,
-            skip,
-            tail,
-            count,
-            blocks,
-            loaded: _,
-            taking: _,
-            frame,
-        } = self;
+        let (rest, frame) = self.into_chain();
         rig.give(frame);
-        Chain {
-            head,
-            skip,
-            tail,
-            count,
-            blocks,
-        }
+        rest
     }
 
     /// Gives the frame back, also after a fault. The blocks stay in use, and nothing is moved.
@@ -279,38 +285,63 @@ impl Reader {
         ensures gives { GivesFrame [] (seen D.state rig.old) (seen D.state rig.new) }
         ensures unmoved { Unmoved (seen D.state rig.old) (seen D.state rig.new) }
     {
+        let (_rest, frame) = self.into_chain();
+        rig.give(frame);
+    }
+
+    /// The words of what is left, and the frame.
+    fn into_chain(self) -> (Chain, Frame)
+        ensures words { result.0 ≡ rest_of self }
+        ensures frame { result.1 ≡ self.frame }
+    {
         let Reader {
-            head: _,
-            skip: _,
-            tail: _,
-            count: _,
-            blocks: _,
+            head,
+            skip,
+            tail,
+            count,
+            blocks,
             loaded: _,
             taking: _,
             frame,
         } = self;
-        rig.give(frame);
+        let rest = Chain {
+            head,
+            skip,
+            tail,
+            count,
+            blocks,
+        };
+        (rest, frame)
     }
 }
 
-/// Whether the last record of a block leads on as the words say.
-fn leads_on(link: u64, blocks: u64, count: u64) -> bool
-    ensures complete { 0 < blocks → LeadsOn link blocks count → IsTrue result }
+/// Whether the last record of a block leads on as the words say. The last block's link is asked only
+/// if the blocks are taken.
+fn leads_on(link: u64, blocks: u64, count: u64, taking: bool) -> bool
+    ensures complete { 0 < blocks → LeadsOn link blocks count taking → IsTrue result }
     ensures none_left { IsTrue result → count ≡ 1 → blocks ≡ 1 }
 {
     if blocks == 1 {
-        link == 0 && count == 1
+        count == 1 && (link == 0 || !taking)
     } else {
         link != 0 && count > 1
     }
 }
 
-/// A link to the last block behind one with this link.
-fn tail_after(link: u64, tail: u64) -> u64
-    ensures none { link ≡ 0 → result ≡ 0 }
-    ensures some { 0 < link → result ≡ tail }
+/// The greatest link that the first of these blocks may have: the last one's isn't followed.
+fn link_limit(blocks: u64, link: u64, most: u64) -> u64
+    ensures last { blocks ≡ 1 → result ≡ link }
+    ensures more { (blocks ≡ 1 → ⊥) → result ≡ most }
 {
-    if link == 0 { 0 } else { tail }
+    if blocks == 1 { link } else { most }
+}
+
+/// A link, or 0 if no block is left.
+fn if_left(blocks: u64, link: u64) -> u64
+    ensures none { blocks ≡ 0 → result ≡ 0 }
+    ensures some { 0 < blocks → result ≡ link }
+{
+    if blocks == 0 { 0 } else { link }
 }
 
 /// Releases a block that is taken.

@@ -1,5 +1,15 @@
-ghost use Rattle.std.specs.Prelude.{◌≡◌, ◌↔◌, ◌<◌, ◌≤◌, ◌+◌, ◌^◌, min, length, set, [], OnOk, OnErr, IfOk, IfErr, Err};
+//! A list that is being written, as it lies in blocks. A header `h` leads to the next block:
+//!
+//!     head -> [h . . 3 4 5] -> [h 6 7 8 9 a] -> (h b c - - -)    the last block stands in the frame
+//!                                                    ^ fill is 2, and the next record comes here
+//!
+//! Kept here: the frame has the last block's header and records; the others are stored, and lead to it.
+//! If all of these are full the list is tight, and an append keeps it so. Left to the rig: that blocks
+//! stay as they were stored.
+
+ghost use Rattle.std.specs.Prelude.{◌≡◌, ◌↔◌, ◌<◌, ◌≤◌, ◌+◌, ◌*◌, ◌^◌, min, length, set, [], OnOk, OnErr, IfOk, IfErr, Err};
 ghost use Rattle.em_space.specs.Rig.{RigState, Sound, Goes, Cause, BlockCause, DeviceCause};
+ghost use Rattle.em_space.specs.Ledger.{Costs};
 ghost use Rattle.em_space.specs.Seen.{seen};
 ghost use Rattle.em_chain.specs.Chain.{IsChain, payload_in};
 ghost use Rattle.em_chain.specs.Effects.{LendsFrame, GivesFrame, Unmoved, OnlyMoves, Completes};
@@ -26,6 +36,8 @@ pub struct Writer {
 
 impl Writer {
     ghost use Rattle.em_chain.specs.Writer.{IsWriter, WriterHasFrame, NeedsBlock, CanGrow, writer_blocks};
+    ghost use Rattle.em_chain.specs.Session.{writer_account, chain_account, one_more, FinishSpends, ResumeSpends};
+    ghost use Rattle.em_chain.specs.View.{stored_part};
     ghost use Rattle.em_chain.specs.Writes.{Begins, Appends, AppendCosts, Finishes, FinishCosts, Resumes};
 
     /// The records that were written so far.
@@ -40,6 +52,20 @@ impl Writer {
         ensures { result ≡ self.now.blocks }
     {
         self.blocks
+    }
+
+    /// What is stored of the list: all blocks but the last. It may only be read, by a reader over it,
+    /// until the next `append`, and only if there are more blocks than one.
+    pub fn stored(&self) -> Chain
+        ensures { result ≡ stored_part self.now }
+    {
+        Chain {
+            head: self.head,
+            skip: self.skip,
+            tail: 0,
+            count: self.count.saturating_sub(self.fill),
+            blocks: self.blocks.saturating_sub(1),
+        }
     }
 
     /// A writer of a list with no record. It takes no block yet.
@@ -62,7 +88,7 @@ impl Writer {
         }
     }
 
-    /// A writer that goes on at the end of a chain. Where there is a block, the last one is loaded.
+    /// A writer that goes on at the end of a chain. If there is a block, the last one is loaded.
     pub fn resume<D: Device>(rig: &mut Rig<'_, D>, chain: Chain) -> Result<Writer, EmFault>
         requires sound { Sound (seen D.state rig.old) }
         requires is { IsChain (seen D.state rig.old) chain }
@@ -73,6 +99,7 @@ impl Writer {
             Resumes (seen D.state rig.old) (seen D.state rig.new) chain w) }
         ensures moves { OnlyMoves (min chain.blocks 1)
             (seen D.state rig.old) (seen D.state rig.new) }
+        ensures spends { ResumeSpends (seen D.state rig.old) (seen D.state rig.new) chain result }
         ensures complete { Completes (seen D.state rig.old) (seen D.state rig.new) result }
         ensures cause { IfErr result (BlockCause (seen D.state rig.old) (seen D.state rig.new)) }
     {
@@ -133,8 +160,8 @@ impl Writer {
         }
     }
 
-    /// Adds one record at the end. A block is taken only where the list has none, or where its last
-    /// one is full, which is then stored. `Full` comes exactly where a block is needed and all are
+    /// Adds one record at the end. A block is taken only if the list has none, or where its last
+    /// one is full, which is then stored. `Full` comes exactly if a block is needed and all are
     /// in use. After a fault the writer may only be abandoned.
     pub fn append<D: Device>(&mut self, rig: &mut Rig<'_, D>, item: Record) -> Result<(), EmFault>
         requires sound { Sound (seen D.state rig.old) }
@@ -148,6 +175,10 @@ impl Writer {
             (Appends (seen D.state rig.old) (seen D.state rig.new) self.old self.new item) }
         ensures costs { AppendCosts (seen D.state rig.old) (seen D.state rig.new)
             self.old self.new result }
+        ensures spends { Costs (one_more (seen D.state rig.old) self.old)
+            (2 * one_more (seen D.state rig.old) self.old) (min self.old.blocks 1)
+            (writer_account self.old) (writer_account self.new)
+            (seen D.state rig.old) (seen D.state rig.new) result }
         ensures full { (result ≡ Err (EmFault.Full (seen D.state rig.old).used))
             ↔ (NeedsBlock (seen D.state rig.old) self.old
             × ((seen D.state rig.old).used ≡ (seen D.state rig.old).blocks)) }
@@ -255,6 +286,7 @@ impl Writer {
         ensures finishes { IfOk result (λ c.
             Finishes (seen D.state rig.old) (seen D.state rig.new) self c) }
         ensures costs { FinishCosts (seen D.state rig.old) (seen D.state rig.new) self result }
+        ensures spends { FinishSpends (seen D.state rig.old) (seen D.state rig.new) self result }
         ensures complete { Completes (seen D.state rig.old) (seen D.state rig.new) result }
         ensures cause { IfErr result (DeviceCause (seen D.state rig.old) (seen D.state rig.new)) }
     {

@@ -1,22 +1,18 @@
 -- Clients that are generic over the queue.
-use Rattle.std.proofs.Common.{add-one, ◌≡◌, ℕ, zero, suc, ◌+◌, List, [], ◌∷◌, ◌++◌, ap, sym, ◌∙◌, take, drop, IsTrue}
+use Rattle.std.proofs.Common.{add-one, ◌≡◌, ℕ, zero, suc, ◌+◌, List, [], ◌∷◌, ◌++◌, ap, sym, ◌∙◌, ◌≤◌, arith, take, drop}
 use Rattle.std.proofs.lemmas.List.{drop-drop}
 use Rattle.em_record.specs.declared.record.Record.{Record}
-use Rattle.em_space.specs.Held.{Apart}
-use Rattle.em_space.specs.Queue.{AreOut}
-use Rattle.em_space.specs.Rig.{Goes, RigState}
-use Rattle.em_space.proofs.Queues.{out_same}
-use Rattle.em_chain.specs.Chain.{chain_blocks}
-use Rattle.em_chain.specs.Effects.{GivesFrame}
-use Rattle.em_chain.specs.Writer.{writer_blocks}
-use Rattle.em_chain.specs.Writes.{Finishes}
-use Rattle.em_chain.specs.declared.chain.Chain.{Chain}
+use Rattle.em_space.specs.Rig.{RigState, Sound, Touches}
+use Rattle.em_chain.specs.Chain.{payload_in}
+use Rattle.em_chain.specs.Counts.{ceiling}
+use Rattle.em_chain.specs.Session.{one_more}
+use Rattle.em_chain.specs.Writer.{IsWriter, filled}
 use Rattle.em_chain.specs.declared.writer.Writer.{Writer}
-use Rattle.em_plain.specs.QueueLaws.{stays}
-use Rattle.em_plain.specs.ScanQueue.{IsScanQueue, counts_of, queue_blocks}
-use Rattle.em_plain.specs.declared.scan_queue.ScanQueue.{ScanQueue}
+use Rattle.em_chain.proofs.Counts.{writer_blocks_are}
+use Rattle.em_chain.proofs.Keeps.{payload_kept}
+use Rattle.em_chain.proofs.Sessions.{ceiling_rises}
 
--- the items that are left behind the next one
+-- the items that are left after the next one
 pub left_next : (all now rest : List Record) (x : Record) (n : ℕ) → now ≡ drop n all
     → now ≡ x ∷ rest → rest ≡ drop (n + 1) all
 left_next all now rest x n a b = ap (λ l. drop 1 l) (sym b ∙ a) ∙ drop-drop 1 n all
@@ -33,14 +29,23 @@ pub take_next : (all rest : List Record) (x : Record) (n : ℕ) → x ∷ rest �
     → take (n + 1) all ≡ take n all ++ x ∷ []
 take_next all rest x n e = rw (add-one) (take_suc all rest x n e)
 
--- The queue stays while the list beside it is finished and read.
-pub queue_beside : (s t u : RigState) (q : ScanQueue) (w : Writer) (c : Chain)
-    → IsScanQueue s q → GivesFrame (writer_blocks s w) s t → Finishes s t w c
-    → Goes (chain_blocks t c) t u
-    → (IsTrue s.device.told → Apart (queue_blocks s q) (writer_blocks s w))
-    → AreOut (counts_of q) t.pool → IsScanQueue u q
-queue_beside s t u q w c i g f r apart out =
-    let a = stays q (writer_blocks s w) s t i g.touches apart out in
-    (stays q (chain_blocks t c) t u a.0 r.touches
-    (λ z. let y = sym g.touches.told ∙ z in rw (a.2 y, f.blocks y) (apart y))
-    (out_same (counts_of q) t.pool u.pool out r.frames)).0
+-- A list with this many records more, and one with one more, take no more blocks than this many need.
+pub list_more : {s t : RigState} {held : List ℕ} (w v : Writer) (k n : ℕ) → Sound t → Touches held s t → filled t v ≡ filled s w + k → k + 1 ≤ n
+    → one_more t v ≤ ceiling (filled s w + n) (payload_in s)
+list_more {s} {t} {held} w v k n h g e l =
+    let low = h.shape.block_low in
+    let p : payload_in t ≡ payload_in s = payload_kept held s t g in
+    let m = ceiling_rises (filled t v + 1) (filled s w + n) (payload_in t) (omega arith) (omega arith) in
+    let q = ap (λ (c : ℕ). ceiling (filled s w + n) c) p in
+    omega (arith, m, q)
+
+pub list_most : {s t : RigState} {v : Writer} {held : List ℕ} (w : Writer) (k n : ℕ) → Sound t
+    → Touches held s t → IsWriter t v → filled t v ≡ filled s w + k → k ≤ n
+    → v.blocks ≤ ceiling (filled s w + n) (payload_in s)
+list_most {s} {t} {v} {held} w k n h g i e l =
+    let low = h.shape.block_low in
+    let p : payload_in t ≡ payload_in s = payload_kept held s t g in
+    let b = writer_blocks_are t v low i in
+    let m = ceiling_rises (filled t v) (filled s w + n) (payload_in t) (omega arith) (omega arith) in
+    let d : v.blocks ≤ ceiling (filled s w + n) (payload_in t) = omega (arith, b, m) in
+    rw p at d

@@ -1,18 +1,20 @@
-ghost use Rattle.std.specs.Prelude.{◌≡◌, ◌<◌, ◌≤◌, ◌+◌, ◌++◌, ◌^◌, length, min, take, drop, IfErr, IfOk, IsTrue, OnOk};
+ghost use Rattle.std.specs.Prelude.{◌≡◌, ◌<◌, ◌≤◌, ◌+◌, ◌*◌, ◌++◌, ◌^◌, length, min, take, drop, IfErr, IfOk, IsTrue, OnOk};
 ghost use Rattle.em_record.specs.Order.{IsAscending};
 ghost use Rattle.em_frames.specs.Pool.{singles_of};
 ghost use Rattle.em_space.specs.Held.{Apart};
 ghost use Rattle.em_space.specs.Queue.{CanServe, Shares};
 ghost use Rattle.em_space.specs.Rig.{Cause, Sound, Touches};
 ghost use Rattle.em_space.specs.Seen.{seen};
-ghost use Rattle.em_chain.specs.Writer.{IsWriter, WriterHasFrame, writer_blocks, writer_items};
+ghost use Rattle.em_chain.specs.Chain.{payload_in};
+ghost use Rattle.em_chain.specs.Counts.{ceiling};
+ghost use Rattle.em_chain.specs.Writer.{IsWriter, WriterHasFrame, filled, writer_blocks, writer_items};
 
 use em_chain::Writer;
 use em_frames::Device;
 use em_record::Record;
 use em_space::{EmFault, Queue, Rig};
 
-/// Pops all items into the front of `out`, in ascending order.
+/// Pops all items into the front of `out`, in ascending order. All its moves are the queue's.
 pub fn drain<D: Device, Q: Queue>(
     rig: &mut Rig<'_, D>,
     queue: &mut Q,
@@ -30,6 +32,8 @@ pub fn drain<D: Device, Q: Queue>(
     ensures shares { Shares (Q.counts queue.old) (Q.counts queue.new)
         (seen D.state rig.old).pool (seen D.state rig.new).pool }
     ensures calls { (Q.counts queue.new).n ≤ (Q.counts queue.old).n + length out.old }
+    ensures spent { (seen D.state rig.new).moves + (Q.counts queue.old).spent
+        ≡ (seen D.state rig.old).moves + (Q.counts queue.new).spent }
     ensures queue { OnOk result (Q.IsQueue queue.new (seen D.state rig.new)) }
     ensures count { IfOk result (λ n. n ≡ (Q.counts queue.old).len) }
     ensures items { IfOk result (λ n. IsTrue (seen D.state rig.old).device.told
@@ -52,8 +56,9 @@ pub fn drain<D: Device, Q: Queue>(
     Ok(count)
 }
 
-/// Pops `limit` items, or all where there are fewer, and appends each to a list before the next one
-/// is popped. Answers their number.
+/// Pops `limit` items, or all if there are fewer, and appends each to a list before the next one
+/// is popped. Answers their number. Beside the queue's moves it makes at most two for each block that
+/// the list takes.
 pub fn beside<D: Device, Q: Queue>(
     rig: &mut Rig<'_, D>,
     queue: &mut Q,
@@ -80,6 +85,14 @@ pub fn beside<D: Device, Q: Queue>(
         → WriterHasFrame (seen D.state rig.new) writer.new }
     ensures shares { Shares (Q.counts queue.old) (Q.counts queue.new)
         (seen D.state rig.old).pool (seen D.state rig.new).pool }
+    ensures spent { (seen D.state rig.new).moves + (Q.counts queue.old).spent
+        + 2 * writer.old.blocks
+        ≤ (seen D.state rig.old).moves + (Q.counts queue.new).spent
+        + 2 * ceiling (filled (seen D.state rig.old) writer.old + limit)
+        (payload_in (seen D.state rig.old)) }
+    ensures spent_ok { OnOk result ((seen D.state rig.new).moves + (Q.counts queue.old).spent
+        + 2 * writer.old.blocks
+        ≤ (seen D.state rig.old).moves + (Q.counts queue.new).spent + 2 * writer.new.blocks) }
     ensures queue { OnOk result (Q.IsQueue queue.new (seen D.state rig.new)) }
     ensures writer { OnOk result (IsWriter (seen D.state rig.new) writer.new) }
     ensures apart { OnOk result (IsTrue (seen D.state rig.old).device.told

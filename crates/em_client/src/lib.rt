@@ -5,6 +5,3 @@
 mod client;
 
 pub use client::{beside, drain};
-
-#[cfg(test)]
-mod tests;

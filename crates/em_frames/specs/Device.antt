@@ -21,7 +21,7 @@ block_at s at = get_or s.contents at []
 abbrev pub zero_record : Record
 zero_record = record { a = 0; b = 0; c = 0; d = 0 }
 
--- so many blocks of zero records
+-- this many blocks of zero records
 abbrev pub zero_blocks : ℕ → ℕ → List (List Record)
 zero_blocks block blocks = replicate blocks (replicate block zero_record)
 

@@ -10,7 +10,7 @@ use Rattle.em_frames.specs.contracts.area.Area.{the_row as area_row}
 abbrev pub written_over : List Record → List Record → List Record
 written_over xs w = take (length xs) (w ++ drop (length w) xs)
 
--- the frame ends as what is written behind the slice
+-- the frame ends as what is written after the slice
 abbrev pub LendsRecords : MutBor (List Record) → MutBor (List Record) → Fml
 LendsRecords s r = Lends frame_row (Array record_row 0) s r (written_over s.now)
 

@@ -27,7 +27,7 @@ device_of m = record {
   moves = m.moves;
 }
 
--- the blocks that are kept, and blocks of zeros behind them
+-- the blocks that are kept, and blocks of zeros after them
 abbrev pub all_blocks : ℕ → ℕ → List (Vec Record) → List (List Record)
 all_blocks block blocks kept = map (λ v. v.items) kept ++ zero_blocks block (blocks - length kept)
 

@@ -82,7 +82,7 @@ pub record SameFrames (old new : PoolCounts) : Type 0 where
   pub free_areas : new.free_areas ≡ old.free_areas
   pub peak : old.peak ≤ new.peak
 
--- So many single frames fewer are free. More may have been out in between.
+-- This many single frames fewer are free. More may have been out in between.
 pub record LentFrames (n : ℕ) (old new : PoolCounts) : Type 0 where
   pub shape : new.shape ≡ old.shape
   pub free : new.free + n ≡ old.free
@@ -90,7 +90,7 @@ pub record LentFrames (n : ℕ) (old new : PoolCounts) : Type 0 where
   pub free_areas : new.free_areas ≡ old.free_areas
   pub peak : old.peak ≤ new.peak
 
--- So many single frames more are free.
+-- This many single frames more are free.
 pub record GivenFrames (n : ℕ) (old new : PoolCounts) : Type 0 where
   pub shape : new.shape ≡ old.shape
   pub free : new.free ≡ old.free + n
@@ -98,7 +98,7 @@ pub record GivenFrames (n : ℕ) (old new : PoolCounts) : Type 0 where
   pub free_areas : new.free_areas ≡ old.free_areas
   pub peak : old.peak ≤ new.peak
 
--- Frames of this length are the pool's, and so many at least are out.
+-- Frames of this length are the pool's, and this many at least are out.
 pub record HasFrames (n len : ℕ) (p : PoolCounts) : Type 0 where
   pub len_is : len ≡ p.shape.block
   pub out : p.free + n ≤ singles_of p.shape

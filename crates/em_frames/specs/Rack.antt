@@ -18,6 +18,6 @@ IsHeldAt places at = (records : List Record) × (slice_get places at ≡ Some (S
 abbrev pub IsEmptyAt : List (Option (List Record)) → ℕ → Type 0
 IsEmptyAt places at = slice_get places at ≡ Some None
 
--- a rack with so many places, all of them empty
+-- a rack with this many places, all of them empty
 abbrev pub empty_rack : ℕ → List (Option (List Record))
 empty_rack count = replicate count None

@@ -15,6 +15,3 @@ pub use frame::Frame;
 pub use memory::MemDevice;
 pub use pool::{Grant, Pool};
 pub use rack::Rack;
-
-#[cfg(test)]
-mod tests;

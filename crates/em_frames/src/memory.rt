@@ -210,7 +210,7 @@ fn put_block(kept: &mut Vec<Vec<Record>>, at: usize, from: &[Record])
     kept[at].copy_from_slice(from);
 }
 
-/// Keeps at least so many blocks, the new ones of zeros.
+/// Keeps at least this many blocks, the new ones of zeros.
 #[tactic(auto, using(crate::proofs::Kept::all_blocks_push))]
 fn keep_blocks(
     alloc: Global,

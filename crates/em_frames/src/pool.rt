@@ -158,7 +158,7 @@ impl Pool {
     }
 }
 
-/// The frames that are out where so many single frames and areas are free.
+/// The frames that are out where this many single frames and areas are free.
 fn out_now(shape: &Shape, free: usize, areas: usize) -> u32
     requires free { free ≤ singles_of shape.now }
     requires areas { areas ≤ 2 }
@@ -205,7 +205,7 @@ fn make_pool(alloc: Global, shape: Shape) -> Result<Pool, AllocError>
     })
 }
 
-/// So many lists of `len` zero records, in a list that has room for all.
+/// This many lists of `len` zero records, in a list that has room for all.
 fn frames_of(alloc: Global, count: usize, len: usize) -> Result<Vec<Vec<Record>>, AllocError>
     ensures count { IfOk result (λ v. vec_len v ≡ count) }
     ensures room { IfOk result (λ v. count ≤ vec_capacity v) }
@@ -219,7 +219,7 @@ fn frames_of(alloc: Global, count: usize, len: usize) -> Result<Vec<Vec<Record>>
     Ok(all)
 }
 
-/// So many empty places of a rack.
+/// This many empty places of a rack.
 fn empty_places(alloc: Global, count: usize) -> Result<Vec<Option<Vec<Record>>>, AllocError>
     ensures { IfOk result (λ v. places_of v ≡ empty_rack count) }
 {

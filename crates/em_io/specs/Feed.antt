@@ -14,7 +14,7 @@ abbrev pub rest : Fed → Stand → List ℕ
 rest feed stand = feed.ahead ++ (stand.slot feed.slot).left
 
 -- These bytes were taken: the slot stays as open as it was, and the rest of the shelf is left.
--- What is left to read is told only where the shelf tells its texts.
+-- What is left to read is told only if the shelf tells its texts.
 pub record Takes (tells : Bool) (bytes : List ℕ) (feed : Fed) (stand : Stand)
     (feed_after : Fed) (stand_after : Stand) : Type 0 where
   pub slot : feed_after.slot ≡ feed.slot

@@ -1,4 +1,4 @@
--- Where the slots of a shelf in memory stand in its texts.
+-- If the slots of a shelf in memory stand in its texts.
 use Rattle.std.specs.Prelude.{ℕ, suc, zero, ◌&&◌, List, [], ◌∷◌, drop, if◌then◌else◌}
 use Rattle.em_io.specs.declared.mem_texts.Mark.{Mark}
 use Rattle.em_io.specs.MemShelf.{NamedText}
@@ -10,7 +10,7 @@ bytes_at [] i = []
 bytes_at (text ∷ texts) zero = text.bytes
 bytes_at (text ∷ texts) (suc i) = bytes_at texts i
 
--- what lies behind the mark
+-- what lies after the mark
 abbrev pub behind : List NamedText → Mark → List ℕ
 behind texts mark = drop mark.at (bytes_at texts mark.text)
 

@@ -1,5 +1,5 @@
 -- What stands on a shelf.
-use Rattle.std.specs.Prelude.{◌≡◌, ◌≢◌, Bool, List, [], ◌++◌, ℕ, Option, false}
+use Rattle.std.specs.Prelude.{◌≡◌, ◌≢◌, ◌≤◌, Bool, IfOk, List, [], ◌++◌, ℕ, Option, Result, false, true}
 use Rattle.em_io.specs.declared.shelf.Slot.{Slot}
 use Rattle.em_io.specs.declared.shelf.Slot.TheVariants.{First, Second}
 
@@ -25,6 +25,14 @@ pub record Leaves (slot : Slot) (old new : Stand) : Type 0 where
 pub record TakesOff (slot : Slot) (bytes : List ℕ) (old new : Stand) : Type 0 where
   pub lost : (new.slot slot).lost ≡ (old.slot slot).lost
   pub left : (old.slot slot).left ≡ bytes ++ (new.slot slot).left
+
+-- A read leaves its slot open and ready, and puts at most this number of bytes.
+pub record StaysOpen {E : Type 0} (slot : Slot) (most : ℕ) (old new : Stand) (result : Result ℕ E)
+    : Type 0 where
+  pub leaves : Leaves slot old new
+  pub opened : (new.slot slot).opened ≡ (old.slot slot).opened
+  pub ready : (new.slot slot).ready ≡ true
+  pub within : IfOk result (λ n. n ≤ most)
 
 -- the slot wasn't opened and isn't lost
 pub record IsUnopened (state : SlotState) : Type 0 where

@@ -1,6 +1,6 @@
 ghost use Rattle.std.specs.Prelude.{◌≡◌, ◌<◌, ◌≤◌, [], true, false, length, is_ok, is_err, is_some, IfOk, if◌then◌else◌};
 ghost use Rattle.em_io.specs.DiskShelf.{stand_of};
-ghost use Rattle.em_io.specs.Shelf.{Leaves, unopened};
+ghost use Rattle.em_io.specs.Shelf.{Leaves, StaysOpen, unopened};
 ghost use Rattle.em_record.specs.Count.{HasCause, next_count};
 
 use crate::shelf::{Shelf, Slot};
@@ -101,11 +101,8 @@ impl<'p, R: Files> Shelf for DiskShelf<'p, R> {
     fn read(&mut self, slot: Slot, into: &mut [u8]) -> Result<usize, Failed>
         requires ready { ((stand_of self.old).slot slot).ready ≡ true }
         requires room { 0 < length into.old }
-        ensures leaves { Leaves slot (stand_of self.old) (stand_of self.new) }
-        ensures opened { ((stand_of self.new).slot slot).opened
-            ≡ ((stand_of self.old).slot slot).opened }
-        ensures ready { ((stand_of self.new).slot slot).ready ≡ true }
-        ensures within { IfOk result (λ n. n ≤ length into.new) }
+        ensures stays { StaysOpen slot (length into.new) (stand_of self.old) (stand_of self.new)
+            result }
         ensures cause { HasCause self.old.faults self.new.faults result }
         ensures count { self.new.faults
             ≡ (if is_err result then next_count self.old.faults else self.old.faults) }

@@ -19,6 +19,3 @@ pub use printer::Printer;
 pub use shelf::{Shelf, Slot};
 pub use sink::{Sink, send};
 pub use std_sink::StdSink;
-
-#[cfg(test)]
-mod tests;

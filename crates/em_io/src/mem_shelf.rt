@@ -1,6 +1,6 @@
-ghost use Rattle.std.specs.Prelude.{◌≡◌, ◌<◌, ◌≤◌, ◌||◌, [], true, false, min, length, take, is_ok, is_none, IfOk, OnOk, OnErr, None, Some};
+ghost use Rattle.std.specs.Prelude.{◌≡◌, ◌<◌, ◌||◌, [], true, false, min, length, take, is_ok, is_none, IfOk, OnOk, OnErr, None, Some};
 ghost use Rattle.em_io.specs.MemShelf.{IsShelfCall, stand_of, text_under, with_text};
-ghost use Rattle.em_io.specs.Shelf.{Leaves, TakesOff, unopened};
+ghost use Rattle.em_io.specs.Shelf.{Leaves, StaysOpen, TakesOff, unopened};
 ghost use Rattle.em_record.specs.Count.{HasCause};
 
 use crate::mem_texts::{CLOSED, Mark, Text, open_on, read_on};
@@ -121,11 +121,8 @@ impl Shelf for MemShelf {
     fn read(&mut self, slot: Slot, into: &mut [u8]) -> Result<usize, Failed>
         requires ready { ((stand_of self.old).slot slot).ready ≡ true }
         requires room { 0 < length into.old }
-        ensures leaves { Leaves slot (stand_of self.old) (stand_of self.new) }
-        ensures opened { ((stand_of self.new).slot slot).opened
-            ≡ ((stand_of self.old).slot slot).opened }
-        ensures ready { ((stand_of self.new).slot slot).ready ≡ true }
-        ensures within { IfOk result (λ n. n ≤ length into.new) }
+        ensures stays { StaysOpen slot (length into.new) (stand_of self.old) (stand_of self.new)
+            result }
         ensures bytes { IfOk result
             (λ n. TakesOff slot (take n into.new) (stand_of self.old) (stand_of self.new)) }
         ensures end { IfOk result (λ n. n ≡ 0 → ((stand_of self.old).slot slot).left ≡ []) }

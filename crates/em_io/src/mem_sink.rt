@@ -1,6 +1,6 @@
-ghost use Rattle.std.specs.Prelude.{◌≡◌, ◌<◌, ◌≤◌, ◌⊎◌, ◌++◌, [], min, length, take, IfOk, OnErr, Contains};
-ghost use Rattle.em_record.specs.Calls.{CountsCall};
-ghost use Rattle.em_record.specs.Count.{HasCause, next_count};
+ghost use Rattle.std.specs.Prelude.{◌≡◌, ◌<◌, ◌≤◌, ◌++◌, min, length, take, IfOk, OnErr};
+ghost use Rattle.em_io.specs.MemSink.{IsSinkCall, fresh_sink};
+ghost use Rattle.em_record.specs.Count.{HasCause};
 
 use crate::sink::Sink;
 use em_record::{Calls, Failed, NoMemory};
@@ -32,11 +32,7 @@ impl MemSink {
     /// numbers, from 0, of the calls of `write` that are to fail.
     pub fn new(alloc: Global, piece: usize, failing: &[u64]) -> Result<MemSink, NoMemory>
         requires { 0 < piece }
-        ensures { IfOk result (λ s. s ≡ record {
-          bytes = [];
-          piece = piece;
-          counts = record { failing = failing.now; calls = 0; faults = 0; refused = 0 };
-        }) }
+        ensures { IfOk result (λ s. s ≡ fresh_sink piece failing.now) }
     {
         let calls = Calls::new(alloc, failing)?;
         Ok(MemSink {
@@ -80,13 +76,7 @@ impl Sink for MemSink {
         ensures kept { OnErr result (self.new.bytes ≡ self.old.bytes) }
         ensures cause { HasCause self.old.counts.faults self.new.counts.faults result }
         ensures count { IfOk result (λ n. n ≡ min self.old.piece (length from.now)) }
-        ensures piece { self.new.piece ≡ self.old.piece }
-        ensures calls { CountsCall (self.old.counts.refused < self.new.counts.refused)
-            self.old.counts self.new.counts result }
-        ensures refused { (self.new.counts.refused ≡ self.old.counts.refused)
-            ⊎ (self.new.counts.refused ≡ next_count self.old.counts.refused) }
-        ensures told_to { Contains self.old.counts.failing self.old.counts.calls
-            → self.new.counts.refused ≡ self.old.counts.refused }
+        ensures call { IsSinkCall self.old self.new result }
     {
         if self.calls.next_fails() {
             self.calls.fail();

@@ -20,7 +20,7 @@ impl Model for Text {
     ghost view = { λ t. record { name = t.name.items; bytes = t.bytes.items } };
 }
 
-/// A slot. Where it is ready it stands behind the first `at` bytes of the text with the index
+/// A slot. If it is ready it stands after the first `at` bytes of the text with the index
 /// `text`.
 #[derive(Clone, Copy, Drop)]
 pub struct Mark {
@@ -87,8 +87,8 @@ fn text_at(texts: &[Text], index: usize) -> &[u8]
     }
 }
 
-/// Copies what lies behind the mark into the front of `into`, at most `piece` bytes, and moves the
-/// mark behind them.
+/// Copies what lies after the mark into the front of `into`, at most `piece` bytes, and moves the
+/// mark after them.
 pub fn read_on(texts: &[Text], mark: &mut Mark, piece: usize, into: &mut [u8]) -> usize
     ensures same { mark.new ≡ record mark.old { at = mark.old.at + result } }
     ensures count { result

@@ -36,7 +36,7 @@ impl Printer {
     }
 
     /// Appends the bytes to what was sent and what is pending. It sends nothing while they fit into
-    /// the buffer behind what is pending.
+    /// the buffer after what is pending.
     pub fn add<W: Sink>(&mut self, sink: &mut W, bytes: &[u8]) -> Result<(), Failed>
         ensures sent { OnOk result
             (Sent W.took (W.state sink.old) (self.old ++ bytes.now) (W.state sink.new) self.new) }

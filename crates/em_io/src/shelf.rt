@@ -24,7 +24,7 @@ pub trait Shelf {
     /// How often it has failed; it stays at 2^64 - 1.
     ghost faults: { Self → ℕ };
 
-    /// Opens a slot on the text of a name. Where no text has that name it fails, and the slot is
+    /// Opens a slot on the text of a name. If no text has that name it fails, and the slot is
     /// lost for good.
     fn open(&mut self, slot: Slot, name: &str) -> Result<(), Failed>
         requires { ((stand self.old).slot slot).opened ≡ false }
@@ -38,7 +38,7 @@ pub trait Shelf {
         ensures cause { HasCause (faults self.old) (faults self.new) result };
 
     /// Reads on in a slot that was opened with Ok: how many bytes it put into the front of `into`,
-    /// none exactly where nothing is left.
+    /// none exactly if nothing is left.
     fn read(&mut self, slot: Slot, into: &mut [u8]) -> Result<usize, Failed>
         requires ready { ((stand self.old).slot slot).ready ≡ true }
         requires room { 0 < length into.old }

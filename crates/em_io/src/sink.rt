@@ -18,7 +18,7 @@ pub trait Sink {
     /// How often it has failed; it stays at 2^64 - 1.
     ghost faults: { Self → ℕ };
 
-    /// Takes bytes from the front: how many it took, at least one. Where it fails it took none.
+    /// Takes bytes from the front: how many it took, at least one. If it fails it took none.
     fn write(&mut self, from: &[u8]) -> Result<usize, Failed>
         requires { 0 < length from.now }
         ensures some { IfOk result (λ n. 0 < n) }
@@ -35,7 +35,7 @@ pub trait Sink {
 }
 
 /// Writes all the bytes: it offers them in one call, then all that is left of them, until nothing
-/// is left. Where it fails a prefix of them was written.
+/// is left. If it fails a prefix of them was written.
 pub fn send<W: Sink>(sink: &mut W, bytes: &[u8]) -> Result<(), Failed>
     ensures all { OnOk result (W.state sink.new ≡ W.took (W.state sink.old) bytes.now) }
     ensures part { SentPart W.took (W.state sink.old) bytes.now (W.state sink.new) }

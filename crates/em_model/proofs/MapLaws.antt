@@ -51,7 +51,7 @@ next m [] i d h = absurd (omega arith)
 next m (c ∷ cs) zero d h = refl
 next m (c ∷ cs) (suc i) d h = next (map_step m c) cs i d (omega arith)
 
--- the answers from a place on are those to the command there, and those to the commands behind it
+-- the answers from a place on are those to the command there, and those to the commands after it
 pub map_answers_from-next : (m : Map) (cs : List Command) (i : ℕ) (d : Command) → i < length cs
     → map_answers_from (state_after m (take i cs)) (drop i cs)
     ≡ answer_of (state_after m (take i cs)) (get_or cs i d)

@@ -5,7 +5,7 @@ use Rattle.em_model.specs.Map.{map_answers}
 use Rattle.em_model.specs.Queue.{queue_answers}
 use Rattle.em_model.specs.Stab.{stab_answers}
 
--- a get answers the last put before it, and none behind a del
+-- a get answers the last put before it, and none after a del
 map_of_one_key :
     map_answers (Put 5 10 ∷ Get 5 ∷ Put 5 11 ∷ Get 5 ∷ Del 5 ∷ Get 5 ∷ [])
     ≡ Some 10 ∷ Some 11 ∷ None ∷ []

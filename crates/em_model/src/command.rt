@@ -8,7 +8,7 @@ pub enum Command {
     Del { key: u64 },
     /// Map: asks for the value of the key.
     Get { key: u64 },
-    /// Queue: adds an element behind all earlier ones of its key.
+    /// Queue: adds an element after all earlier ones of its key.
     Push { key: u64, value: u64 },
     /// Queue: asks for the element of least key, of those the first pushed, and removes it.
     Pop,

@@ -17,11 +17,11 @@ use Rattle.em_chain.specs.declared.writer.Writer.{Writer}
 use Rattle.em_chain.proofs.Counts.{writer_blocks_are}
 use Rattle.em_chain.proofs.Withins.{within_grows}
 use Rattle.em_chain.proofs.Writers.{pos_of}
+use Rattle.em_chain.proofs.Paying.{append_pays}
 use Rattle.em_plain.specs.Least.{TakesLeast}
 use Rattle.em_plain.specs.ScanQueue.{IsScanQueue, QueueHasFrame, counted, counts_of, settled}
 use Rattle.em_plain.specs.declared.scan_queue.ScanQueue.{ScanQueue}
-use Rattle.em_plain.proofs.Room.{ceiling_rises}
-use Rattle.em_plain.proofs.Paying.{append_pays}
+use Rattle.em_chain.proofs.Sessions.{ceiling_rises}
 
 -- it holds no more blocks than its calls can fill
 pub queue_room : (s : RigState) (q : ScanQueue) → Sound s → IsScanQueue s q
@@ -37,7 +37,7 @@ queue_room s q h i =
     (omega arith) in
     omega arith
 
--- after a call that was counted, with this list and so many moves
+-- after a call that was counted, with this list and this many moves
 abbrev pub called : ScanQueue → Writer → ℕ → ScanQueue
 called q v spent = record (counted q) { writer = v; spent = spent }
 

@@ -1,8 +1,7 @@
 -- The pairs of stabs, one command more.
-use Rattle.std.proofs.Common.{◌≡◌, ℕ, zero, suc, ◌+◌, ◌<◌, ◌≤◌, List, [], ◌∷◌, ◌++◌, Bool, true, false, if◌then◌else◌, length, map, take, drop, refl, sym, ap, ◌∙◌, arith, append_assoc, add-one, length-append}
-use Rattle.std.proofs.lemmas.List.{map-append, append-nil, take-append-drop, take-take}
+use Rattle.std.proofs.Common.{◌≡◌, IsTrue, ℕ, suc, ◌+◌, ◌≤◌, List, [], ◌∷◌, ◌++◌, Bool, true, false, if◌then◌else◌, length, map, refl, sym, ap, ◌∙◌, arith, append_assoc, length-append}
+use Rattle.std.proofs.lemmas.List.{map-append, append-nil}
 use Rattle.std.proofs.lemmas.List.Elements.{filter-append}
-use Rattle.std.proofs.lemmas.Bool.{le-leb}
 use Rattle.em_record.specs.declared.record.Record.{Record}
 use Rattle.em_model.specs.Stab.{NumberedInterval, holds_point, holders_of, stab_step, stab_answer_of, stab_answers_from, stab_answers, intervals_after}
 use Rattle.em_model.proofs.StabLaws.{stab_answers_from-append}
@@ -10,23 +9,7 @@ use Rattle.em_model.specs.declared.command.Command.{Command}
 use Rattle.em_model.specs.declared.command.Command.TheVariants.{Put, Del, Get, Push, Pop, Interval, Stab}
 use Rattle.em_plain.specs.Command.{command_in, commands_in}
 use Rattle.em_plain.specs.StabAnswers.{pair_record, pairs_from}
-use Rattle.em_plain.specs.StabScan.{intervals_in, holder_pairs, pair_with, next_interval, pairs_of, next_stab, stabs_in, pairs_in}
-
--- the next record of a list of which some were gone through
-pub next_by : (items : List Record) (n : ℕ) (x : Record) (rest : List Record)
-    → drop n items ≡ x ∷ rest
-    → (take (n + 1) items ≡ take n items ++ x ∷ []) × (drop (n + 1) items ≡ rest)
-next_by items n x rest e = rw add-one (by_suc items n x rest e)
-  where
-    by_suc : (items : List Record) (n : ℕ) (x : Record) (rest : List Record)
-        → drop n items ≡ x ∷ rest
-        → (take (suc n) items ≡ take n items ++ x ∷ []) × (drop (suc n) items ≡ rest)
-    by_suc [] zero x rest e = cc
-    by_suc [] (suc n) x rest e = cc
-    by_suc (y ∷ items) zero x rest e = (ap (take 1) e, ap (drop 1) e)
-    by_suc (y ∷ items) (suc n) x rest e =
-        let h = by_suc items n x rest e in
-        (ap (λ (t : List Record). y ∷ t) h.0, h.1)
+use Rattle.em_plain.specs.StabPairs.{intervals_in, holder_pairs, pair_with, next_interval, pairs_of, next_stab, stabs_in, pairs_in}
 
 -- the intervals of commands that follow others
 intervals_both : (is : List NumberedInterval) (xs ys : List Command)
@@ -164,22 +147,35 @@ stabs_more items x =
     ∙ stabs_of (stabs_in items) items (command_in x)
 
 -- the first records have no more pairs than all
-pub fewer_pairs : (n : ℕ) (items : List Record)
-    → length (pairs_in (take n items)) ≤ length (pairs_in items)
-fewer_pairs n items =
-    let e = ap (λ (t : List Record). length (pairs_in t)) (take-append-drop n items) in
-    let s = ap (λ (t : List Record). length t) (pairs_split (take n items) (drop n items)) in
-    let l = length-append (pairs_in (take n items))
-    (pairs_from (stabs_in (take n items)) (answers_after (take n items) (drop n items))) in
+pub pairs_longer : (xs ys : List Record) → length (pairs_in xs) ≤ length (pairs_in (xs ++ ys))
+pairs_longer xs ys =
+    let s = ap (λ (t : List Record). length t) (pairs_split xs ys) in
+    let l = length-append (pairs_in xs) (pairs_from (stabs_in xs) (answers_after xs ys)) in
     omega arith
 
--- the pair with an interval that holds the point
-pub pair_is : (stab point n low high : ℕ) (c : Command) → c ≡ Interval low high → low ≤ point
-    → point ≤ high → pair_with stab point n c ≡ pair_record stab n ∷ []
-pair_is stab point n low high c is a b =
-    let x = le-leb low point a in
-    let y = le-leb point high b in
-    ap (λ d. pair_with stab point n d) is ∙ rw (x, y) refl
+-- the pair with an interval that holds the point,
+pub pair_in : (stab point n low high : ℕ) (c : Command) (b : Bool) → c ≡ Interval low high
+    → b ≡ holds_point point (record { number = 0; low = low; high = high }) → IsTrue b
+    → pair_with stab point n c ≡ pair_record stab n ∷ []
+pair_in stab point n low high c b is e h =
+    ap (λ d. pair_with stab point n d) is ∙ rw (sym e ∙ h) refl
+
+-- and none with another one, or with another command
+pub pair_out : (stab point n low high : ℕ) (c : Command) (b : Bool) → c ≡ Interval low high
+    → b ≡ holds_point point (record { number = 0; low = low; high = high }) → b ≡ false
+    → pair_with stab point n c ≡ []
+pair_out stab point n low high c b is e h =
+    ap (λ d. pair_with stab point n d) is ∙ rw (sym e ∙ h) refl
+
+pub pair_other : (stab point n : ℕ) (c : Command)
+    → ((low high : ℕ) → c ≡ Interval low high → ⊥) → pair_with stab point n c ≡ []
+pair_other stab point n (Put key value) h = refl
+pair_other stab point n (Del key) h = refl
+pair_other stab point n (Get key) h = refl
+pair_other stab point n (Push key value) h = refl
+pair_other stab point n Pop h = refl
+pair_other stab point n (Interval low high) h = absurd (h low high refl)
+pair_other stab point n (Stab other) h = refl
 
 holders_rise : (stab point : ℕ) (is : List NumberedInterval) (ys : List Command)
     → length (map (pair_record stab) (holders_of point is))
@@ -192,42 +188,14 @@ holders_rise stab point is (y ∷ ys) =
     (pair_with stab point (length is) y) in
     omega arith
 
--- the first records have no more pairs of a stab than more of them
-pub fewer_holders : (stab point m n : ℕ) (items : List Record) → m ≤ n
-    → length (holder_pairs stab point (take m items))
-    ≤ length (holder_pairs stab point (take n items))
-fewer_holders stab point m n items l =
-    let xs = take m items in
-    let ys = drop m (take n items) in
-    let e : xs ++ ys ≡ take n items =
-    ap (λ (t : List Record). t ++ ys) (sym (take-take m n items l))
-    ∙ take-append-drop m (take n items) in
+-- the first records have no more pairs of a stab than all
+pub holders_longer : (stab point : ℕ) (xs ys : List Record)
+    → length (holder_pairs stab point xs) ≤ length (holder_pairs stab point (xs ++ ys))
+holders_longer stab point xs ys =
     let i : intervals_in (xs ++ ys) ≡ intervals_after (intervals_in xs) (commands_in ys) =
     ap (intervals_after []) (map-append command_in xs ys)
     ∙ intervals_both [] (commands_in xs) (commands_in ys) in
-    let a = ap (λ (t : List Record). length (holder_pairs stab point t)) e in
-    let b = ap (λ (is : List NumberedInterval). length (map (pair_record stab)
-    (holders_of point is))) i in
-    let h = holders_rise stab point (intervals_in xs) (commands_in ys) in
-    omega arith
-
--- one command more is gone through
-pub holders_next : (stab point n : ℕ) (items : List Record) (x : Record) (rest : List Record)
-    → drop n items ≡ x ∷ rest
-    → holder_pairs stab point (take (n + 1) items)
-    ≡ holder_pairs stab point (take n items)
-    ++ pair_with stab point (length (intervals_in (take n items))) (command_in x)
-holders_next stab point n items x rest e =
-    ap (λ (t : List Record). holder_pairs stab point t) (next_by items n x rest e).0
-    ∙ holders_more stab point (take n items) x
-
-pub intervals_next : (n : ℕ) (items : List Record) (x : Record) (rest : List Record)
-    → drop n items ≡ x ∷ rest
-    → next_interval (length (intervals_in (take n items))) (command_in x)
-    ≡ length (intervals_in (take (n + 1) items))
-intervals_next n items x rest e =
-    sym (ap (λ (t : List Record). length (intervals_in t)) (next_by items n x rest e).0
-    ∙ intervals_count (take n items) x)
+    rw i (holders_rise stab point (intervals_in xs) (commands_in ys))
 
 pub next_interval_most : (n : ℕ) (c : Command) → next_interval n c ≤ n + 1
 next_interval_most n (Put key value) = omega arith
@@ -238,30 +206,6 @@ next_interval_most n Pop = omega arith
 next_interval_most n (Interval low high) = omega arith
 next_interval_most n (Stab point) = omega arith
 
-pub holders_within : (stab point n number : ℕ) (items : List Record) (x : Record)
-    (rest : List Record) → drop n items ≡ x ∷ rest → n < number
-    → length (holder_pairs stab point (take n items)
-    ++ pair_with stab point (length (intervals_in (take n items))) (command_in x))
-    ≤ length (holder_pairs stab point (take number items))
-holders_within stab point n number items x rest e l =
-    let a = ap (λ (xs : List Record). length xs) (holders_next stab point n items x rest e) in
-    let f = fewer_holders stab point (n + 1) number items (omega arith) in
-    omega arith
-
--- one command more is answered
-pub pairs_next : (n : ℕ) (items : List Record) (x : Record) (rest : List Record)
-    → drop n items ≡ x ∷ rest
-    → pairs_in (take (n + 1) items)
-    ≡ pairs_in (take n items) ++ pairs_of (stabs_in (take n items)) (take n items) (command_in x)
-pairs_next n items x rest e =
-    ap pairs_in (next_by items n x rest e).0 ∙ pairs_more (take n items) x
-
-pub stabs_next : (n : ℕ) (items : List Record) (x : Record) (rest : List Record)
-    → drop n items ≡ x ∷ rest
-    → next_stab (stabs_in (take n items)) (command_in x) ≡ stabs_in (take (n + 1) items)
-stabs_next n items x rest e =
-    sym (ap stabs_in (next_by items n x rest e).0 ∙ stabs_more (take n items) x)
-
 pub next_stab_most : (n : ℕ) (c : Command) → next_stab n c ≤ n + 1
 next_stab_most n (Put key value) = omega arith
 next_stab_most n (Del key) = omega arith
@@ -271,12 +215,20 @@ next_stab_most n Pop = omega arith
 next_stab_most n (Interval low high) = omega arith
 next_stab_most n (Stab point) = omega arith
 
-pub pairs_within : (n : ℕ) (items : List Record) (x : Record) (rest : List Record)
-    → drop n items ≡ x ∷ rest
-    → length (pairs_in (take n items)
-    ++ pairs_of (stabs_in (take n items)) (take n items) (command_in x))
-    ≤ length (pairs_in items)
-pairs_within n items x rest e =
-    let a = ap (λ (xs : List Record). length xs) (pairs_next n items x rest e) in
-    let f = fewer_pairs (n + 1) items in
-    omega arith
+-- the pairs with one command more, if there were this many intervals before it
+pub holders_next : (stab point n : ℕ) (items : List Record) (x : Record)
+    → n ≡ length (intervals_in items)
+    → holder_pairs stab point (items ++ x ∷ [])
+    ≡ holder_pairs stab point items ++ pair_with stab point n (command_in x)
+holders_next stab point n items x e = rw e (holders_more stab point items x)
+
+-- a command that is no stab has no pair
+pub pairs_other : (stab : ℕ) (earlier : List Record) (c : Command)
+    → ((point : ℕ) → c ≡ Stab point → ⊥) → pairs_of stab earlier c ≡ []
+pairs_other stab earlier (Put key value) h = refl
+pairs_other stab earlier (Del key) h = refl
+pairs_other stab earlier (Get key) h = refl
+pairs_other stab earlier (Push key value) h = refl
+pairs_other stab earlier Pop h = refl
+pairs_other stab earlier (Interval low high) h = refl
+pairs_other stab earlier (Stab point) h = absurd (h point refl)

@@ -1,14 +1,16 @@
--- Records that calls add to a writer that has others already.
-use Rattle.std.specs.Prelude.{◌≡◌, ◌+◌, ◌<◌, ◌≤◌, max, List, ◌++◌, IsTrue, length, false}
+-- Records that are written while a chain is read.
+use Rattle.std.specs.Prelude.{◌≡◌, ℕ, ◌+◌, ◌*◌, ◌≤◌, List, [], ◌∷◌, ◌++◌, take, IsTrue, length, false, Result, Ok, Err}
 use Rattle.em_record.specs.declared.record.Record.{Record}
-use Rattle.em_space.specs.Held.{Apart, NoneInUse, Within}
-use Rattle.em_space.specs.Rig.{RigState, Goes, Owes, Cause}
+use Rattle.em_space.specs.Held.{Apart}
+use Rattle.em_space.specs.Ledger.{Account, Runs, Stops}
+use Rattle.em_space.specs.Rig.{RigState}
 use Rattle.em_space.specs.declared.fault.EmFault.{EmFault}
 use Rattle.em_chain.specs.Chain.{IsChain, IsPacked, payload_in, chain_blocks, chain_items}
 use Rattle.em_chain.specs.Counts.{ceiling}
-use Rattle.em_chain.specs.Effects.{OnFull}
-use Rattle.em_chain.specs.Reader.{IsReader, rest_of}
-use Rattle.em_chain.specs.Writer.{IsWriter, IsPackedSoFar, writer_items, writer_blocks, filled}
+use Rattle.em_chain.specs.Reader.{IsReader, reader_items, rest_of}
+use Rattle.em_chain.specs.Session.{StopsWriting, Took, Writes, chain_account}
+use Rattle.em_chain.specs.Within.{Ends}
+use Rattle.em_chain.specs.Writer.{IsWriter, writer_blocks, filled}
 use Rattle.em_chain.specs.declared.chain.Chain.{Chain}
 use Rattle.em_chain.specs.declared.reader.Reader.{Reader}
 use Rattle.em_chain.specs.declared.writer.Writer.{Writer}
@@ -20,36 +22,26 @@ pub record IsAdding (s : RigState) (w : Writer) : Type 0 where
   pub filled_is : filled s w ≡ w.count
   pub held : w.blocks ≤ s.used
 
--- The first block is owed, and no other.
-pub record OwesFirst (s t : RigState) (w : Writer) : Type 0 where
-  pub first : Owes 1 s t
-  pub later : 0 < w.blocks → Owes 0 s t
+-- Records were written, this many at most: over a device that tells what it holds, these.
+pub record Adds (most : ℕ) (s t : RigState) (w v : Writer) (xs : List Record) : Type 0 where
+  pub written : List Record
+  pub told : IsTrue s.device.told → written ≡ xs
+  pub few : length written ≤ most
+  pub writes : Writes s t w v written
 
--- Only the writer's blocks were changed, as many came to be in use as it has more, and over a device
--- that tells it has these records more.
-pub record Adds (s t : RigState) (w v : Writer) (xs : List Record) : Type 0 where
-  pub goes : Goes (writer_blocks s w) s t
-  pub is : IsAdding t v
-  pub items : IsTrue s.device.told → writer_items t v ≡ writer_items s w ++ xs
-  pub within : Within s (writer_blocks s w) (writer_blocks t v)
-  pub packed : IsTrue s.device.told → IsPackedSoFar s w → IsPackedSoFar t v
-  pub count_is : IsTrue s.device.told → v.count ≡ w.count + length xs
-  pub more : w.blocks ≤ v.blocks
-  pub used : t.used + w.blocks ≡ s.used + v.blocks
-  pub most : t.most ≡ max s.most t.used
-  pub owes : OwesFirst s t w
+-- A call gave up that was to write this many records at most: over a device that tells, these.
+pub record StopsAdding (most : ℕ) (s t : RigState) (w : Writer) (xs : List Record)
+    (fault : EmFault) : Type 0 where
+  pub tried : ℕ
+  pub told : IsTrue s.device.told → tried ≤ length xs
+  pub few : tried ≤ most
+  pub stops : StopsWriting s t w tried fault
 
--- A call gave up that was to add some records: at most the blocks for so many came to be in use.
-pub record StopsAdding (s t : RigState) (w : Writer) (xs : List Record) (fault : EmFault)
-    : Type 0 where
-  pub more : s.used ≤ t.used
-  pub most : t.most ≡ max s.most t.used
-  pub owes : OwesFirst s t w
-  pub few : IsTrue s.device.told
-      → t.used + w.blocks ≤ s.used + ceiling (w.count + length xs) (payload_in s)
-  pub full : IsTrue s.device.told → OnFull fault
-      (t.used + w.blocks < s.used + ceiling (w.count + length xs) (payload_in s))
-  pub cause : Cause s t fault
+-- what a call did that was to write these records, by its result
+abbrev pub AddsTo : {T : Type 0} → ℕ → RigState → RigState → Writer → Writer → List Record
+    → Result T EmFault → Type 0
+AddsTo most s t w v xs (Ok x) = Adds most s t w v xs
+AddsTo most s t w v xs (Err fault) = StopsAdding most s t w xs fault
 
 -- A writer, and a chain with other blocks.
 pub record AddsBeside (s : RigState) (c : Chain) (w : Writer) : Type 0 where
@@ -64,30 +56,71 @@ pub record ReadsBeside (s : RigState) (r : Reader) (w : Writer) : Type 0 where
   pub writer : IsAdding s w
   pub apart : IsTrue s.device.told → Apart (chain_blocks s (rest_of r)) (writer_blocks s w)
 
--- A reader of a whole chain, which keeps its blocks.
-pub record ReadsChain (s : RigState) (r : Reader) (c : Chain) : Type 0 where
-  pub is : IsReader s r
-  pub over : r.taking ≡ false
-  pub count : r.count ≡ c.count
-  pub items : IsTrue s.device.told → chain_items s (rest_of r) ≡ chain_items s c
-  pub blocks : IsTrue s.device.told → chain_blocks s (rest_of r) ≡ chain_blocks s c
+-- A reader that leaves its blocks to a chain has read this many of its records.
+pub record ReadsAt (s : RigState) (c : Chain) (r : Reader) (number : ℕ) : Type 0 where
+  pub count : r.count + number ≡ c.count
+  pub items : IsTrue s.device.told
+      → chain_items s c ≡ take number (chain_items s c) ++ reader_items s r
+  pub blocks : IsTrue s.device.told → Ends (chain_blocks s c) (chain_blocks s (rest_of r))
 
--- A chain of these records was written, in blocks that weren't in use, and all are stored.
-pub record Written (s t : RigState) (c : Chain) (xs : List Record) : Type 0 where
+-- f of the first record, if there is one
+abbrev pub of_first : (Record → List Record) → List Record → List Record
+of_first f [] = []
+of_first f (x ∷ xs) = f x
+
+-- One record was read, and what f gives for it was written.
+pub record Steps (most m k : ℕ) (next : ℕ → Record → ℕ) (f : Record → List Record)
+    (s t : RigState) (r q : Reader) (w v : Writer) : Type 0 where
+  pub item : Record
+  pub took : Took s t r q (item ∷ [])
+  pub adds : Adds most s t w v (f item)
+  pub next_is : k ≡ next m item
+
+-- The same by the result, which is the next number.
+abbrev pub StepsTo : ℕ → ℕ → (ℕ → Record → ℕ) → (Record → List Record) → RigState → RigState
+    → Reader → Reader → Writer → Writer → Result ℕ EmFault → Type 0
+StepsTo most m next f s t r q w v (Ok k) = Steps most m k next f s t r q w v
+StepsTo most m next f s t r q w v (Err fault) =
+    StopsAdding most s t w (of_first f (reader_items s r)) fault
+
+-- This many records were read, and what f gives for them was written: this many at most for each. The
+-- number m is what g gives for them.
+pub record Scans (most n m : ℕ) (g : List Record → ℕ) (f : List Record → List Record)
+    (s t : RigState) (r q : Reader) (w v : Writer) : Type 0 where
+  pub read : List Record
+  pub len : length read ≡ n
+  pub number : m ≡ g read
+  pub fewer : m ≤ n
+  pub took : Took s t r q read
+  pub adds : Adds (n * most) s t w v (f read)
+
+-- a value with no block
+abbrev pub no_account : Account
+no_account = record { blocks = 0; unstored = 0; paid = 0; owed = 0 }
+
+-- Records were written as a chain, this many at most: over a device that tells, these.
+pub record Written (most : ℕ) (s t : RigState) (xs : List Record) (c : Chain) : Type 0 where
+  pub written : List Record
+  pub told : IsTrue s.device.told → written ≡ xs
+  pub few : length written ≤ most
   pub is : IsChain t c
-  pub items : IsTrue s.device.told → chain_items t c ≡ xs
+  pub items : IsTrue s.device.told → chain_items t c ≡ written
   pub packed : IsTrue s.device.told → IsPacked t c
-  pub fresh : IsTrue s.device.told → NoneInUse s (chain_blocks t c)
-  pub used : t.used ≡ s.used + c.blocks
-  pub most : t.most ≡ max s.most t.used
-  pub owes : Owes 0 s t
+  pub blocks_is : c.blocks ≡ ceiling (length written) (payload_in s)
+  pub extra : ℕ
+  pub runs : Runs c.blocks [] (chain_blocks t c) no_account (chain_account extra c) s t
 
--- A call gave up that was to write these records: at most the blocks for them came to be in use.
-pub record StopsWriting (s t : RigState) (xs : List Record) (fault : EmFault) : Type 0 where
-  pub more : s.used ≤ t.used
-  pub most : t.most ≡ max s.most t.used
-  pub owes : Owes 1 s t
-  pub few : IsTrue s.device.told → t.used ≤ s.used + ceiling (length xs) (payload_in s)
-  pub full : IsTrue s.device.told
-      → OnFull fault (t.used < s.used + ceiling (length xs) (payload_in s))
-  pub cause : Cause s t fault
+-- A call gave up that was to write this many records at most as a chain: over a device that tells,
+-- these.
+pub record StopsWritten (most : ℕ) (s t : RigState) (xs : List Record) (fault : EmFault)
+    : Type 0 where
+  pub tried : ℕ
+  pub told : IsTrue s.device.told → tried ≤ length xs
+  pub few : tried ≤ most
+  pub extra : ℕ
+  pub stops : Stops (ceiling tried (payload_in s)) extra 1 [] no_account s t fault
+
+-- the same by the result
+abbrev pub WrittenTo : ℕ → RigState → RigState → List Record → Result Chain EmFault → Type 0
+WrittenTo most s t xs (Ok c) = Written most s t xs c
+WrittenTo most s t xs (Err fault) = StopsWritten most s t xs fault

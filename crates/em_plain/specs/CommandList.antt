@@ -1,14 +1,15 @@
 -- A list of commands that is kept on the device, and what calls that give a command change.
-use Rattle.std.specs.Prelude.{◌≡◌, ℕ, ◌+◌, ◌≤◌, ◌^◌, min, List, [], ◌∷◌, ◌++◌, IsTrue, Result, OnErr, IfErr}
+use Rattle.std.specs.Prelude.{◌≡◌, ◌↔◌, ℕ, ◌+◌, ◌<◌, ◌≤◌, ◌^◌, min, List, [], ◌∷◌, ◌++◌, IsTrue, Result, Err, OnOk, OnErr, IfErr}
 use Rattle.em_record.specs.declared.record.Record.{Record}
 use Rattle.em_model.specs.declared.command.Command.{Command}
 use Rattle.em_space.specs.Held.{Within}
 use Rattle.em_space.specs.Queue.{Pays}
-use Rattle.em_space.specs.Rig.{RigState}
+use Rattle.em_space.specs.Rig.{RigState, Goes, Cause}
 use Rattle.em_space.specs.declared.fault.EmFault.{EmFault}
+use Rattle.em_space.specs.declared.fault.EmFault.TheVariants.{Full}
 use Rattle.em_chain.specs.Chain.{IsChain, IsPacked, chain_blocks, chain_items}
-use Rattle.em_chain.specs.Effects.{OnFull}
-use Rattle.em_chain.specs.Writer.{IsWriter, IsPackedSoFar, WriterHasFrame, filled, writer_blocks, writer_items}
+use Rattle.em_chain.specs.Effects.{Completes, OnFull}
+use Rattle.em_chain.specs.Writer.{IsWriter, IsPackedSoFar, NeedsBlock, WriterHasFrame, filled, writer_blocks, writer_items}
 use Rattle.em_chain.specs.declared.chain.Chain.{Chain}
 use Rattle.em_plain.specs.Command.{commands_in}
 use Rattle.em_plain.specs.Room.{plain_room, StaysWithin}
@@ -62,12 +63,24 @@ pub record Notes (s t : RigState) (l m : CommandList) (c : Command) : Type 0 whe
   pub pays : Pays (unstored l) (unstored m) s t
 
 -- What a call that gives a command costs, whether it gave up or not. It says that the device is full
--- only where it took no block.
+-- only if it took no block.
 pub record NoteCosts {T : Type 0} (s t : RigState) (l : CommandList) (result : Result T EmFault)
     : Type 0 where
   pub most : StaysWithin (held l) (plain_room s.pool.shape (list_len l + 1)) s t
   pub pays : OnErr result (Pays (unstored l) s.pool.shape.frames s t)
   pub full : IfErr result (λ fault. OnFull fault (t.used ≡ s.used))
+
+-- What a call that gives a command does: only the list's blocks may have changed; one command more
+-- was given, or there is a cause; and it is full exactly if a block is needed and all are in use.
+pub record Noted {T : Type 0} (s t : RigState) (l m : CommandList) (c : Command)
+    (result : Result T EmFault) : Type 0 where
+  pub goes : Goes (list_blocks s l) s t
+  pub frame : HasListFrame t m
+  pub notes : OnOk result (Notes s t l m c)
+  pub costs : NoteCosts s t l result
+  pub full : (result ≡ Err (Full s.used)) ↔ (NeedsBlock s l.writer × (s.used ≡ s.blocks))
+  pub complete : s.used < s.blocks → Completes s t result
+  pub cause : IfErr result (Cause s t)
 
 -- The list was answered by a chain of these records.
 pub record AnsweredBy (s t : RigState) (l : CommandList) (items : List Record) (c : Chain)

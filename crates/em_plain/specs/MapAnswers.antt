@@ -1,10 +1,9 @@
 -- The answers of a map, each with the number of its get: docs/FORMATS.md, "Records of answers".
-use Rattle.std.specs.Prelude.{ℕ, ◌+◌, List, [], ◌∷◌, Option, Some, None, take, drop}
+use Rattle.std.specs.Prelude.{ℕ, ◌+◌, List, [], ◌∷◌, Option, Some, None}
 use Rattle.em_record.specs.declared.record.Record.{Record}
-use Rattle.em_model.specs.Map.{Map, no_keys, state_after, map_answers, map_answers_from}
+use Rattle.em_model.specs.Map.{Map, map_answers, map_answers_from}
 use Rattle.em_model.specs.declared.command.Command.{Command}
 use Rattle.em_model.specs.declared.command.Command.TheVariants.{Get}
-use Rattle.em_plain.specs.Command.{command_in, commands_in}
 
 -- the numbers of the gets among some commands of which the first has this number
 abbrev pub get_numbers : ℕ → List Command → List ℕ
@@ -29,14 +28,3 @@ answer_records commands = with_numbers (get_numbers 1 commands) (map_answers com
 -- the records of the answers to some commands, of which the first has this number, from a map
 abbrev pub answers_of : ℕ → Map → List Command → List Record
 answers_of n m commands = with_numbers (get_numbers n commands) (map_answers_from m commands)
-
--- the records of the answer to a command that follows some others, so many in number
-abbrev pub next_answers : ℕ → List Record → Record → List Record
-next_answers number earlier item =
-    answers_of (number + 1) (state_after no_keys (commands_in earlier)) (command_in item ∷ [])
-
--- the records of the answer to the command behind so many of some others
-abbrev pub answers_at : ℕ → List Record → List Record
-answers_at number items =
-    answers_of (number + 1) (state_after no_keys (commands_in (take number items)))
-    (commands_in (take 1 (drop number items)))

@@ -1,9 +1,9 @@
 -- A queue that is a list of its items.
 use Rattle.std.specs.Prelude.{◌≡◌, ◌==◌, ℕ, ◌+◌, ◌≤◌, if◌then◌else◌, List, IsTrue, max, min}
-use Rattle.em_record.specs.Order.{in_order}
+use Rattle.em_record.specs.Order.{Lacks, in_order}
 use Rattle.em_record.specs.Shape.{ShapeNumbers, payload_of}
 use Rattle.em_record.specs.declared.record.Record.{Record}
-use Rattle.em_space.specs.Queue.{Lacks, QueueCounts}
+use Rattle.em_space.specs.Queue.{QueueCounts}
 use Rattle.em_space.specs.Rig.{RigState}
 use Rattle.em_chain.specs.Counts.{ceiling}
 use Rattle.em_chain.specs.Writer.{IsWriter, IsPackedSoFar, WriterHasFrame, filled, writer_blocks, writer_items}
@@ -16,6 +16,21 @@ queue_items s q = in_order (writer_items s q.writer)
 -- the blocks that it holds
 abbrev pub queue_blocks : RigState → ScanQueue → List ℕ
 queue_blocks s q = writer_blocks s q.writer
+
+-- a queue into which nothing was pushed, with no block
+abbrev pub fresh_counts : ℕ → ℕ → QueueCounts
+fresh_counts frames areas = record {
+  len = 0;
+  n = 0;
+  k = 0;
+  since = 0;
+  spent = 0;
+  frames = frames;
+  areas = areas;
+  blocks = 0;
+  unstored = 0;
+  most = 0;
+}
 
 -- its numbers; it holds one frame
 abbrev pub counts_of : ScanQueue → QueueCounts

@@ -1,11 +1,11 @@
-ghost use Rattle.std.specs.Prelude.{◌≡◌, ◌↔◌, ◌<◌, ◌^◌, [], OnOk, IfErr, Err};
-ghost use Rattle.em_space.specs.Rig.{Cause, Goes, Sound};
+ghost use Rattle.std.specs.Prelude.{◌<◌, ◌≤◌, ◌^◌, []};
+ghost use Rattle.em_space.specs.Rig.{Sound};
 ghost use Rattle.em_space.specs.Seen.{seen};
-ghost use Rattle.em_chain.specs.Writer.{NeedsBlock};
-ghost use Rattle.em_chain.specs.Effects.{Completes, GivesFrame, LendsFrame, Unmoved};
+ghost use Rattle.em_chain.specs.Effects.{GivesFrame, LendsFrame, Unmoved};
 
+use crate::answers::{Asks, write_answers};
 use crate::command_record::to_record;
-use em_chain::Writer;
+use em_chain::{Chain, Writer, discard};
 use em_frames::Device;
 use em_model::Command;
 use em_space::{EmFault, Rig};
@@ -17,7 +17,8 @@ pub(crate) struct CommandList {
 }
 
 impl CommandList {
-    ghost use Rattle.em_plain.specs.CommandList.{BeginsList, HasListFrame, IsCommandList, NoteCosts, Notes, list_blocks, list_len};
+    ghost use Rattle.em_plain.specs.Answered.{AnswersList};
+    ghost use Rattle.em_plain.specs.CommandList.{BeginsList, HasListFrame, IsCommandList, Noted, list_len};
 
     /// A list with no command.
     pub(crate) fn new<D: Device>(rig: &mut Rig<'_, D>) -> CommandList
@@ -42,20 +43,28 @@ impl CommandList {
         requires is { IsCommandList (seen D.state rig.old) self.old }
         requires free { 0 < (seen D.state rig.old).pool.free }
         requires few { list_len self.old < 2 ^ 40 }
-        ensures goes { Goes (list_blocks (seen D.state rig.old) self.old)
-            (seen D.state rig.old) (seen D.state rig.new) }
-        ensures frame { HasListFrame (seen D.state rig.new) self.new }
-        ensures notes { OnOk result (Notes (seen D.state rig.old) (seen D.state rig.new)
-            self.old self.new command) }
-        ensures costs { NoteCosts (seen D.state rig.old) (seen D.state rig.new) self.old result }
-        ensures full { (result ≡ Err (EmFault.Full (seen D.state rig.old).used))
-            ↔ (NeedsBlock (seen D.state rig.old) self.old.writer
-            × ((seen D.state rig.old).used ≡ (seen D.state rig.old).blocks)) }
-        ensures complete { (seen D.state rig.old).used < (seen D.state rig.old).blocks
-            → Completes (seen D.state rig.old) (seen D.state rig.new) result }
-        ensures cause { IfErr result (Cause (seen D.state rig.old) (seen D.state rig.new)) }
+        ensures noted { Noted (seen D.state rig.old) (seen D.state rig.new)
+            self.old self.new command result }
     {
         self.writer.append(rig, to_record(command))
+    }
+
+    /// Answers its commands by a chain, and releases its blocks.
+    pub(crate) fn answer<D: Device>(
+        self,
+        rig: &mut Rig<'_, D>,
+        asks: Asks,
+    ) -> Result<Chain, EmFault>
+        requires sound { Sound (seen D.state rig.old) }
+        requires is { IsCommandList (seen D.state rig.old) self }
+        requires free { 6 ≤ (seen D.state rig.old).pool.free }
+        ensures done { AnswersList asks (seen D.state rig.old) (seen D.state rig.new) self result }
+    {
+        let CommandList { writer } = self;
+        let commands = writer.finish(rig)?;
+        let answers = write_answers(rig, &commands, asks)?;
+        discard(rig, commands)?;
+        Ok(answers)
     }
 
     /// Gives its frame back, and moves nothing. Its blocks stay in use.

@@ -1,8 +1,9 @@
 //! The plain structures: a map, an interval list and a queue that keep what they were given in one
-//! chain, which is read again for each question. Their answers are right by definition, and cost as
-//! many moves as the chain has blocks.
+//! chain. For each get and each stab the commands before it are read again; a pop reads all items and
+//! writes all but the least one. The answers are proved right.
 #![tactic(auto)]
 
+mod answers;
 mod command_list;
 mod command_record;
 mod map_answers;
@@ -14,10 +15,3 @@ mod stab_answers;
 pub use scan_map::ScanMap;
 pub use scan_queue::ScanQueue;
 pub use scan_stab::ScanStab;
-
-#[cfg(test)]
-mod map_tests;
-#[cfg(test)]
-mod queue_tests;
-#[cfg(test)]
-mod stab_tests;

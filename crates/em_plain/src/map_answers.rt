@@ -1,18 +1,17 @@
-ghost use Rattle.std.specs.Prelude.{◌≡◌, ◌∷◌, ◌+◌, ◌<◌, ◌≤◌, [], None, length, take, OnOk, OnErr, IfOk, IfErr, IsTrue, false};
-ghost use Rattle.em_record.specs.Shape.{payload_of};
+ghost use Rattle.std.specs.Prelude.{◌≡◌, ◌∷◌, ◌+◌, ◌<◌, ◌≤◌, [], None, length, take, IfOk, IfErr, IsTrue, false};
 ghost use Rattle.em_frames.specs.Pool.{HasFrames};
 ghost use Rattle.em_model.specs.Map.{value_from};
-ghost use Rattle.em_space.specs.Held.{Apart};
-ghost use Rattle.em_space.specs.Rig.{BlockCause, Cause, Goes, Sound};
+ghost use Rattle.em_space.specs.Rig.{BlockCause, Sound};
 ghost use Rattle.em_space.specs.Seen.{seen};
-ghost use Rattle.em_chain.specs.Chain.{IsChain, chain_blocks, chain_items};
-ghost use Rattle.em_chain.specs.Counts.{ceiling};
+ghost use Rattle.em_chain.specs.Chain.{IsChain, chain_items};
 ghost use Rattle.em_chain.specs.Reader.{IsReader, reader_items};
-ghost use Rattle.em_chain.specs.Writer.{CanGrow, IsWriter, writer_blocks};
-ghost use Rattle.em_plain.specs.Answering.{AnswersAll, AnswersOne, ReadsAt};
-ghost use Rattle.em_plain.specs.Collects.{GaveUp, Looks};
+ghost use Rattle.em_chain.specs.Writer.{WriterHasFrame};
+ghost use Rattle.em_plain.specs.Adds.{AddsTo};
+ghost use Rattle.em_plain.specs.Asks.{get_answer};
 ghost use Rattle.em_plain.specs.Command.{command_in, commands_in};
-ghost use Rattle.em_plain.specs.MapAnswers.{answer_record, next_answers, answers_at};
+ghost use Rattle.em_plain.specs.Looks.{Looks};
+ghost use Rattle.em_plain.specs.MapAnswers.{answer_record};
+ghost use Rattle.em_plain.specs.Ready.{ReadyBeside};
 
 use crate::command_record::to_command;
 use em_chain::{Chain, Reader, Writer};
@@ -104,124 +103,25 @@ fn value_before<D: Device>(
     value
 }
 
-/// Writes the answer of a command that follows the first `number` ones of a chain.
-fn answer_one<D: Device>(
+/// Writes the answer of a command that follows the first `number` ones of a chain, if it is a get.
+pub(crate) fn answer_get<D: Device>(
     rig: &mut Rig<'_, D>,
     chain: &Chain,
     number: u64,
-    item: Record,
+    command: Command,
     writer: &mut Writer,
 ) -> Result<(), EmFault>
-    requires sound { Sound (seen D.state rig.old) }
-    requires is { IsChain (seen D.state rig.old) chain.now }
-    requires writer { IsWriter (seen D.state rig.old) writer.old }
-    requires room { CanGrow writer.old }
-    requires free { 1 < (seen D.state rig.old).pool.free }
-    requires number { number ≤ chain.now.count }
-    ensures goes { Goes (writer_blocks (seen D.state rig.old) writer.old)
-        (seen D.state rig.old) (seen D.state rig.new) }
-    ensures frame { HasFrames 1 (length writer.new.frame) (seen D.state rig.new).pool }
-    ensures answers { OnOk result (AnswersOne (seen D.state rig.old) (seen D.state rig.new)
-        writer.old writer.new
-        (next_answers number (take number (chain_items (seen D.state rig.old) chain.now)) item)) }
-    ensures refused { OnErr result (GaveUp 1 0 (seen D.state rig.old) (seen D.state rig.new)) }
-    ensures cause { IfErr result (Cause (seen D.state rig.old) (seen D.state rig.new)) }
+    requires ready { ReadyBeside number (seen D.state rig.old) chain.now writer.old }
+    ensures done { AddsTo 1 (seen D.state rig.old) (seen D.state rig.new) writer.old writer.new
+        (get_answer number (take number (chain_items (seen D.state rig.old) chain.now)) command)
+        result }
+    ensures frame { WriterHasFrame (seen D.state rig.new) writer.new }
 {
-    match to_command(item) {
+    match command {
         Command::Get { key } => {
             let value = value_before(rig, chain, number, key)?;
             writer.append(rig, to_answer(number + 1, value))
         }
         _ => Ok(()),
     }
-}
-
-/// Reads the command that follows the first `number` ones of a chain, and writes its answer.
-fn answer_next<D: Device>(
-    rig: &mut Rig<'_, D>,
-    reader: &mut Reader,
-    chain: &Chain,
-    number: u64,
-    writer: &mut Writer,
-) -> Result<(), EmFault>
-    requires sound { Sound (seen D.state rig.old) }
-    requires is { IsChain (seen D.state rig.old) chain.now }
-    requires reads { ReadsAt (seen D.state rig.old) chain.now reader.old number }
-    requires writer { IsWriter (seen D.state rig.old) writer.old }
-    requires apart { IsTrue (seen D.state rig.old).device.told
-        → Apart (chain_blocks (seen D.state rig.old) chain.now)
-        (writer_blocks (seen D.state rig.old) writer.old) }
-    requires room { CanGrow writer.old }
-    requires free { 1 < (seen D.state rig.old).pool.free }
-    requires number { number < chain.now.count }
-    ensures goes { Goes (writer_blocks (seen D.state rig.old) writer.old)
-        (seen D.state rig.old) (seen D.state rig.new) }
-    ensures reader { HasFrames 1 (length reader.new.frame) (seen D.state rig.new).pool }
-    ensures writer { HasFrames 1 (length writer.new.frame) (seen D.state rig.new).pool }
-    ensures reads { OnOk result (ReadsAt (seen D.state rig.new) chain.now reader.new (number + 1)) }
-    ensures answers { OnOk result (AnswersOne (seen D.state rig.old) (seen D.state rig.new)
-        writer.old writer.new
-        (answers_at number (chain_items (seen D.state rig.old) chain.now))) }
-    ensures refused { OnErr result (GaveUp 1 0 (seen D.state rig.old) (seen D.state rig.new)) }
-    ensures cause { IfErr result (Cause (seen D.state rig.old) (seen D.state rig.new)) }
-{
-    match reader.next(rig)? {
-        Some(item) => answer_one(rig, chain, number, item, writer),
-        None => Ok(()),
-    }
-}
-
-/// The answers to the gets that a reader of a chain gives.
-fn answer_by<D: Device>(
-    rig: &mut Rig<'_, D>,
-    reader: &mut Reader,
-    chain: &Chain,
-) -> Result<Chain, EmFault>
-    requires sound { Sound (seen D.state rig.old) }
-    requires is { IsChain (seen D.state rig.old) chain.now }
-    requires reads { ReadsAt (seen D.state rig.old) chain.now reader.old 0 }
-    requires free { 2 < (seen D.state rig.old).pool.free }
-    ensures goes { Goes [] (seen D.state rig.old) (seen D.state rig.new) }
-    ensures frame { HasFrames 1 (length reader.new.frame) (seen D.state rig.new).pool }
-    ensures answers { IfOk result
-        (AnswersAll (seen D.state rig.old) (seen D.state rig.new) chain.now) }
-    ensures refused { OnErr result (GaveUp
-        (ceiling chain.now.count (payload_of (seen D.state rig.old).pool.shape) + 1) 1
-        (seen D.state rig.old) (seen D.state rig.new)) }
-    ensures cause { IfErr result (Cause (seen D.state rig.old) (seen D.state rig.new)) }
-{
-    let mut writer = Writer::new(rig);
-    for number in 0..chain.len() {
-        match answer_next(rig, reader, chain, number, &mut writer) {
-            Ok(()) => {}
-            Err(fault) => {
-                writer.abandon(rig);
-                return Err(fault);
-            }
-        }
-    }
-    writer.finish(rig)
-}
-
-/// The answers to the gets of a chain of commands, each with its number. For each get the chain is
-/// read again up to it.
-pub(crate) fn write_answers<D: Device>(
-    rig: &mut Rig<'_, D>,
-    chain: &Chain,
-) -> Result<Chain, EmFault>
-    requires sound { Sound (seen D.state rig.old) }
-    requires is { IsChain (seen D.state rig.old) chain.now }
-    requires free { 3 < (seen D.state rig.old).pool.free }
-    ensures goes { Goes [] (seen D.state rig.old) (seen D.state rig.new) }
-    ensures answers { IfOk result
-        (AnswersAll (seen D.state rig.old) (seen D.state rig.new) chain.now) }
-    ensures refused { OnErr result (GaveUp
-        (ceiling chain.now.count (payload_of (seen D.state rig.old).pool.shape) + 1) 1
-        (seen D.state rig.old) (seen D.state rig.new)) }
-    ensures cause { IfErr result (Cause (seen D.state rig.old) (seen D.state rig.new)) }
-{
-    let mut reader = Reader::over(rig, chain);
-    let answers = answer_by(rig, &mut reader, chain);
-    reader.abandon(rig);
-    answers
 }

@@ -1,13 +1,14 @@
-ghost use Rattle.std.specs.Prelude.{◌≡◌, ◌↔◌, ◌+◌, ◌<◌, ◌≤◌, ◌^◌, [], OnOk, Err, IfErr, IfOk, IsOk};
+ghost use Rattle.std.specs.Prelude.{◌+◌, ◌<◌, ◌≤◌, ◌^◌, [], length, IfErr, IfOk, IsOk, IsTrue};
 ghost use Rattle.em_model.specs.declared.command.Command.TheVariants as command;
-ghost use Rattle.em_space.specs.Rig.{Cause, Goes, Sound};
+ghost use Rattle.em_space.specs.Rig.{Cause, Sound};
 ghost use Rattle.em_space.specs.Seen.{seen};
-ghost use Rattle.em_chain.specs.Writer.{NeedsBlock};
+ghost use Rattle.em_chain.specs.Chain.{payload_in};
+ghost use Rattle.em_chain.specs.Counts.{ceiling};
 ghost use Rattle.em_chain.specs.Effects.{Completes, GivesFrame, LendsFrame, OnFull, Unmoved};
 
+use crate::answers::Asks;
 use crate::command_list::CommandList;
-use crate::map_answers::write_answers;
-use em_chain::{Chain, discard};
+use em_chain::Chain;
 use em_frames::Device;
 use em_model::Command;
 use em_space::{EmFault, Rig};
@@ -21,7 +22,7 @@ pub struct ScanMap {
 }
 
 impl ScanMap {
-    ghost use Rattle.em_plain.specs.CommandList.{AnsweredBy, BeginsList, NoteCosts, Notes, held, list_len, unstored};
+    ghost use Rattle.em_plain.specs.CommandList.{AnsweredBy, BeginsList, Noted, held, list_len, unstored};
     ghost use Rattle.em_plain.specs.MapAnswers.{answer_records};
     ghost use Rattle.em_plain.specs.Room.{StaysWithin, plain_room};
     ghost use Rattle.em_plain.specs.ScanMap.{IsScanMap, MapHasFrame, blocks_of, commands_of};
@@ -42,7 +43,7 @@ impl ScanMap {
         })
     }
 
-    /// Gives the key this value. `Full` comes exactly where a block is needed and all are in use.
+    /// Gives the key this value. `Full` comes exactly if a block is needed and all are in use.
     pub fn put<D: Device>(
         &mut self,
         rig: &mut Rig<'_, D>,
@@ -53,74 +54,41 @@ impl ScanMap {
         requires is { IsScanMap (seen D.state rig.old) self.old }
         requires free { 6 ≤ (seen D.state rig.old).pool.free }
         requires few { list_len self.old.list < 2 ^ 40 }
-        ensures goes { Goes (blocks_of (seen D.state rig.old) self.old)
-            (seen D.state rig.old) (seen D.state rig.new) }
-        ensures frame { MapHasFrame (seen D.state rig.new) self.new }
-        ensures notes { OnOk result (Notes (seen D.state rig.old) (seen D.state rig.new)
-            self.old.list self.new.list (command.Put key value)) }
-        ensures costs { NoteCosts (seen D.state rig.old) (seen D.state rig.new)
-            self.old.list result }
-        ensures full { (result ≡ Err (EmFault.Full (seen D.state rig.old).used))
-            ↔ (NeedsBlock (seen D.state rig.old) self.old.list.writer
-            × ((seen D.state rig.old).used ≡ (seen D.state rig.old).blocks)) }
-        ensures complete { (seen D.state rig.old).used < (seen D.state rig.old).blocks
-            → Completes (seen D.state rig.old) (seen D.state rig.new) result }
-        ensures cause { IfErr result (Cause (seen D.state rig.old) (seen D.state rig.new)) }
+        ensures noted { Noted (seen D.state rig.old) (seen D.state rig.new)
+            self.old.list self.new.list (command.Put key value) result }
     {
         self.list.note(rig, Command::Put { key, value })
     }
 
-    /// Takes the key's value away. `Full` comes exactly where a block is needed and all are in use.
+    /// Takes the key's value away. `Full` comes exactly if a block is needed and all are in use.
     pub fn del<D: Device>(&mut self, rig: &mut Rig<'_, D>, key: u64) -> Result<(), EmFault>
         requires sound { Sound (seen D.state rig.old) }
         requires is { IsScanMap (seen D.state rig.old) self.old }
         requires free { 6 ≤ (seen D.state rig.old).pool.free }
         requires few { list_len self.old.list < 2 ^ 40 }
-        ensures goes { Goes (blocks_of (seen D.state rig.old) self.old)
-            (seen D.state rig.old) (seen D.state rig.new) }
-        ensures frame { MapHasFrame (seen D.state rig.new) self.new }
-        ensures notes { OnOk result (Notes (seen D.state rig.old) (seen D.state rig.new)
-            self.old.list self.new.list (command.Del key)) }
-        ensures costs { NoteCosts (seen D.state rig.old) (seen D.state rig.new)
-            self.old.list result }
-        ensures full { (result ≡ Err (EmFault.Full (seen D.state rig.old).used))
-            ↔ (NeedsBlock (seen D.state rig.old) self.old.list.writer
-            × ((seen D.state rig.old).used ≡ (seen D.state rig.old).blocks)) }
-        ensures complete { (seen D.state rig.old).used < (seen D.state rig.old).blocks
-            → Completes (seen D.state rig.old) (seen D.state rig.new) result }
-        ensures cause { IfErr result (Cause (seen D.state rig.old) (seen D.state rig.new)) }
+        ensures noted { Noted (seen D.state rig.old) (seen D.state rig.new)
+            self.old.list self.new.list (command.Del key) result }
     {
         self.list.note(rig, Command::Del { key })
     }
 
-    /// Asks for the key's value, which `finish` answers. `Full` comes exactly where a block is needed
+    /// Asks for the key's value, which `finish` answers. `Full` comes exactly if a block is needed
     /// and all are in use.
     pub fn get<D: Device>(&mut self, rig: &mut Rig<'_, D>, key: u64) -> Result<(), EmFault>
         requires sound { Sound (seen D.state rig.old) }
         requires is { IsScanMap (seen D.state rig.old) self.old }
         requires free { 6 ≤ (seen D.state rig.old).pool.free }
         requires few { list_len self.old.list < 2 ^ 40 }
-        ensures goes { Goes (blocks_of (seen D.state rig.old) self.old)
-            (seen D.state rig.old) (seen D.state rig.new) }
-        ensures frame { MapHasFrame (seen D.state rig.new) self.new }
-        ensures notes { OnOk result (Notes (seen D.state rig.old) (seen D.state rig.new)
-            self.old.list self.new.list (command.Get key)) }
-        ensures costs { NoteCosts (seen D.state rig.old) (seen D.state rig.new)
-            self.old.list result }
-        ensures full { (result ≡ Err (EmFault.Full (seen D.state rig.old).used))
-            ↔ (NeedsBlock (seen D.state rig.old) self.old.list.writer
-            × ((seen D.state rig.old).used ≡ (seen D.state rig.old).blocks)) }
-        ensures complete { (seen D.state rig.old).used < (seen D.state rig.old).blocks
-            → Completes (seen D.state rig.old) (seen D.state rig.new) result }
-        ensures cause { IfErr result (Cause (seen D.state rig.old) (seen D.state rig.new)) }
+        ensures noted { Noted (seen D.state rig.old) (seen D.state rig.new)
+            self.old.list self.new.list (command.Get key) result }
     {
         self.list.note(rig, Command::Get { key })
     }
 
     /// The answers to all gets, in the order of their numbers: the record (number, 1, V, 0) where
     /// the key had the value V by the calls before, and (number, 0, 0, 0) where it had none. The
-    /// commands' blocks are released. `Full` comes only where fewer blocks are free at the start
-    /// than are enough.
+    /// commands' blocks are released. Over a device that tells, `Full` comes only if fewer blocks
+    /// are free at the start than the answers fill.
     pub fn finish<D: Device>(self, rig: &mut Rig<'_, D>) -> Result<Chain, EmFault>
         requires sound { Sound (seen D.state rig.old) }
         requires is { IsScanMap (seen D.state rig.old) self }
@@ -138,6 +106,15 @@ impl ScanMap {
         ensures full { IfErr result (λ fault. OnFull fault ((seen D.state rig.old).blocks
             < (seen D.state rig.old).used
             + plain_room (seen D.state rig.old).pool.shape (list_len self.list))) }
+        ensures full_if_few { IsTrue (seen D.state rig.old).device.told
+            → IfErr result (λ fault. OnFull fault ((seen D.state rig.old).blocks
+            < (seen D.state rig.old).used
+            + ceiling (length (answer_records (commands_of (seen D.state rig.old) self)))
+            (payload_in (seen D.state rig.old)))) }
+        ensures complete_if_enough { (seen D.state rig.old).used
+            + ceiling (length (answer_records (commands_of (seen D.state rig.old) self)))
+            (payload_in (seen D.state rig.old)) ≤ (seen D.state rig.old).blocks
+            → Completes (seen D.state rig.old) (seen D.state rig.new) result }
         ensures complete { (seen D.state rig.old).used
             + plain_room (seen D.state rig.old).pool.shape (list_len self.list)
             ≤ (seen D.state rig.old).blocks
@@ -145,11 +122,7 @@ impl ScanMap {
         ensures cause { IfErr result (Cause (seen D.state rig.old) (seen D.state rig.new)) }
     {
         let ScanMap { list } = self;
-        let CommandList { writer } = list;
-        let commands = writer.finish(rig)?;
-        let answers = write_answers(rig, &commands)?;
-        discard(rig, commands)?;
-        Ok(answers)
+        list.answer(rig, Asks::Gets)
     }
 
     /// Gives its frame back, and moves nothing. Its blocks stay in use.

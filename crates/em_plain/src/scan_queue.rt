@@ -3,9 +3,10 @@ ghost use Rattle.em_space.specs.Rig.{Cause, Goes, Sound};
 ghost use Rattle.em_space.specs.Seen.{seen};
 ghost use Rattle.em_chain.specs.Chain.{chain_blocks};
 ghost use Rattle.em_chain.specs.Effects.{LendsFrame, OnFull, Unmoved};
+ghost use Rattle.em_chain.specs.Parts.{IsPair};
 ghost use Rattle.em_chain.specs.Reader.{ReaderHasFrame, rest_of};
-ghost use Rattle.em_chain.specs.Writer.{WriterHasFrame, writer_blocks};
-ghost use Rattle.em_plain.specs.Least.{BeginsAnew, IsFull, PassCosts, Passed, TakesLeast};
+ghost use Rattle.em_chain.specs.Writer.{CanGrow, WriterHasFrame, writer_blocks};
+ghost use Rattle.em_plain.specs.Least.{BeginsAnew, IsFull, PassCosts, Passed, PassesOne, TakesLeast};
 
 use em_chain::{Reader, Writer, discard};
 use em_frames::Device;
@@ -32,8 +33,7 @@ pub struct ScanQueue {
 }
 
 impl ScanQueue {
-    ghost use Rattle.em_space.specs.Queue.{fresh_counts};
-    ghost use Rattle.em_plain.specs.ScanQueue.{IsScanQueue, counted, counts_of, queue_blocks, queue_items, settled};
+    ghost use Rattle.em_plain.specs.ScanQueue.{IsScanQueue, counted, counts_of, fresh_counts, queue_blocks, queue_items, settled};
 
     /// A queue with no item. It takes no block yet, and never gives up.
     pub fn new<D: Device>(rig: &mut Rig<'_, D>) -> Result<ScanQueue, EmFault>
@@ -121,7 +121,7 @@ fn pass_all_but_least<D: Device>(
     ensures reader { ReaderHasFrame (seen D.state rig.new) reader.new }
     ensures writer { WriterHasFrame (seen D.state rig.new) writer.new }
     ensures passed { IfOk result (λ item. Passed (seen D.state rig.old) (seen D.state rig.new)
-        reader.old reader.new writer.new item) }
+        reader.old reader.new writer.old writer.new item) }
     ensures costs { PassCosts (seen D.state rig.old) (seen D.state rig.new) }
     ensures full { IfErr result (λ fault.
         OnFull fault ((seen D.state rig.old).used ≡ (seen D.state rig.old).blocks)) }
@@ -131,21 +131,44 @@ fn pass_all_but_least<D: Device>(
         return Ok(None);
     };
     for _ in 1..count {
-        let Some(item) = reader.next(rig)? else {
-            unreachable!()
-        };
-        writer.append(rig, item.max(least))?;
-        least = item.min(least);
+        least = pass_one(rig, reader, writer, least)?;
     }
     Ok(Some(least))
+}
+
+/// Reads one record, and writes the greater of it and `least`. It answers the lesser.
+fn pass_one<D: Device>(
+    rig: &mut Rig<'_, D>,
+    reader: &mut Reader,
+    writer: &mut Writer,
+    least: Record,
+) -> Result<Record, EmFault>
+    requires sound { Sound (seen D.state rig.old) }
+    requires pair { IsPair (seen D.state rig.old) reader.old writer.old }
+    requires some { 0 < (rest_of reader.old).count }
+    requires room { CanGrow writer.old }
+    requires free { 0 < (seen D.state rig.old).pool.free }
+    ensures done { PassesOne (seen D.state rig.old) (seen D.state rig.new)
+        reader.old reader.new writer.old writer.new least result }
+    ensures reader { ReaderHasFrame (seen D.state rig.new) reader.new }
+    ensures writer { WriterHasFrame (seen D.state rig.new) writer.new }
+{
+    let Some(item) = reader.next(rig)? else {
+        unreachable!()
+    };
+    writer.append(rig, item.max(least))?;
+    Ok(item.min(least))
 }
 
 impl Queue for ScanQueue {
     ghost use Rattle.std.specs.Prelude.{None};
     ghost use Rattle.em_plain.specs.ScanQueue.{IsScanQueue, QueueHasFrame, counts_of, one_block, queue_blocks, queue_items};
     ghost use Rattle.em_plain.specs.QueueLaws as laws;
-    ghost use Rattle.std.specs.Prelude.{OnErr, OnOk};
-    ghost use Rattle.em_space.specs.Queue.{CanServe, Ended, Ends, Pays};
+    ghost use Rattle.std.specs.Prelude.{◌↔◌, ◌+◌, Err, IsTrue, OnErr, OnOk};
+    ghost use Rattle.em_record.specs.Order.{Lacks, with_record};
+    ghost use Rattle.em_chain.specs.Writer.{NeedsBlock};
+    ghost use Rattle.em_space.specs.Held.{Within};
+    ghost use Rattle.em_space.specs.Queue.{CanServe, Ended, Ends, LacksBlocks, Pays, Served, Serves};
     ghost use Rattle.em_space.specs.Rig.{IfFull};
 
     ghost items = { λ q s. queue_items s q };
@@ -200,7 +223,39 @@ impl Queue for ScanQueue {
 
     ghost fits = { λ q s h. tt };
 
-    fn push<D: Device>(&mut self, rig: &mut Rig<'_, D>, item: Record) -> Result<(), EmFault> {
+    /// Adds an item. `Full` comes exactly if a block is needed and all are in use (`full_exactly`).
+    fn push<D: Device>(&mut self, rig: &mut Rig<'_, D>, item: Record) -> Result<(), EmFault>
+        requires sound { Sound (seen D.state rig.old) }
+        requires is { IsScanQueue (seen D.state rig.old) self.old }
+        requires free { CanServe (seen D.state rig.old).pool }
+        requires few { (counts_of self.old).n < 2 ^ 100 }
+        requires limit { (counts_of self.old).len < 2 ^ 56 }
+        requires lacks { IsTrue (seen D.state rig.old).device.told
+            → Lacks item (queue_items (seen D.state rig.old) self.old) }
+        ensures serves { Serves (queue_blocks (seen D.state rig.old) self.old)
+            (counts_of self.old) (counts_of self.new)
+            (seen D.state rig.old) (seen D.state rig.new) }
+        ensures frames { QueueHasFrame (seen D.state rig.new) self.new }
+        ensures is { OnOk result (IsScanQueue (seen D.state rig.new) self.new) }
+        ensures items { OnOk result (IsTrue (seen D.state rig.old).device.told
+            → queue_items (seen D.state rig.new) self.new
+            ≡ with_record item (queue_items (seen D.state rig.old) self.old)) }
+        ensures len { OnOk result ((counts_of self.new).len ≡ (counts_of self.old).len + 1) }
+        ensures served { OnOk result (Served (counts_of self.old) (counts_of self.new)
+            (seen D.state rig.old) (seen D.state rig.new)) }
+        ensures within { OnOk result (Within (seen D.state rig.old)
+            (queue_blocks (seen D.state rig.old) self.old)
+            (queue_blocks (seen D.state rig.new) self.new)) }
+        ensures owes { OnErr result (Pays (counts_of self.old).unstored
+            (seen D.state rig.old).pool.shape.frames
+            (seen D.state rig.old) (seen D.state rig.new)) }
+        ensures full { IfErr result (λ fault. IfFull fault (LacksBlocks one_block None
+            (counts_of self.old) (counts_of self.new).k (seen D.state rig.old))) }
+        ensures full_exactly { (result ≡ Err (EmFault.Full (seen D.state rig.old).used))
+            ↔ (NeedsBlock (seen D.state rig.old) self.old.writer
+            × ((seen D.state rig.old).used ≡ (seen D.state rig.old).blocks)) }
+        ensures cause { IfErr result (Cause (seen D.state rig.old) (seen D.state rig.new)) }
+    {
         let before = rig.moves();
         self.count_call();
         let done = self.writer.append(rig, item);

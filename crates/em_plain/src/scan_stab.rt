@@ -1,13 +1,14 @@
-ghost use Rattle.std.specs.Prelude.{◌≡◌, ◌↔◌, ◌+◌, ◌<◌, ◌≤◌, ◌^◌, [], length, Err, IfErr, IfOk, IsOk, IsTrue, OnErr, OnOk};
+ghost use Rattle.std.specs.Prelude.{◌+◌, ◌<◌, ◌≤◌, ◌^◌, [], length, IfErr, IfOk, IsOk, IsTrue, OnErr};
 ghost use Rattle.em_model.specs.declared.command.Command.TheVariants as command;
-ghost use Rattle.em_space.specs.Rig.{Cause, Goes, Sound};
+ghost use Rattle.em_space.specs.Rig.{Cause, Sound};
 ghost use Rattle.em_space.specs.Seen.{seen};
-ghost use Rattle.em_chain.specs.Writer.{NeedsBlock};
+ghost use Rattle.em_chain.specs.Chain.{payload_in};
+ghost use Rattle.em_chain.specs.Counts.{ceiling};
 ghost use Rattle.em_chain.specs.Effects.{Completes, GivesFrame, LendsFrame, OnFull, Unmoved};
 
+use crate::answers::Asks;
 use crate::command_list::CommandList;
-use crate::stab_answers::write_pairs;
-use em_chain::{Chain, discard};
+use em_chain::Chain;
 use em_frames::Device;
 use em_model::Command;
 use em_space::{EmFault, Rig};
@@ -22,7 +23,7 @@ pub struct ScanStab {
 }
 
 impl ScanStab {
-    ghost use Rattle.em_plain.specs.CommandList.{AnsweredBy, BeginsList, NoteCosts, Notes, held, list_len, unstored};
+    ghost use Rattle.em_plain.specs.CommandList.{AnsweredBy, BeginsList, Noted, held, list_len, unstored};
     ghost use Rattle.em_plain.specs.Room.{StaysWithin, plain_room};
     ghost use Rattle.em_plain.specs.ScanStab.{IsScanStab, StabHasFrame, blocks_of, commands_of};
     ghost use Rattle.em_plain.specs.StabAnswers.{stab_pairs};
@@ -55,51 +56,29 @@ impl ScanStab {
         requires free { 6 ≤ (seen D.state rig.old).pool.free }
         requires few { list_len self.old.list < 2 ^ 40 }
         requires order { low ≤ high }
-        ensures goes { Goes (blocks_of (seen D.state rig.old) self.old)
-            (seen D.state rig.old) (seen D.state rig.new) }
-        ensures frame { StabHasFrame (seen D.state rig.new) self.new }
-        ensures notes { OnOk result (Notes (seen D.state rig.old) (seen D.state rig.new)
-            self.old.list self.new.list (command.Interval low high)) }
-        ensures costs { NoteCosts (seen D.state rig.old) (seen D.state rig.new)
-            self.old.list result }
-        ensures full { (result ≡ Err (EmFault.Full (seen D.state rig.old).used))
-            ↔ (NeedsBlock (seen D.state rig.old) self.old.list.writer
-            × ((seen D.state rig.old).used ≡ (seen D.state rig.old).blocks)) }
-        ensures complete { (seen D.state rig.old).used < (seen D.state rig.old).blocks
-            → Completes (seen D.state rig.old) (seen D.state rig.new) result }
-        ensures cause { IfErr result (Cause (seen D.state rig.old) (seen D.state rig.new)) }
+        ensures noted { Noted (seen D.state rig.old) (seen D.state rig.new)
+            self.old.list self.new.list (command.Interval low high) result }
     {
         self.list.note(rig, Command::Interval { low, high })
     }
 
     /// Asks for the earlier intervals that hold the point, which `finish` answers. `Full` comes
-    /// exactly where a block is needed and all are in use.
+    /// exactly if a block is needed and all are in use.
     pub fn stab<D: Device>(&mut self, rig: &mut Rig<'_, D>, point: u64) -> Result<(), EmFault>
         requires sound { Sound (seen D.state rig.old) }
         requires is { IsScanStab (seen D.state rig.old) self.old }
         requires free { 6 ≤ (seen D.state rig.old).pool.free }
         requires few { list_len self.old.list < 2 ^ 40 }
-        ensures goes { Goes (blocks_of (seen D.state rig.old) self.old)
-            (seen D.state rig.old) (seen D.state rig.new) }
-        ensures frame { StabHasFrame (seen D.state rig.new) self.new }
-        ensures notes { OnOk result (Notes (seen D.state rig.old) (seen D.state rig.new)
-            self.old.list self.new.list (command.Stab point)) }
-        ensures costs { NoteCosts (seen D.state rig.old) (seen D.state rig.new)
-            self.old.list result }
-        ensures full { (result ≡ Err (EmFault.Full (seen D.state rig.old).used))
-            ↔ (NeedsBlock (seen D.state rig.old) self.old.list.writer
-            × ((seen D.state rig.old).used ≡ (seen D.state rig.old).blocks)) }
-        ensures complete { (seen D.state rig.old).used < (seen D.state rig.old).blocks
-            → Completes (seen D.state rig.old) (seen D.state rig.new) result }
-        ensures cause { IfErr result (Cause (seen D.state rig.old) (seen D.state rig.new)) }
+        ensures noted { Noted (seen D.state rig.old) (seen D.state rig.new)
+            self.old.list self.new.list (command.Stab point) result }
     {
         self.list.note(rig, Command::Stab { point })
     }
 
     /// The answers to all stabs: a record (number of the stab, number of the interval, 0, 0) for
     /// each interval that was given before the stab and holds its point, both ends included, in the
-    /// order of records. The commands' blocks are released. `Full` comes only where fewer blocks
-    /// are free at the start than are enough.
+    /// order of records. The commands' blocks are released. Over a device that tells, `Full` comes
+    /// only if fewer blocks are free at the start than the answers fill.
     pub fn finish<D: Device>(self, rig: &mut Rig<'_, D>) -> Result<Chain, EmFault>
         requires sound { Sound (seen D.state rig.old) }
         requires is { IsScanStab (seen D.state rig.old) self }
@@ -120,6 +99,15 @@ impl ScanStab {
             < (seen D.state rig.old).used
             + plain_room (seen D.state rig.old).pool.shape (list_len self.list
             + length (stab_pairs (commands_of (seen D.state rig.old) self))))) }
+        ensures full_if_few { IsTrue (seen D.state rig.old).device.told
+            → IfErr result (λ fault. OnFull fault ((seen D.state rig.old).blocks
+            < (seen D.state rig.old).used
+            + ceiling (length (stab_pairs (commands_of (seen D.state rig.old) self)))
+            (payload_in (seen D.state rig.old)))) }
+        ensures complete_if_enough { (seen D.state rig.old).used
+            + ceiling (length (stab_pairs (commands_of (seen D.state rig.old) self)))
+            (payload_in (seen D.state rig.old)) ≤ (seen D.state rig.old).blocks
+            → Completes (seen D.state rig.old) (seen D.state rig.new) result }
         ensures complete { (seen D.state rig.old).used
             + plain_room (seen D.state rig.old).pool.shape (list_len self.list
             + length (stab_pairs (commands_of (seen D.state rig.old) self)))
@@ -128,11 +116,7 @@ impl ScanStab {
         ensures cause { IfErr result (Cause (seen D.state rig.old) (seen D.state rig.new)) }
     {
         let ScanStab { list } = self;
-        let CommandList { writer } = list;
-        let commands = writer.finish(rig)?;
-        let pairs = write_pairs(rig, &commands)?;
-        discard(rig, commands)?;
-        Ok(pairs)
+        list.answer(rig, Asks::Stabs)
     }
 
     /// Gives its frame back, and moves nothing. Its blocks stay in use.

@@ -1,12 +1,15 @@
-ghost use Rattle.std.specs.Prelude.{◌≡◌, ◌+◌, ◌<◌, ◌≤◌, ◌^◌, [], take, IfErr, IfOk, OnOk};
-ghost use Rattle.em_space.specs.Rig.{Goes, Sound};
+ghost use Rattle.std.specs.Prelude.{◌≡◌, ◌+◌, ◌<◌, ◌≤◌, ◌^◌, take};
+ghost use Rattle.em_model.specs.Stab.{holds_point};
+ghost use Rattle.em_space.specs.Rig.{Sound};
 ghost use Rattle.em_space.specs.Seen.{seen};
-ghost use Rattle.em_chain.specs.Chain.{IsChain, chain_items};
+ghost use Rattle.em_chain.specs.Chain.{chain_items};
 ghost use Rattle.em_chain.specs.Reader.{ReaderHasFrame, reader_items};
-ghost use Rattle.em_chain.specs.Writer.{WriterHasFrame, writer_blocks};
-ghost use Rattle.em_plain.specs.Adds.{Adds, AddsBeside, IsAdding, ReadsBeside, ReadsChain, StopsAdding, StopsWriting, Written};
+ghost use Rattle.em_chain.specs.Writer.{WriterHasFrame};
+ghost use Rattle.em_plain.specs.Adds.{AddsTo, IsAdding, ReadsBeside, StepsTo};
+ghost use Rattle.em_plain.specs.Asks.{interval_next, pair_for};
+ghost use Rattle.em_plain.specs.Ready.{ReadyBeside};
 ghost use Rattle.em_plain.specs.StabAnswers.{pair_record};
-ghost use Rattle.em_plain.specs.StabScan.{holder_pairs, next_interval, next_stab, pair_with, pairs_in, pairs_of};
+ghost use Rattle.em_plain.specs.StabPairs.{holder_pairs, next_interval, pair_with, pairs_of};
 
 use crate::command_record::to_command;
 use em_chain::{Chain, Reader, Writer};
@@ -38,20 +41,15 @@ fn interval_after(command: Command, interval: u64) -> u64
     }
 }
 
-/// The number of the next stab after a command.
-fn stab_after(command: Command, stab: u64) -> u64
-    requires room { stab + 1 < 2 ^ 64 }
-    ensures { result ≡ next_stab stab command }
+/// Whether an interval holds a point, both ends included.
+fn holds(low: u64, high: u64, point: u64) -> bool
+    ensures { result ≡ holds_point point (record { number = 0; low = low; high = high }) }
 {
-    match command {
-        Command::Stab { .. } => stab + 1,
-        _ => stab,
-    }
+    low <= point && point <= high
 }
 
-/// Writes the pair of a stab and of the interval of this number, where the command is an interval
-/// that holds the point.
-#[tactic(auto, using(crate::proofs::Adding::adding_can_grow))]
+/// Writes the pair of a stab and of the interval of this number, if the command is an interval that
+/// holds the point.
 fn add_holder<D: Device>(
     rig: &mut Rig<'_, D>,
     command: Command,
@@ -63,20 +61,49 @@ fn add_holder<D: Device>(
     requires sound { Sound (seen D.state rig.old) }
     requires is { IsAdding (seen D.state rig.old) writer.old }
     requires free { 0 < (seen D.state rig.old).pool.free }
-    ensures goes { Goes (writer_blocks (seen D.state rig.old) writer.old)
-        (seen D.state rig.old) (seen D.state rig.new) }
+    ensures done { AddsTo 1 (seen D.state rig.old) (seen D.state rig.new) writer.old writer.new
+        (pair_with stab point interval command) result }
     ensures frame { WriterHasFrame (seen D.state rig.new) writer.new }
-    ensures adds { OnOk result (Adds (seen D.state rig.old) (seen D.state rig.new)
-        writer.old writer.new (pair_with stab point interval command)) }
-    ensures stops { IfErr result (StopsAdding (seen D.state rig.old) (seen D.state rig.new)
-        writer.old (pair_with stab point interval command)) }
 {
     match command {
-        Command::Interval { low, high } if low <= point && point <= high => {
-            writer.append(rig, to_pair(stab, interval))
+        Command::Interval { low, high } => {
+            if holds(low, high, point) {
+                writer.append(rig, to_pair(stab, interval))
+            } else {
+                Ok(())
+            }
         }
         _ => Ok(()),
     }
+}
+
+/// Reads a command, and writes its pair with a stab, if it has one. It gives the number of the next
+/// interval.
+fn next_holder<D: Device>(
+    rig: &mut Rig<'_, D>,
+    reader: &mut Reader,
+    interval: u64,
+    stab: u64,
+    point: u64,
+    writer: &mut Writer,
+) -> Result<u64, EmFault>
+    requires sound { Sound (seen D.state rig.old) }
+    requires beside { ReadsBeside (seen D.state rig.old) reader.old writer.old }
+    requires free { 0 < (seen D.state rig.old).pool.free }
+    requires some { 0 < reader.old.count }
+    requires room { interval + 1 < 2 ^ 64 }
+    ensures done { StepsTo 1 interval interval_next (pair_for stab point interval)
+        (seen D.state rig.old) (seen D.state rig.new)
+        reader.old reader.new writer.old writer.new result }
+    ensures reader_frame { ReaderHasFrame (seen D.state rig.new) reader.new }
+    ensures writer_frame { WriterHasFrame (seen D.state rig.new) writer.new }
+{
+    let Some(item) = reader.next(rig)? else {
+        unreachable!()
+    };
+    let command = to_command(item);
+    add_holder(rig, command, interval, stab, point, writer)?;
+    Ok(interval_after(command, interval))
 }
 
 /// Writes the pairs of a stab with the next `number` commands of a reader.
@@ -92,25 +119,15 @@ fn holders_by<D: Device>(
     requires beside { ReadsBeside (seen D.state rig.old) reader.old writer.old }
     requires free { 0 < (seen D.state rig.old).pool.free }
     requires number { number ≤ reader.old.count }
-    ensures goes { Goes (writer_blocks (seen D.state rig.old) writer.old)
-        (seen D.state rig.old) (seen D.state rig.new) }
+    ensures done { AddsTo number (seen D.state rig.old) (seen D.state rig.new)
+        writer.old writer.new (holder_pairs stab point
+        (take number (reader_items (seen D.state rig.old) reader.old))) result }
     ensures reader_frame { ReaderHasFrame (seen D.state rig.new) reader.new }
     ensures writer_frame { WriterHasFrame (seen D.state rig.new) writer.new }
-    ensures adds { OnOk result (Adds (seen D.state rig.old) (seen D.state rig.new)
-        writer.old writer.new (holder_pairs stab point
-        (take number (reader_items (seen D.state rig.old) reader.old)))) }
-    ensures stops { IfErr result (StopsAdding (seen D.state rig.old) (seen D.state rig.new)
-        writer.old (holder_pairs stab point
-        (take number (reader_items (seen D.state rig.old) reader.old)))) }
 {
     let mut interval = 0;
     for _ in 0..number {
-        let Some(item) = reader.next(rig)? else {
-            return Ok(());
-        };
-        let command = to_command(item);
-        add_holder(rig, command, interval, stab, point, writer)?;
-        interval = interval_after(command, interval);
+        interval = next_holder(rig, reader, interval, stab, point, writer)?;
     }
     Ok(())
 }
@@ -124,19 +141,11 @@ fn holders_before<D: Device>(
     point: u64,
     writer: &mut Writer,
 ) -> Result<(), EmFault>
-    requires sound { Sound (seen D.state rig.old) }
-    requires beside { AddsBeside (seen D.state rig.old) chain.now writer.old }
-    requires free { 1 < (seen D.state rig.old).pool.free }
-    requires number { number ≤ chain.now.count }
-    ensures goes { Goes (writer_blocks (seen D.state rig.old) writer.old)
-        (seen D.state rig.old) (seen D.state rig.new) }
-    ensures frame { WriterHasFrame (seen D.state rig.new) writer.new }
-    ensures adds { OnOk result (Adds (seen D.state rig.old) (seen D.state rig.new)
+    requires ready { ReadyBeside number (seen D.state rig.old) chain.now writer.old }
+    ensures done { AddsTo number (seen D.state rig.old) (seen D.state rig.new)
         writer.old writer.new (holder_pairs stab point
-        (take number (chain_items (seen D.state rig.old) chain.now)))) }
-    ensures stops { IfErr result (StopsAdding (seen D.state rig.old) (seen D.state rig.new)
-        writer.old (holder_pairs stab point
-        (take number (chain_items (seen D.state rig.old) chain.now)))) }
+        (take number (chain_items (seen D.state rig.old) chain.now))) result }
+    ensures frame { WriterHasFrame (seen D.state rig.new) writer.new }
 {
     let mut reader = Reader::over(rig, chain);
     let done = holders_by(rig, &mut reader, number, stab, point, writer);
@@ -144,9 +153,9 @@ fn holders_before<D: Device>(
     done
 }
 
-/// Writes the pairs of a command that follows the first `number` ones of a chain, where it is a
-/// stab, which has this number.
-fn answer_one<D: Device>(
+/// Writes the pairs of a command that follows the first `number` ones of a chain, if it is a stab,
+/// which has this number.
+pub(crate) fn answer_stab<D: Device>(
     rig: &mut Rig<'_, D>,
     chain: &Chain,
     number: u64,
@@ -154,99 +163,14 @@ fn answer_one<D: Device>(
     stab: u64,
     writer: &mut Writer,
 ) -> Result<(), EmFault>
-    requires sound { Sound (seen D.state rig.old) }
-    requires beside { AddsBeside (seen D.state rig.old) chain.now writer.old }
-    requires free { 1 < (seen D.state rig.old).pool.free }
-    requires number { number ≤ chain.now.count }
-    ensures goes { Goes (writer_blocks (seen D.state rig.old) writer.old)
-        (seen D.state rig.old) (seen D.state rig.new) }
-    ensures frame { WriterHasFrame (seen D.state rig.new) writer.new }
-    ensures adds { OnOk result (Adds (seen D.state rig.old) (seen D.state rig.new)
+    requires ready { ReadyBeside number (seen D.state rig.old) chain.now writer.old }
+    ensures done { AddsTo chain.now.count (seen D.state rig.old) (seen D.state rig.new)
         writer.old writer.new (pairs_of stab
-        (take number (chain_items (seen D.state rig.old) chain.now)) command)) }
-    ensures stops { IfErr result (StopsAdding (seen D.state rig.old) (seen D.state rig.new)
-        writer.old (pairs_of stab
-        (take number (chain_items (seen D.state rig.old) chain.now)) command)) }
+        (take number (chain_items (seen D.state rig.old) chain.now)) command) result }
+    ensures frame { WriterHasFrame (seen D.state rig.new) writer.new }
 {
     match command {
         Command::Stab { point } => holders_before(rig, chain, number, stab, point, writer),
         _ => Ok(()),
-    }
-}
-
-/// Writes the pairs of all commands that a reader of a chain gives.
-fn answer_by<D: Device>(
-    rig: &mut Rig<'_, D>,
-    reader: &mut Reader,
-    chain: &Chain,
-    writer: &mut Writer,
-) -> Result<(), EmFault>
-    requires sound { Sound (seen D.state rig.old) }
-    requires beside { AddsBeside (seen D.state rig.old) chain.now writer.old }
-    requires reads { ReadsChain (seen D.state rig.old) reader.old chain.now }
-    requires free { 1 < (seen D.state rig.old).pool.free }
-    ensures goes { Goes (writer_blocks (seen D.state rig.old) writer.old)
-        (seen D.state rig.old) (seen D.state rig.new) }
-    ensures reader_frame { ReaderHasFrame (seen D.state rig.new) reader.new }
-    ensures writer_frame { WriterHasFrame (seen D.state rig.new) writer.new }
-    ensures adds { OnOk result (Adds (seen D.state rig.old) (seen D.state rig.new)
-        writer.old writer.new (pairs_in (chain_items (seen D.state rig.old) chain.now))) }
-    ensures stops { IfErr result (StopsAdding (seen D.state rig.old) (seen D.state rig.new)
-        writer.old (pairs_in (chain_items (seen D.state rig.old) chain.now))) }
-{
-    let mut stab = 0;
-    for number in 0..chain.len() {
-        let Some(item) = reader.next(rig)? else {
-            return Ok(());
-        };
-        let command = to_command(item);
-        answer_one(rig, chain, number, command, stab, writer)?;
-        stab = stab_after(command, stab);
-    }
-    Ok(())
-}
-
-/// Writes the pairs of all commands of a chain.
-fn answer_all<D: Device>(
-    rig: &mut Rig<'_, D>,
-    chain: &Chain,
-    writer: &mut Writer,
-) -> Result<(), EmFault>
-    requires sound { Sound (seen D.state rig.old) }
-    requires beside { AddsBeside (seen D.state rig.old) chain.now writer.old }
-    requires free { 2 < (seen D.state rig.old).pool.free }
-    ensures goes { Goes (writer_blocks (seen D.state rig.old) writer.old)
-        (seen D.state rig.old) (seen D.state rig.new) }
-    ensures frame { WriterHasFrame (seen D.state rig.new) writer.new }
-    ensures adds { OnOk result (Adds (seen D.state rig.old) (seen D.state rig.new)
-        writer.old writer.new (pairs_in (chain_items (seen D.state rig.old) chain.now))) }
-    ensures stops { IfErr result (StopsAdding (seen D.state rig.old) (seen D.state rig.new)
-        writer.old (pairs_in (chain_items (seen D.state rig.old) chain.now))) }
-{
-    let mut reader = Reader::over(rig, chain);
-    let done = answer_by(rig, &mut reader, chain, writer);
-    reader.abandon(rig);
-    done
-}
-
-/// The pairs of each stab of a chain of commands with the intervals before it that hold its point.
-/// For each stab the chain is read again up to it.
-pub(crate) fn write_pairs<D: Device>(rig: &mut Rig<'_, D>, chain: &Chain) -> Result<Chain, EmFault>
-    requires sound { Sound (seen D.state rig.old) }
-    requires is { IsChain (seen D.state rig.old) chain.now }
-    requires free { 3 < (seen D.state rig.old).pool.free }
-    ensures goes { Goes [] (seen D.state rig.old) (seen D.state rig.new) }
-    ensures written { IfOk result (λ pairs. Written (seen D.state rig.old) (seen D.state rig.new)
-        pairs (pairs_in (chain_items (seen D.state rig.old) chain.now))) }
-    ensures stops { IfErr result (StopsWriting (seen D.state rig.old) (seen D.state rig.new)
-        (pairs_in (chain_items (seen D.state rig.old) chain.now))) }
-{
-    let mut writer = Writer::new(rig);
-    match answer_all(rig, chain, &mut writer) {
-        Ok(()) => writer.finish(rig),
-        Err(fault) => {
-            writer.abandon(rig);
-            Err(fault)
-        }
     }
 }

@@ -1,2 +1,5 @@
+pub mod Blocks
+pub mod Commutes
+pub mod Lacking
 pub mod Levels
 pub mod Order

@@ -1,6 +1,6 @@
 -- Records in order.
-use Rattle.std.proofs.Common.{◌≡◌, ◌+◌, List, [], ◌∷◌, ◌++◌, length, Bool, true, false, refl, ap, ◌∙◌, arith, ◌⊎◌, inl, inr, ⊎_elim}
-use Rattle.std.proofs.lemmas.Bool.{cond-true, cond-false}
+use Rattle.std.proofs.Common.{◌≡◌, ◌+◌, List, [], ◌∷◌, ◌++◌, length, true, false, refl, ap, ◌∙◌, arith, ⊎_elim}
+use Rattle.std.proofs.lemmas.Bool.{cases_Bool, cond-true, cond-false}
 use Rattle.std.proofs.lemmas.Cmp.{then_total, on_total, nat_cmp_total}
 use Rattle.std.proofs.lemmas.List.Sorted.{ranks_by}
 use Rattle.std.specs.Cmp.{IsTotalOrder, IsStrictWeakOrder}
@@ -24,10 +24,6 @@ at_least_trans low mid [] e h = tt
 at_least_trans low mid (x ∷ xs) e h =
     (below_ranks.chain x mid low h.0 e, at_least_trans low mid xs e h.1)
 
-test : (b : Bool) → (b ≡ true) ⊎ (b ≡ false)
-test true = inl refl
-test false = inr refl
-
 -- one more record keeps what none is below
 pub at_least_with : (low x : Record) (ys : List Record) → is_below x low ≡ false → AtLeast low ys
     → AtLeast low (with_record x ys)
@@ -35,7 +31,7 @@ at_least_with low x [] e h = (e, tt)
 at_least_with low x (y ∷ ys) e h = ⊎_elim
     (λ (t : is_below y x ≡ true). rw t (h.0, at_least_with low x ys e h.1))
     (λ (f : is_below y x ≡ false). rw f (e, h))
-    (test (is_below y x))
+    (cases_Bool (is_below y x))
 
 -- An ascending list with one more record ascends.
 pub with_ascends : (x : Record) (ys : List Record) → IsAscending ys → IsAscending (with_record x ys)
@@ -45,7 +41,7 @@ with_ascends x (y ∷ ys) h = ⊎_elim
     rw t (at_least_with y x ys (below_ranks.one_way y x t) h.0, with_ascends x ys h.1))
     (λ (f : is_below y x ≡ false).
     rw f ((f, at_least_trans x y ys f h.0), h))
-    (test (is_below y x))
+    (cases_Bool (is_below y x))
 
 pub all_ascend : (ys xs : List Record) → IsAscending ys → IsAscending (with_records ys xs)
 all_ascend ys [] h = h
@@ -60,7 +56,12 @@ pub with_least : (x : Record) (ys : List Record) → AtLeast x ys → with_recor
 with_least x [] h = refl
 with_least x (y ∷ ys) h = cond-false _ _ _ h.0
 
--- and one that isn't the first goes behind the first
+-- one that the first isn't below comes first
+pub with_first : (x y : Record) (ys : List Record) → is_below y x ≡ false
+    → with_record x (y ∷ ys) ≡ x ∷ y ∷ ys
+with_first x y ys h = cond-false _ _ _ h
+
+-- one that the first is below goes after the first
 pub with_later : (x y : Record) (ys : List Record) → is_below y x ≡ true
     → with_record x (y ∷ ys) ≡ y ∷ with_record x ys
 with_later x y ys h = cond-true _ _ _ h
@@ -87,7 +88,7 @@ length_with x (y ∷ ys) = ⊎_elim
     (λ (t : is_below y x ≡ true).
     ap length (cond-true _ _ _ t) ∙ (let e = length_with x ys in omega arith))
     (λ (f : is_below y x ≡ false). ap length (cond-false _ _ _ f) ∙ omega arith)
-    (test (is_below y x))
+    (cases_Bool (is_below y x))
 
 pub length_records : (ys xs : List Record)
     → length (with_records ys xs) ≡ length ys + length xs

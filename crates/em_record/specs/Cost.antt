@@ -17,11 +17,12 @@ lev_within (suc most) fan x = if nat_le x 1 then 0 else 1 + lev_within most fan 
 abbrev pub lev : ShapeNumbers → ℕ → ℕ
 lev shape x = lev_within x (fan_of shape) x
 
--- the block transfers that a run of size n may make
+-- 2048 moves for each block that n records fill, and one more, at each level and once more. No call is
+-- held to it yet. The room that the top call asks is this number of blocks and 4m more.
 abbrev pub cost : ShapeNumbers → ℕ → ℕ
 cost shape n = 2048 * (blocks_of shape n + 1) * (1 + lev shape (blocks_of shape n))
 
--- the blocks that are enough for a run of size n
+-- another room for a run of size n: nothing uses it yet
 abbrev pub room : ShapeNumbers → ℕ → ℕ
 room shape n =
     96 * (blocks_of shape n + 1) + 2 * shape.frames * (3 + lev shape (blocks_of shape n))

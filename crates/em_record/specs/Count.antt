@@ -9,7 +9,7 @@ next_count n = min (n + 1) (2 ^ 64 - 1)
 abbrev pub Rose : ℕ → ℕ → Type 0
 Rose old new = next_count old ≤ new
 
--- The count of faults did not fall, and a failure is answered only where it rose.
+-- The count of faults did not fall, and a failure is answered only if it rose.
 pub record HasCause {T E : Type 0} (old new : ℕ) (result : Result T E) : Type 0 where
   pub later : old ≤ new
   pub failed : OnErr result (Rose old new)

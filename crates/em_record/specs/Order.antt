@@ -23,7 +23,7 @@ abbrev pub IsAscending : List Record → Type 0
 IsAscending [] = Unit {0}
 IsAscending (x ∷ xs) = AtLeast x xs × IsAscending xs
 
--- an ascending list with one more record, behind those that are below it
+-- an ascending list with one more record, after those that are below it
 abbrev pub with_record : Record → List Record → List Record
 with_record x [] = x ∷ []
 with_record x (y ∷ ys) = if is_below y x then y ∷ with_record x ys else x ∷ y ∷ ys
@@ -36,3 +36,13 @@ with_records ys (x ∷ xs) = with_records (with_record x ys) xs
 -- some records in ascending order
 abbrev pub in_order : List Record → List Record
 in_order xs = with_records [] xs
+
+-- no record of the second list is below one of the first
+abbrev pub AllAtLeast : List Record → List Record → Type 0
+AllAtLeast [] ys = Unit {0}
+AllAtLeast (x ∷ xs) ys = AtLeast x ys × AllAtLeast xs ys
+
+-- no item has the words a and b of this record
+abbrev pub Lacks : Record → List Record → Type 0
+Lacks x [] = Unit {0}
+Lacks x (y ∷ ys) = (y.a ≡ x.a → y.b ≡ x.b → ⊥) × Lacks x ys

@@ -25,7 +25,7 @@ pub fn lev(shape: &Shape, x: u64) -> u64
     levels
 }
 
-/// The block transfers that a run of size `n` may make.
+/// The number `cost`: no call bounds its moves by it yet. The top call asks a room of `cost` and 4m more blocks.
 pub fn cost(shape: &Shape, n: u64) -> u128
     ensures { result ≡ cost shape.now n }
 {
@@ -33,7 +33,7 @@ pub fn cost(shape: &Shape, n: u64) -> u128
     2048 * (blocks as u128 + 1) * (1 + lev(shape, blocks) as u128)
 }
 
-/// The blocks that are enough for a run of size `n`.
+/// The number `room`, another room for a run of size `n`: nothing uses it yet.
 pub fn room(shape: &Shape, n: u64) -> u128
     ensures { result ≡ room shape.now n }
 {

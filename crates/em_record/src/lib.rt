@@ -12,6 +12,3 @@ pub use calls::Calls;
 pub use fault::{Failed, NoMemory, ShapeFault};
 pub use record::Record;
 pub use shape::Shape;
-
-#[cfg(test)]
-mod tests;

@@ -3,7 +3,7 @@ use Rattle.std.proofs.Common.{ℕ, List, [], ◌∷◌, ◌++◌, IsTrue, subst}
 use Rattle.em_space.specs.Free.{Off}
 use Rattle.em_space.specs.Rig.{RigState, InUse, Goes}
 use Rattle.em_space.specs.Held.{Apart, AllInUse, NoneInUse}
-use Rattle.em_space.proofs.Steps.{touches_trans, same_frames_then}
+use Rattle.em_space.proofs.Steps.{goes_trans}
 
 -- a block that is none of two lists, and one that is none of both together
 pub off_append : (k : ℕ) (xs ys : List ℕ) → Off k xs → Off k ys → Off k (xs ++ ys)
@@ -32,8 +32,5 @@ apart_new s (k ∷ ks) js u n = (off_new s k js u.0 n, apart_new s ks js u.1 n)
 -- The second call changes blocks that weren't in use before the first.
 pub goes_made : (ks : List ℕ) (a b c : RigState) → (IsTrue a.device.told → NoneInUse a ks)
     → Goes [] a b → Goes ks b c → Goes [] a c
-goes_made ks a b c fresh x y = record {
-  sound = y.sound;
-  touches = touches_trans [] ks a b c x.touches y.touches (λ t k u o. off_new a k ks u (fresh t));
-  frames = same_frames_then a.pool b.pool c.pool x.frames y.frames;
-}
+goes_made ks a b c fresh x y =
+    goes_trans [] ks a b c x y (λ t k u o. off_new a k ks u (fresh t))

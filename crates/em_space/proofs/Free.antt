@@ -45,7 +45,7 @@ all_off : (k : ℕ) (ks : List ℕ) → Off k ks → AllByRecursion (λ y. eqb k
 all_off k [] h = tt
 all_off k (x ∷ xs) h = (ne_eqb k x h.0, all_off k xs h.1)
 
-distinct-std : (ks : List ℕ) → AreDistinct ks → IsDistinct eqb ks
+pub distinct-std : (ks : List ℕ) → AreDistinct ks → IsDistinct eqb ks
 unfolding IsDistinct
 distinct-std [] h = tt
 distinct-std (x ∷ xs) h = (all_off x xs h.0, distinct-std xs h.1)
@@ -54,7 +54,7 @@ or_cases : (a b : Bool) → (a || b) ≡ true → (a ≡ true) ⊎ (b ≡ true)
 or_cases true b e = inl refl
 or_cases false b e = inr e
 
-below-any : (n : ℕ) (ks : List ℕ) (q : ℕ) → AreBelow n ks → list_any (eqb q) ks ≡ true → q < n
+pub below-any : (n : ℕ) (ks : List ℕ) (q : ℕ) → AreBelow n ks → list_any (eqb q) ks ≡ true → q < n
 below-any n [] q h e = absurd (false≢true e)
 below-any n (x ∷ xs) q h e =
     ⊎_elim (λ y. let s : q ≡ x = eqb-true q x y in let l = h.0 in omega arith)

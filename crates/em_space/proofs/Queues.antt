@@ -62,7 +62,7 @@ out_lent n c p q o l = record {
   areas = rw l.free_areas o.areas;
 }
 
--- and when these come back behind calls of the queue.
+-- and when these come back after calls of the queue.
 pub out_given : (n : ℕ) (c d : QueueCounts) (p q r s : PoolCounts) → AreOut c p
     → LentFrames n p q → Shares c d q r → GivenFrames n r s → AreOut d s
 out_given n c d p q r s o l h g = record {

@@ -1,31 +1,16 @@
 -- What the steps of a rig's calls leave of its state.
-use Rattle.std.proofs.Common.{◌≡◌, ◌↔◌, ℕ, zero, suc, ◌+◌, ◌-◌, ◌<◌, ◌≤◌, List, [], ◌∷◌, length, get_or, refl, sym, ap, ◌∙◌, arith, true, false, Bool, IsTrue, IsFalse, add-one, inl, inr, ⊎_elim, Result}
+use Rattle.std.proofs.Common.{◌≡◌, ◌↔◌, ℕ, zero, suc, ◌+◌, ◌-◌, ◌<◌, ◌≤◌, List, [], ◌∷◌, length, get_or, refl, sym, ap, ◌∙◌, arith, IsTrue, IsFalse, add-one, inl, inr, ⊎_elim, Result}
 use Rattle.std.proofs.lemmas.List.{get_or-set_other}
 use Rattle.em_record.specs.Count.{next_count}
 use Rattle.em_record.specs.declared.record.Record.{Record}
 use Rattle.em_frames.specs.Device.{DeviceState, IsMove, ChangesOnly, block_at}
-use Rattle.em_frames.specs.Pool.{PoolCounts, SameFrames}
+use Rattle.em_frames.specs.Pool.{SameFrames}
 use Rattle.em_space.specs.Free.{header, link_at, IsTaken}
 use Rattle.em_space.specs.Inner.{Reads, WritesLink, IsFreeHeader}
 use Rattle.em_space.specs.Rig.{RigState, Sound, InUse, Goes, SameBlocks, NoneNew, Allocates, Releases}
 use Rattle.em_space.proofs.Free.{laid_out-set, free_list-set, taken-set, taken-before, free_list-first, IsFirst, first-is, taken-first, taken-unless, first-untaken, Frees, free_list-freed, taken-freed, untaken-freed, freed-untaken, some-used}
 use Rattle.em_space.proofs.Held.{in_use_below}
-
-not-told : (b : Bool) → (IsTrue b → ⊥) → IsFalse b
-not-told true h = absurd (h refl)
-not-told false h = refl
-
-pub both_told : (b : Bool) → IsTrue b → IsFalse b → ⊥
-both_told b t f = cc
-
-same_frames : (p : PoolCounts) → SameFrames p p
-same_frames p = record {
-  shape = refl;
-  free = refl;
-  rack = refl;
-  free_areas = refl;
-  peak = omega arith;
-}
+use Rattle.em_space.proofs.Steps.{both_told, same_frames, touches_again, untold_by}
 
 -- A block in use is written.
 pub record Writes {T E : Type 0} (s : RigState) (d : DeviceState) (m k n : ℕ) (r : Result T E)
@@ -49,6 +34,7 @@ sound_written s d m k n r w =
       block_is = w.moved.block ∙ h.block_is;
       moves_is = w.moved.moves ∙ ap next_count h.moves_is ∙ sym w.moves;
       shape = h.shape;
+      singles = h.singles;
       areas = h.areas;
       numbers = h.numbers;
       told = λ t. let y : IsTrue s.device.told = sym w.moved.told ∙ t in
@@ -159,6 +145,7 @@ goes_first-sound s k link f =
       block_is = f.sound.block_is;
       moves_is = f.sound.moves_is;
       shape = f.sound.shape;
+      singles = f.sound.singles;
       areas = f.sound.areas;
       numbers = record {
         blocks_low = x.blocks_low;
@@ -182,28 +169,13 @@ goes_first s k link f =
     let some : s.used < s.most = x.some_freed (omega arith) in
     record {
       sound = goes_first-sound s k link f;
-      touches = record {
-        name = refl;
-        told = refl;
-        blocks = refl;
-        shape = refl;
-        faults = omega arith;
-        most = omega arith;
-        moves = omega arith;
-        others = λ t j u o. record {
-          in_use = record {
-            told = λ y.
-                rw (f.link_is y) (taken-first s.device.contents s.most s.used k some j
-                (rw (head, add-one) at u.told y));
-            untold = u.untold;
-          };
-          contents = refl;
-        };
-      };
+      touches = touches_again s s.pool link (s.used + 1) refl (λ j y u.
+          rw (f.link_is y) (taken-first s.device.contents s.most s.used k some j
+          (rw (head, add-one) at u)));
       frames = same_frames s.pool;
     }
 
--- what is known of the first free block, where the device tells
+-- what is known of the first free block, if the device tells
 pub first_told : (s : RigState) (k : ℕ) → Sound s → s.head ≡ k + 1 → IsTrue s.device.told
     → IsFirst s.device.contents s.most s.used k
 first_told s k h head y =
@@ -244,7 +216,7 @@ one_left bs most used k f (suc n) e h = let y = f.more (omega arith) in absurd (
 pub untold_first : (s : RigState) (k : ℕ) (first : Record) → Sound s → s.head ≡ k + 1
     → (IsTrue s.device.told → first ≡ header (block_at s.device k))
     → (IsFreeHeader first s.blocks (s.most - s.used) → ⊥) → IsFalse s.device.told
-untold_first s k first h head is other = not-told s.device.told (λ y.
+untold_first s k first h head is other = untold_by s.device.told (λ y.
     let e = is y in
     let f = first_told s k h head y in
     let a : first.a ≡ link_at s.device.contents k = ap (λ (r : Record). r.a) e in
@@ -316,6 +288,7 @@ module _ (s t : RigState) (k : ℕ) (f : FreesBlock s t k) where
         block_is = g.block_is;
         moves_is = g.moves_is;
         shape = g.shape;
+        singles = g.singles;
         areas = g.areas;
         numbers = record {
           blocks_low = g.numbers.blocks_low;
@@ -382,8 +355,8 @@ module _ (s t : RigState) (k : ℕ) (f : FreesBlock s t k) where
     };
   }
 
--- with no block in use, a block counts as in use only where the device doesn't tell
+-- with no block in use, a block counts as in use only if the device doesn't tell
 pub none_used : (s : RigState) (k : ℕ) → Sound s → InUse s k → s.used ≡ 0 → IsFalse s.device.told
-none_used s k h u e = not-told s.device.told (λ y.
+none_used s k h u e = untold_by s.device.told (λ y.
     let p = some-used s.device.contents s.most s.used s.head k (h.free y) (u.told y) in
     absurd (omega arith))

@@ -3,7 +3,7 @@ use Rattle.std.proofs.Common.{◌≡◌, ℕ, List, [], ◌∷◌, ◌++◌, len
 use Rattle.em_space.specs.Rig.{RigState, Touches, Goes}
 use Rattle.em_space.specs.Held.{Apart, AllInUse, NoneInUse, Within}
 use Rattle.em_space.proofs.Apart.{off_left, off_new, off_right}
-use Rattle.em_space.proofs.Steps.{touches_trans, same_frames_then}
+use Rattle.em_space.proofs.Steps.{goes_trans, touches_trans, touches_wider}
 
 pub within_same : (s : RigState) (ks : List ℕ) → Within s ks ks
 within_same s ks = record { off = λ z j u o. o }
@@ -48,10 +48,14 @@ touches_within s t u held ks h a g = touches_trans held ks s t u h g (λ z j i o
 -- a call that may change blocks of what was held, or blocks that weren't in use at first
 pub goes_within : (held ks : List ℕ) (a b c : RigState) → Goes held a b → Within a held ks
     → Goes ks b c → Goes held a c
-goes_within held ks a b c x w y = record {
-  sound = y.sound;
-  touches = touches_within a b c held ks x.touches w y.touches;
-  frames = same_frames_then a.pool b.pool c.pool x.frames y.frames;
+goes_within held ks a b c x w y = goes_trans held ks a b c x y (λ z k u o. w.off z k u o)
+
+-- a call that may change blocks of a longer list
+pub goes_wider : (h g : List ℕ) (a b : RigState) → Within a h g → Goes g a b → Goes h a b
+goes_wider h g a b w x = record {
+  sound = x.sound;
+  touches = touches_wider h g a b x.touches w.off;
+  frames = x.frames;
 }
 
 -- what was apart from the held blocks is apart from those of the result

@@ -46,7 +46,7 @@ AreLinked contents link (k ∷ ks) =
     × (header (get_or contents k []) ≡ free_header (link_at contents k))
     × AreLinked contents (link_at contents k) ks
 
--- the free blocks among the first ones, of which so many are in use
+-- the free blocks among the first ones, of which this many are in use
 abbrev pub free_blocks : List (List Record) → ℕ → ℕ → ℕ → List ℕ
 free_blocks contents most used head = linked_from (most - used) contents head
 

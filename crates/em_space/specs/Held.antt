@@ -24,7 +24,7 @@ NoneInUse s (k ∷ ks) = (InUse s k → ⊥) × NoneInUse s ks
 abbrev pub contents_of : RigState → List ℕ → List (List Record)
 contents_of s ks = map (λ k. block_at s.device k) ks
 
--- A value holds these blocks: all are in use, and where the device tells, none stands there twice.
+-- A value holds these blocks: all are in use, and if the device tells, none stands there twice.
 pub record Holds (s : RigState) (ks : List ℕ) : Type 0 where
   pub in_use : AllInUse s ks
   pub distinct : IsTrue s.device.told → AreDistinct ks

@@ -5,7 +5,7 @@ use Rattle.em_record.specs.declared.record.Record.{Record}
 use Rattle.em_space.specs.Free.{header, free_header}
 use Rattle.em_space.specs.Rig.{RigState, SameBlocks}
 
--- The first of so many linked blocks has this header: a link to another exactly where there is one
+-- The first of this many linked blocks has this header: a link to another exactly if there is one
 -- more, and to a block of the device.
 pub record IsFreeHeader (first : Record) (blocks count : ℕ) : Type 0 where
   pub is : first ≡ free_header first.a

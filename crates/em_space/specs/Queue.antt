@@ -1,7 +1,6 @@
 -- What every queue over a rig promises: docs/CONTRACTS.md, "Queues".
-use Rattle.std.specs.Prelude.{◌≡◌, ◌==◌, ℕ, ◌+◌, ◌*◌, ◌<◌, ◌≤◌, ◌-◌, ◌^◌, ◌⊎◌, max, if◌then◌else◌, List, [], ◌∷◌, Option, IfSome, false}
+use Rattle.std.specs.Prelude.{◌≡◌, ◌==◌, ℕ, ◌+◌, ◌*◌, ◌<◌, ◌≤◌, ◌-◌, ◌^◌, ◌⊎◌, max, if◌then◌else◌, List, [], Option, IfSome, false}
 use Rattle.em_record.specs.Shape.{ShapeNumbers, fan_of}
-use Rattle.em_record.specs.declared.record.Record.{Record}
 use Rattle.em_frames.specs.Pool.{PoolCounts, singles_of}
 use Rattle.em_space.specs.Rig.{RigState, Sound, Touches}
 
@@ -26,25 +25,11 @@ pub record QueueCounts : Type 0 where
   -- at no moment of its calls did it hold more blocks
   pub most : ℕ
 
--- a queue into which nothing was pushed, with no block
-abbrev pub fresh_counts : ℕ → ℕ → QueueCounts
-fresh_counts frames areas = record {
-  len = 0;
-  n = 0;
-  k = 0;
-  since = 0;
-  spent = 0;
-  frames = frames;
-  areas = areas;
-  blocks = 0;
-  unstored = 0;
-  most = 0;
-}
-
--- no item has the words a and b of this record
-abbrev pub Lacks : Record → List Record → Type 0
-Lacks x [] = Unit {0}
-Lacks x (y ∷ ys) = (y.a ≡ x.a → y.b ≡ x.b → ⊥) × Lacks x ys
+-- Nothing was pushed into it, and nothing popped.
+pub record IsNew (c : QueueCounts) : Type 0 where
+  pub n : c.n ≡ 0
+  pub len : c.len ≡ 0
+  pub k : c.k ≡ 0
 
 -- The frames that a call of a queue may need are free: 2f + 4 single ones, an area and the rack.
 pub record CanServe (p : PoolCounts) : Type 0 where
@@ -65,7 +50,7 @@ pub record Shares (c d : QueueCounts) (p q : PoolCounts) : Type 0 where
   pub rack : q.rack_out ≡ p.rack_out
   pub peak : p.peak ≤ q.peak
 
--- The blocks in use, less so many that weren't stored before and more so many that aren't now, rose
+-- The blocks in use, less this many that weren't stored before and more this many that aren't now, rose
 -- by at most the moves made; or the count of moves stands at its end.
 pub record Pays (before after : ℕ) (old new : RigState) : Type 0 where
   pub is : (2 ^ 64 - 1 ≤ new.moves) ⊎ (new.used + old.moves + before ≤ old.used + new.moves + after)
@@ -92,8 +77,8 @@ pub record Served (c d : QueueCounts) (old new : RigState) : Type 0 where
   pub used : new.used + c.blocks ≡ old.used + d.blocks
   pub pays : Pays c.unstored d.unstored old new
 
--- All blocks are in use, so many in number: fewer than enough were free at the start, and with the
--- blocks of others the queue's room is more than all of them.
+-- Fewer than `enough` of the `used` blocks were free before the call, and the queue's room with the
+-- blocks of others is more than all of them. It isn't said that the call needed a block.
 pub record LacksBlocks (enough : ShapeNumbers → QueueCounts → ℕ)
     (room : Option (ShapeNumbers → ℕ → ℕ)) (c : QueueCounts) (k : ℕ) (old : RigState) (used : ℕ)
     : Type 0 where

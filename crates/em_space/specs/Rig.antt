@@ -5,7 +5,7 @@ use Rattle.em_record.specs.Count.{next_count, Rose}
 use Rattle.em_record.specs.Shape.{IsShape}
 use Rattle.em_record.specs.declared.record.Record.{Record}
 use Rattle.em_frames.specs.Device.{DeviceState, block_at, fresh_contents}
-use Rattle.em_frames.specs.Pool.{PoolCounts, SameFrames}
+use Rattle.em_frames.specs.Pool.{PoolCounts, SameFrames, singles_of}
 use Rattle.em_frames.specs.declared.device.BeginFault.{BeginFault}
 use Rattle.em_frames.specs.declared.device.BeginFault.TheVariants as begin
 use Rattle.em_space.specs.Free.{Off, IsFreeList, IsTaken}
@@ -26,7 +26,7 @@ pub record RigState : Type 0 where
   pub moves : ℕ
 
 -- The numbers of a rig: a device has 1 to 2 ^ 40 blocks. Of the first blocks, up to the most that
--- were in use at once, some are free exactly where there is a link to one.
+-- were in use at once, some are free exactly if there is a link to one.
 pub record AreNumbers (blocks head used most : ℕ) : Type 0 where
   pub blocks_low : 0 < blocks
   pub blocks_high : blocks ≤ 2 ^ 40
@@ -36,7 +36,7 @@ pub record AreNumbers (blocks head used most : ℕ) : Type 0 where
   pub none_freed : head ≡ 0 → used ≡ most
   pub some_freed : 0 < head → used < most
 
--- so many blocks of so many records are told
+-- this many blocks of this many records are told
 pub record IsLaidOut (contents : List (List Record)) (blocks block : ℕ) : Type 0 where
   pub length_is : length contents ≡ blocks
   pub lens : (k : ℕ) → k < blocks → length (get_or contents k []) ≡ block
@@ -47,6 +47,7 @@ pub record Sound (s : RigState) : Type 0 where
   pub block_is : s.device.block ≡ s.pool.shape.block
   pub moves_is : s.device.moves ≡ s.moves
   pub shape : IsShape s.pool.shape
+  pub singles : s.pool.free ≤ singles_of s.pool.shape
   pub areas : s.pool.free_areas ≤ 2
   pub numbers : AreNumbers s.blocks s.head s.used s.most
   pub told : IsTrue s.device.told → IsLaidOut s.device.contents s.blocks s.pool.shape.block

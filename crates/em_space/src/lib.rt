@@ -10,6 +10,3 @@ pub use fault::EmFault;
 pub use queue::Queue;
 pub use refused::OpenRefused;
 pub use rig::Rig;
-
-#[cfg(test)]
-mod tests;

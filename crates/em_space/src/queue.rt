@@ -1,9 +1,9 @@
 ghost use Rattle.std.specs.Prelude.{◌≡◌, ◌+◌, ◌++◌, ◌<◌, ◌≤◌, ◌^◌, ℕ, List, Option, length, option_to_list, IfErr, IfNone, IfOk, IfSome, IsTrue, OnErr, OnOk};
-ghost use Rattle.em_record.specs.Order.{IsAscending, with_record};
+ghost use Rattle.em_record.specs.Order.{IsAscending, Lacks, with_record};
 ghost use Rattle.em_record.specs.Shape.{ShapeNumbers};
 ghost use Rattle.em_record.specs.declared.record.Record as declared;
 ghost use Rattle.em_space.specs.Held.{Apart, Holds, Within};
-ghost use Rattle.em_space.specs.Queue.{AreOut, CanServe, Ended, Ends, IsRising, IsRisingRoom, Lacks, LacksBlocks, Leaves, Pays, QueueCounts, Served, Serves};
+ghost use Rattle.em_space.specs.Queue.{AreOut, CanServe, Ended, Ends, IsRising, IsRisingRoom, LacksBlocks, Leaves, Pays, QueueCounts, Served, Serves};
 ghost use Rattle.em_space.specs.Rig.{Cause, IfFull, RigState, Sound, Touches};
 ghost use Rattle.em_space.specs.Seen.{seen};
 
@@ -28,14 +28,15 @@ pub trait Queue {
     ghost HasItsFrames: { Self → RigState → Type 0 };
     /// Its numbers.
     ghost counts: { Self → QueueCounts };
-    /// At most so many moves after `n` calls, by the shape, n and k; where there is such a number.
+    /// At most this many moves after `n` calls, by the shape, n and k; where there is such a number.
     ghost allowance: { Option (ShapeNumbers → ℕ → ℕ → ℕ) };
-    /// At most so many blocks at once, by the shape and k; where there is such a number.
+    /// At most this many blocks at once, by the shape and k; where there is such a number.
     ghost room: { Option (ShapeNumbers → ℕ → ℕ) };
-    /// With so many free blocks no call answers `Full`.
+    /// With this many free blocks no call answers `Full`.
     ghost enough: { ShapeNumbers → QueueCounts → ℕ };
 
-    /// Adds an item. `Full` comes only where a block is needed and all are in use.
+    /// Adds an item. `Full` comes only if all blocks are in use at its exit and fewer than `enough` were
+    /// free before the call.
     fn push<D: Device>(&mut self, rig: &mut Rig<'_, D>, item: Record) -> Result<(), EmFault>
         requires sound { Sound (seen D.state rig.old) }
         requires is { IsQueue self.old (seen D.state rig.old) }
@@ -63,7 +64,7 @@ pub trait Queue {
             (counts self.old) (counts self.new).k (seen D.state rig.old))) }
         ensures cause { IfErr result (Cause (seen D.state rig.old) (seen D.state rig.new)) };
 
-    /// Takes the least item out, or answers None, exactly where there is none.
+    /// Takes the least item out, or answers None, exactly if there is none.
     fn pop<D: Device>(&mut self, rig: &mut Rig<'_, D>) -> Result<Option<Record>, EmFault>
         requires sound { Sound (seen D.state rig.old) }
         requires is { IsQueue self.old (seen D.state rig.old) }
@@ -119,7 +120,7 @@ pub trait Queue {
     /// What ties it to its blocks has the part on frames.
     ghost frames_of: { (q : Self) (s : RigState) → IsQueue q s → HasItsFrames q s };
 
-    /// The number of its items and of its blocks, where the device tells.
+    /// The number of its items and of its blocks, if the device tells.
     ghost len_is: { (q : Self) (s : RigState) → IsQueue q s → IsTrue s.device.told
         → (counts q).len ≡ length (items q s) };
 

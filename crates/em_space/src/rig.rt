@@ -49,7 +49,7 @@ fn is_free(first: Record, blocks: u64, count: u64) -> bool
 impl<'d, D: Device> Rig<'d, D> {
     ghost use Rattle.em_space.specs.Seen.{seen};
 
-    /// Begins the device with `blocks` blocks of the shape's size. Where the device isn't begun,
+    /// Begins the device with `blocks` blocks of the shape's size. If the device isn't begun,
     /// the pool comes back with the reason.
     pub fn open(
         shape: Shape,
@@ -165,8 +165,8 @@ impl<'d, D: Device> Rig<'d, D> {
     }
 
     /// A block that isn't in use, which is in use from then on: one that was freed, by one move, or
-    /// where there is none a new one, by no move. Its contents are whatever the device holds there.
-    /// `Full` comes exactly where all blocks are in use, `Damaged` where the header of the first
+    /// if there is none a new one, by no move. Its contents are whatever the device holds there.
+    /// `Full` comes exactly if all blocks are in use, `Damaged` where the header of the first
     /// freed block, which was read, isn't as it was left. After a fault the blocks in use are as
     /// before.
     pub fn alloc(&mut self) -> Result<u64, EmFault>
@@ -316,7 +316,7 @@ impl<'d, D: Device> Rig<'d, D> {
     /// Frees a block in use, by one move: it may come again from `alloc`, and what it held is gone.
     /// After a fault the block is still in use, and may hold anything.
     ///
-    /// `Damaged` comes only where no block is in use, over a device that doesn't tell what it has.
+    /// `Damaged` comes only if no block is in use, over a device that doesn't tell what it has.
     pub fn release(&mut self, block: u64) -> Result<(), EmFault>
         requires sound { Sound (seen D.state self.old) }
         requires in_use { InUse (seen D.state self.old) block }

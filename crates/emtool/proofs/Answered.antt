@@ -50,7 +50,7 @@ none_behind stab n ([] ∷ answers) h = none_behind stab (n + 1) answers (omega 
 none_behind stab n ((x ∷ xs) ∷ answers) h =
     cond-false _ _ _ (ne_eqb n stab (λ e. omega (arith, e, h)))
 
--- the pairs of a stab, and those behind them
+-- the pairs of a stab, and those after them
 own_at : (stab : ℕ) (numbers : List ℕ) (answers : List (List ℕ))
     → intervals_at stab (map (pair_record stab) numbers ++ pairs_from (stab + 1) answers)
     ≡ numbers

@@ -1,5 +1,5 @@
 -- Worked words: what the definition of the job says of them.
-use Rattle.std.specs.Prelude.{◌≡◌, ℕ, List, [], ◌∷◌, Bool, true, false, codes, refl, Ok, Result}
+use Rattle.std.specs.Prelude.{◌≡◌, ℕ, List, [], ◌∷◌, ◌++◌, Bool, true, false, codes, map, refl, Ok, Result}
 use Rattle.emtool.specs.declared.job.Job.{Job}
 use Rattle.emtool.specs.declared.text.FileKind.{FileKind}
 use Rattle.emtool.specs.declared.text.FileKind.TheVariants.{Map, Queue, Stab}
@@ -67,93 +67,43 @@ a_stab_of_two_operands : job_of (codes "stab" ∷ codes "a" ∷ codes "b" ∷ []
     ≡ refused ExtraOperand 2
 a_stab_of_two_operands = refl
 
--- Options.
+-- words before the name of a file, and what `map` gives of them
+abbrev Row : Type 0
+Row = List (List ℕ) × Result Job Usage
 
-two_dashes : map_of (codes "--" ∷ codes "a" ∷ []) ≡ refused UnknownOption 1
-two_dashes = refl
+-- each row says what its words give
+abbrev Hold : List Row → Type 0
+Hold rows = map (λ (row : Row). map_of (row.0 ++ codes "a" ∷ [])) rows ≡ map (λ (row : Row). row.1) rows
 
-three_dashes : map_of (codes "---block=1" ∷ codes "a" ∷ []) ≡ refused UnknownOption 1
-three_dashes = refl
+options : Hold (
+    (codes "--" ∷ [], refused UnknownOption 1)
+    ∷ (codes "---block=1" ∷ [], refused UnknownOption 1)
+    ∷ (codes "--frames=64" ∷ codes "--frames=64" ∷ [], refused RepeatedOption 2)
+    ∷ (codes "--stats" ∷ codes "--stats=1" ∷ [], refused RepeatedOption 2)
+    ∷ (codes "--stats=" ∷ [], refused BadValue 1)
+    ∷ (codes "--block" ∷ [], refused BadValue 1)
+    ∷ (codes "--block=" ∷ [], refused BadValue 1)
+    ∷ (codes "--block=+1" ∷ [], refused BadValue 1)
+    ∷ (codes "--block=000000000000000000128" ∷ [], refused BadValue 1)
+    ∷ (codes "--blocks=18446744073709551616" ∷ [], refused BadValue 1)
+    ∷ (codes "--block=00000000000000000128" ∷ [], job 128 64 1048576 false 2)
+    ∷ (codes "--block=128" ∷ codes "--stats" ∷ [], job 128 64 1048576 true 3)
+    ∷ [])
+options = refl
 
-a_repeated_option : map_of (codes "--frames=64" ∷ codes "--frames=64" ∷ codes "a" ∷ [])
-    ≡ refused RepeatedOption 2
-a_repeated_option = refl
+ranges : Hold (
+    (codes "--frames=60" ∷ [], refused FramesRange 1)
+    ∷ (codes "--frames=68" ∷ [], refused FramesMultiple 1)
+    ∷ (codes "--block=64" ∷ [], refused BlockRange 1)
+    ∷ (codes "--frames=60" ∷ codes "--block=64" ∷ [], refused BlockRange 2)
+    ∷ (codes "--frames=520" ∷ codes "--block=1024" ∷ [], refused FramesRange 1)
+    ∷ (codes "--frames=1024" ∷ codes "--block=2048" ∷ [], job 2048 1024 1048576 false 3)
+    ∷ (codes "--blocks=1099511627776" ∷ [], job 1024 256 1099511627776 false 2)
+    ∷ (codes "--blocks=1099511627777" ∷ [], refused BlocksRange 1)
+    ∷ (codes "--blocks=0" ∷ [], refused BlocksRange 1)
+    ∷ [])
+ranges = refl
 
-repeated_before_its_value : map_of (codes "--stats" ∷ codes "--stats=1" ∷ codes "a" ∷ [])
-    ≡ refused RepeatedOption 2
-repeated_before_its_value = refl
-
-a_value_of_stats : map_of (codes "--stats=" ∷ codes "a" ∷ []) ≡ refused BadValue 1
-a_value_of_stats = refl
-
-no_value_of_block : map_of (codes "--block" ∷ codes "a" ∷ []) ≡ refused BadValue 1
-no_value_of_block = refl
-
-an_empty_value : map_of (codes "--block=" ∷ codes "a" ∷ []) ≡ refused BadValue 1
-an_empty_value = refl
-
-a_sign : map_of (codes "--block=+1" ∷ codes "a" ∷ []) ≡ refused BadValue 1
-a_sign = refl
-
-digits_21 : map_of (codes "--block=000000000000000000128" ∷ codes "a" ∷ []) ≡ refused BadValue 1
-digits_21 = refl
-
-digits_20_too_large : map_of (codes "--blocks=18446744073709551616" ∷ codes "a" ∷ [])
-    ≡ refused BadValue 1
-digits_20_too_large = refl
-
-leading_zeros : map_of (codes "--block=00000000000000000128" ∷ codes "a" ∷ [])
-    ≡ job 128 64 1048576 false 2
-leading_zeros = refl
-
-a_block_and_stats : map_of (codes "--block=128" ∷ codes "--stats" ∷ codes "a" ∷ [])
-    ≡ job 128 64 1048576 true 3
-a_block_and_stats = refl
-
--- Ranges.
-
-few_frames : map_of (codes "--frames=60" ∷ codes "a" ∷ []) ≡ refused FramesRange 1
-few_frames = refl
-
-frames_of_no_multiple : map_of (codes "--frames=68" ∷ codes "a" ∷ []) ≡ refused FramesMultiple 1
-frames_of_no_multiple = refl
-
-a_small_block : map_of (codes "--block=64" ∷ codes "a" ∷ []) ≡ refused BlockRange 1
-a_small_block = refl
-
-the_block_before_the_frames : map_of (codes "--frames=60" ∷ codes "--block=64" ∷ codes "a" ∷ [])
-    ≡ refused BlockRange 2
-the_block_before_the_frames = refl
-
-frames_above_half : map_of (codes "--frames=520" ∷ codes "--block=1024" ∷ codes "a" ∷ [])
-    ≡ refused FramesRange 1
-frames_above_half = refl
-
-frames_at_half : map_of (codes "--frames=1024" ∷ codes "--block=2048" ∷ codes "a" ∷ [])
-    ≡ job 2048 1024 1048576 false 3
-frames_at_half = refl
-
-the_most_blocks : map_of (codes "--blocks=1099511627776" ∷ codes "a" ∷ [])
-    ≡ job 1024 256 1099511627776 false 2
-the_most_blocks = refl
-
-a_block_too_many : map_of (codes "--blocks=1099511627777" ∷ codes "a" ∷ [])
-    ≡ refused BlocksRange 1
-a_block_too_many = refl
-
-no_blocks : map_of (codes "--blocks=0" ∷ codes "a" ∷ []) ≡ refused BlocksRange 1
-no_blocks = refl
-
--- The frames that a block has where no option says them.
-
-frames_128 : default_frames 128 ≡ 64
-frames_128 = refl
-
-frames_256 : default_frames 256 ≡ 128
-frames_256 = refl
-
-frames_1024 : default_frames 1024 ≡ 256
-frames_1024 = refl
-
-frames_65536 : default_frames 65536 ≡ 256
-frames_65536 = refl
+-- The frames that a block has if no option says them.
+frames : map default_frames (128 ∷ 256 ∷ 1024 ∷ 65536 ∷ []) ≡ 64 ∷ 128 ∷ 256 ∷ 256 ∷ []
+frames = refl

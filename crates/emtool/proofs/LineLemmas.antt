@@ -25,7 +25,7 @@ parts_step b bs true false s n ih = rw (s, n) refl
 parts_step b bs false true s n ih = rw n refl
 parts_step b bs false false s n ih = rw (s, ih) refl
 
--- the parts of a line are its word and the parts that are left behind it
+-- the parts of a line are its word and the parts that are left after it
 pub parts_of-line_at : (s : List ℕ)
     → parts_of (line_at s) ≡ word_at s ∷ parts_left (after_word s)
 parts_of-line_at [] = refl
@@ -58,13 +58,13 @@ lines_of-line_at b (c ∷ cs) =
     ∷ lines_of (cond n (c ∷ cs) (after_line (c ∷ cs))))
     [ true ↦ refl | false ↦ ap (onto_first b) (lines_of-line_at c cs) ]
 
--- behind a part stands a byte that is no newline: a space
+-- after a part stands a byte that is no newline: a space
 pub parts_left_cons : (s : List ℕ) (b : ℕ) (bs : List ℕ) → s ≡ b ∷ bs → b ≢ 10
     → parts_left s ≡ word_at bs ∷ parts_left (after_word bs)
 parts_left_cons s b bs e ne =
     ap parts_left e ∙ cond-false _ _ _ (ne_eqb b 10 ne) ∙ parts_of-line_at bs
 
--- behind a space and a part the line goes on
+-- after a space and a part the line goes on
 pub after_line_cons : (s : List ℕ) (b : ℕ) (bs rest : List ℕ) → s ≡ b ∷ bs → b ≢ 10
     → rest ≡ after_word bs → after_line rest ≡ after_line s
 after_line_cons s b bs rest e ne behind =
@@ -94,7 +94,7 @@ no_newline b bs h e =
     let n : line_at (b ∷ bs) ≡ [] = cond-true _ _ _ (eq-eqb b 10 e) in
     absurd (omega (arith, ap length n))
 
--- the command of a line that has a byte, by its word and the parts behind it
+-- the command of a line that has a byte, by its word and the parts after it
 pub command_of-filled : (k : FileKind) (s : List ℕ) → 0 < length (line_at s)
     → command_of k (line_at s) ≡ table_command_of k (word_at s) (parts_left (after_word s))
 command_of-filled k [] h = absurd (omega arith)
@@ -111,7 +111,7 @@ command_of-long k s some long =
     command_of-filled k s some
     ∙ table_command_of-long k (word_at s) (parts_left (after_word s)) long
 
--- a line whose word was read, and the text that is left behind it
+-- a line whose word was read, and the text that is left after it
 pub command_of-read : (k : FileKind) (s w t : List ℕ) → 0 < length (line_at s)
     → w ≡ word_at s → t ≡ after_word s
     → table_command_of k w (parts_left t) ≡ command_of k (line_at s)
@@ -145,6 +145,13 @@ pub byte_taken : (s u t : List ℕ) (next : Option ℕ) (b : ℕ) → u ≡ s �
     → MatchOption next (s ≡ []) (λ x. s ≡ x ∷ drop 1 s) → next ≡ Some b → s ≡ b ∷ t
 byte_taken s u t next b same taken h e =
     next_some next b s h e ∙ ap (λ r. b ∷ r) (sym (taken ∙ ap (drop 1) same))
+
+-- after a part stands a byte that was looked at and then taken: a space
+pub parts_taken : (s u t : List ℕ) (next : Option ℕ) (b : ℕ) → u ≡ s → t ≡ drop 1 u
+    → MatchOption next (s ≡ []) (λ x. s ≡ x ∷ drop 1 s) → next ≡ Some b → b ≢ 10
+    → parts_left s ≡ word_at t ∷ parts_left (after_word t)
+parts_taken s u t next b same taken h e ne =
+    parts_left_cons s b t (byte_taken s u t next b same taken h e) ne
 
 -- a fact of an Ok, by another
 pub OnOk_map : {A E : Type 0} (r : Result A E) (P Q : Type 0) → (P → Q) → OnOk r P → OnOk r Q

@@ -1,11 +1,11 @@
 -- A file whose commands are given to a service, one after another.
-use Rattle.std.proofs.Common.{◌≡◌, ℕ, suc, ◌+◌, ◌-◌, ◌<◌, ◌≤◌, ◌^◌, List, [], ◌∷◌, length, take, refl, sym, subst, ap, ◌∙◌, arith, Bool, IsTrue, Ok, inl, inr, ⊎_elim}
+use Rattle.std.proofs.Common.{◌≡◌, ℕ, suc, ◌+◌, ◌-◌, ◌<◌, ◌≤◌, ◌^◌, ◌⊎◌, List, [], ◌∷◌, length, take, refl, sym, subst, ap, ◌∙◌, arith, Bool, IsTrue, Ok, inl, inr, ⊎_elim}
 use Rattle.em_record.specs.Shape.{ShapeNumbers, payload_of}
 use Rattle.em_model.specs.Stab.{NumberedInterval, stab_answer_of, stab_answers, stab_answers_from, stab_step}
 use Rattle.em_model.specs.declared.command.Command.{Command}
 use Rattle.em_model.specs.declared.command.Command.TheVariants.{Put, Del, Get, Push, Pop, Interval, Stab}
 use Rattle.em_space.specs.Queue.{Pays}
-use Rattle.em_space.specs.Rig.{RigState, Cause, Goes}
+use Rattle.em_space.specs.Rig.{RigState, Cause, Goes, Touches}
 use Rattle.em_space.specs.declared.fault.EmFault.{EmFault}
 use Rattle.em_space.specs.declared.fault.EmFault.TheVariants as em
 use Rattle.em_space.proofs.Within.{touches_within, within_then}
@@ -13,7 +13,7 @@ use Rattle.em_plain.specs.CommandList.{BeginsList, NoteCosts, Notes, held, list_
 use Rattle.em_plain.specs.Room.{StaysWithin, plain_room}
 use Rattle.em_plain.specs.declared.command_list.CommandList.{CommandList}
 use Rattle.em_plain.proofs.Frames.{same_given}
-use Rattle.em_plain.proofs.Room.{ceiling_rises}
+use Rattle.em_chain.proofs.Sessions.{ceiling_rises}
 use Rattle.em_chain.specs.Effects.{GivesFrame}
 use Rattle.em_plain.specs.StabAnswers.{stab_pairs}
 use Rattle.emtool.specs.CommandLine.{good_commands}
@@ -54,7 +54,7 @@ stabs_same xs ys (Interval low high ∷ cs) =
     stabs_same (stab_step xs (Interval low high)) (stab_step ys (Interval low high)) cs
 stabs_same xs ys (Stab point ∷ cs) = ap suc (stabs_same xs ys cs)
 
--- the stabs of a command and of those behind it
+-- the stabs of a command and of those after it
 pub stabs_next : (c : Command) (cs : List Command)
     → length (stab_answers (c ∷ cs)) ≡ length (stab_answer_of [] c) + length (stab_answers cs)
 stabs_next (Put key value) cs = omega arith
@@ -110,6 +110,23 @@ list_gives s t u l before a g = record {
   frames = same_given s.pool t.pool u.pool before.frames g.frames;
 }
 
+-- The blocks of a full device are at most the moves and one for each frame.
+pub full_paid : (held : List ℕ) (t u : RigState) (n used : ℕ) → Touches held t u
+    → (2 ^ 64 - 1 ≤ t.moves) ⊎ (t.used ≤ t.moves + n) → Pays n t.pool.shape.frames t u
+    → (used ≡ u.blocks) × (u.used ≡ u.blocks)
+    → (2 ^ 64 - 1 ≤ u.moves) ⊎ (used ≤ u.moves + u.pool.shape.frames)
+full_paid held t u n used touches paid p full =
+    let f = ap (λ (x : ShapeNumbers). x.frames) touches.shape in
+    ⊎_elim
+    (λ (h : 2 ^ 64 - 1 ≤ t.moves). inl (let later = touches.moves in omega (arith, h, later)))
+    (λ (h : t.used ≤ t.moves + n).
+    ⊎_elim
+    (λ (y : 2 ^ 64 - 1 ≤ u.moves). inl y)
+    (λ (y : u.used + t.moves + n ≤ t.used + u.moves + t.pool.shape.frames).
+    inr (omega (arith, h, y, full.0, full.1, f)))
+    p.is)
+    paid
+
 -- What a full device says, where a command wasn't given.
 pub filled_list : (tells : Bool) (kind : FileKind) (text left : List ℕ) (s t u : RigState)
     (l : CommandList) (fault : EmFault) → 0 < payload_of s.pool.shape → Goes [] s t → Lists s t l
@@ -120,17 +137,7 @@ pub filled_list : (tells : Bool) (kind : FileKind) (text left : List ℕ) (s t u
 filled_list tells kind text left s t u l em.DeviceFault some before a goes k p cause n = tt
 filled_list tells kind text left s t u l (em.Damaged block) some before a goes k p cause n = tt
 filled_list tells kind text left s t u l (em.Full used) some before a goes k p cause n = record {
-  paid =
-      let f = ap (λ (x : ShapeNumbers). x.frames) goes.touches.shape in
-      ⊎_elim
-      (λ (h : 2 ^ 64 - 1 ≤ t.moves). inl (let later = goes.touches.moves in omega (arith, h, later)))
-      (λ (h : t.used ≤ t.moves + unstored l).
-      ⊎_elim
-      (λ (y : 2 ^ 64 - 1 ≤ u.moves). inl y)
-      (λ (y : u.used + t.moves + unstored l ≤ t.used + u.moves + t.pool.shape.frames).
-      inr (omega (arith, h, y, cause.0, cause.1, f)))
-      p.is)
-      a.paid;
+  paid = full_paid (list_blocks t l) t u (unstored l) used goes.touches a.paid p cause;
   size = λ told counts.
       let shape = t.pool.shape in
       let pos : 0 < payload_of t.pool.shape = rw (ap payload_of before.touches.shape) some in
@@ -189,18 +196,7 @@ filled_answers tells kind text left s t u l cs (em.Damaged block) some before a 
     = tt
 filled_answers tells kind text left s t u l cs (em.Full used) some before a g k p cause n len e =
     record {
-      paid =
-          let f = ap (λ (x : ShapeNumbers). x.frames) g.touches.shape in
-          ⊎_elim
-          (λ (h : 2 ^ 64 - 1 ≤ t.moves).
-          inl (let later = g.touches.moves in omega (arith, h, later)))
-          (λ (h : t.used ≤ t.moves + unstored l).
-          ⊎_elim
-          (λ (y : 2 ^ 64 - 1 ≤ u.moves). inl y)
-          (λ (y : u.used + t.moves + unstored l ≤ t.used + u.moves + t.pool.shape.frames).
-          inr (omega (arith, h, y, cause.0, cause.1, f)))
-          p.is)
-          a.paid;
+      paid = full_paid (list_blocks t l) t u (unstored l) used g.touches a.paid p cause;
       size = λ told counts.
           let pos : 0 < payload_of t.pool.shape = rw (ap payload_of before.touches.shape) some in
           let here : CountsBy kind t.device.told =

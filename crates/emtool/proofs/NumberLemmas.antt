@@ -31,7 +31,7 @@ step : (v n b : ℕ) (bs : List ℕ) (d : Bool) → n ≤ 20
 step v n b bs false h = refl
 step v n b bs true h = grind (arith, nat_tests, common_steps)
 
--- both readings agree behind the first digit
+-- both readings agree after the first digit
 pub number_rest-whole : (v n : ℕ) (bs : List ℕ) → 0 < n → n ≤ 20
     → number_rest v n bs ≡ number_whole v n bs
 number_rest-whole v n [] h k = grind (arith, nat_tests, common_steps)

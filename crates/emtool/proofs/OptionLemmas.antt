@@ -12,13 +12,13 @@ position_found : {X : Type 0} (p : X → Bool) (xs : List X) (i : ℕ)
     → position p xs ≡ Some i → i ≡ position_or_len p xs
 position_found p xs i h = grind (arith, nat_tests, common_steps)
 
--- where a search found none, the first stands behind the list's end
+-- where a search found none, the first stands after the list's end
 position_missing : {X : Type 0} (p : X → Bool) (xs : List X)
     → position p xs ≡ None → length xs ≡ position_or_len p xs
 position_missing p xs h =
     let le = prefix_len-le-length (λ x. not (p x)) xs in grind (arith, nat_tests, common_steps)
 
--- what stands before and behind the place that a search found
+-- what stands before and after the place that a search found
 pub first_found : {X : Type 0} (p : X → Bool) (xs : List X) (i : ℕ) → position p xs ≡ Some i
     → (take i xs ≡ before_first p xs) × (drop (i + 1) xs ≡ after_first p xs)
 first_found p xs i h = let e = position_found p xs i h in

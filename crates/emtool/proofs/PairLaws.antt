@@ -26,6 +26,14 @@ groups_next stab (suc n) items some =
     ap (λ m. numbers_line (intervals_at stab items)
     ++ stab_text (groups_from (stab + 1) m (pairs_behind stab items))) (sym e)
 
+-- what is to go after a pair of this stab was read
+pub words_same : (stab : ℕ) (x : Record) (items xs : List Record) (front : List ℕ) → x.a ≡ stab
+    → items ≡ x ∷ xs → front ++ further_words (intervals_at stab items)
+    ≡ front ++ ((32 ∷ []) ++ (decimal x.b ++ further_words (intervals_at stab xs)))
+words_same stab x items xs front e read =
+    ap (λ l. front ++ further_words (intervals_at stab l)) read
+    ∙ ap (λ l. front ++ further_words l) (intervals_same stab x xs e)
+
 -- the line of a stab that has a pair
 pub line_same : (stab : ℕ) (x : Record) (xs : List Record) → x.a ≡ stab
     → numbers_line (intervals_at stab (x ∷ xs))

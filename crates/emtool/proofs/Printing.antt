@@ -1,19 +1,19 @@
 -- Printing what a reader gives, line by line.
-use Rattle.std.proofs.Common.{◌≡◌, ℕ, List, [], ◌++◌, sym, ◌∙◌, append_assoc, Result, Ok, Err}
+use Rattle.std.proofs.Common.{◌≡◌, ℕ, List, [], ◌∷◌, ◌++◌, refl, sym, ◌∙◌, append_assoc, Result, Ok, Err}
 use Rattle.std.specs.Prelude.{IsErr, OnOk}
 use Rattle.em_record.specs.declared.record.Record.{Record}
 use Rattle.em_io.specs.Sink.{IsRule, Sent, SentPart}
 use Rattle.em_io.proofs.Sent.{all-sent, part-add, part-more, part-of, part-rest, sent-add, sent-all, sent-more, sent-rest}
 use Rattle.em_space.specs.Rig.{RigState, Goes}
-use Rattle.em_chain.specs.Reader.{reader_blocks}
+use Rattle.em_chain.specs.Reader.{ReaderHasFrame, reader_blocks}
 use Rattle.em_chain.specs.Reads.{Reads}
 use Rattle.em_chain.specs.declared.reader.Reader.{Reader}
 use Rattle.em_chain.proofs.Beside.{goes_over}
-use Rattle.emtool.specs.Print.{LooksAt}
+use Rattle.emtool.specs.Print.{LooksAt, ReadsOn}
 use Rattle.emtool.specs.Stop.{Prints}
 use Rattle.emtool.specs.declared.stop.Stop.{Stop}
 
--- three parts behind a front
+-- three parts after a front
 together : (front a b c : List ℕ) → front ++ (a ++ (b ++ c)) ≡ ((front ++ a) ++ b) ++ c
 together front a b c =
     sym (append_assoc (front ++ a) b c ∙ append_assoc front a (b ++ c))
@@ -26,6 +26,11 @@ looks_next b c r q x l h = record { is = h.is; over = h.taking ∙ l.over }
 pub goes_looking : (a b c : RigState) (r : Reader) → LooksAt b r → Goes [] a b
     → Goes (reader_blocks b r) b c → Goes [] a c
 goes_looking a b c r l x y = goes_over a b c r l.over x y
+
+-- The record may have been read, or not.
+pub reads_on : (a b c : RigState) (r q : Reader) → LooksAt b r → Goes [] a b
+    → Goes (reader_blocks b r) b c → ReaderHasFrame c q → ReadsOn a c q
+reads_on a b c r q l x y frame = record { goes = goes_looking a b c r l x y; frame = frame }
 
 module _ {IsState : List ℕ → Type 0} {took : List ℕ → List ℕ → List ℕ} (rule : IsRule IsState took)
     {old : List ℕ} (ok : IsState old) where
@@ -58,6 +63,12 @@ module _ {IsState : List ℕ → Type 0} {took : List ℕ → List ℕ → List 
       → SentPart took mid (front ++ a) new → SentPart took old whole new
   part_step {whole} {mid} {left} {new} front a more p e q =
       part-rest rule ok p (rw (e ∙ sym (append_assoc front a more)) (part-more more q))
+
+  -- two parts of a line went out, one after the other
+  pub sent_two : {mid new front behind : List ℕ} (a b more : List ℕ) → Sent took old a mid front
+      → Sent took mid (front ++ b) new behind → Sent took old (a ++ (b ++ more)) new (behind ++ more)
+  sent_two {mid} {new} {front} a b more p q =
+      sent_step front b more (sent-more (b ++ more) p) refl q
 
   -- all of it went out
   pub sent_whole : {whole mid left new : List ℕ} → Sent took old whole mid left
@@ -97,6 +108,11 @@ module _ {IsState : List ℕ → Type 0} {took : List ℕ → List ℕ → List 
 pub part_one : {took : List ℕ → List ℕ → List ℕ} {old new : List ℕ} (front a more : List ℕ)
     → SentPart took old (front ++ a) new → SentPart took old (front ++ (a ++ more)) new
 part_one {took} {old} {new} front a more p = rw (← append_assoc front a more) (part-more more p)
+
+-- a line's word went out in part, from a printer that held nothing
+pub word_part : {took : List ℕ → List ℕ → List ℕ} {old new pending : List ℕ} (word : List ℕ)
+    → pending ≡ [] → SentPart took old (pending ++ word) new → SentPart took old (word ++ 10 ∷ []) new
+word_part {took} {old} {new} {pending} word e p = part-more (10 ∷ []) (rw e at p)
 
 -- a call that stopped had sent a front,
 pub prints_part : {T : Type 0} {took : List ℕ → List ℕ → List ℕ} {whole old new : List ℕ}

@@ -1,9 +1,8 @@
 -- The items of a queue beside the queue of the definition: the least item of the list in order is
 -- the element that goes before all others.
-use Rattle.std.proofs.Common.{◌≡◌, ◌≢◌, ◌<◌, ◌≤◌, ◌+◌, ℕ, zero, suc, Bool, true, false, List, [], ◌∷◌, ◌++◌, length, drop, map, refl, sym, ap, ◌∙◌, arith, Option, Some, None, ⊎_elim}
+use Rattle.std.proofs.Common.{◌≡◌, ◌≢◌, ◌<◌, ◌≤◌, ◌+◌, ℕ, zero, suc, true, false, List, [], ◌∷◌, ◌++◌, length, drop, map, refl, sym, ap, ◌∙◌, arith, Option, Some, None}
 use Rattle.std.specs.Prelude.{IfNone, option_map, option_to_list}
 use Rattle.std.specs.List.{All, Contains}
-use Rattle.std.proofs.lemmas.Bool.{cases_Bool}
 use Rattle.std.proofs.lemmas.Bool.Decides.{nat_tests}
 use Rattle.std.proofs.lemmas.Grind.{common_steps}
 use Rattle.std.proofs.lemmas.List.{append-nil, map-append}
@@ -14,10 +13,9 @@ use Rattle.em_model.specs.Queue.{Item, Queue, goes_before, least, least_of, no_i
 use Rattle.em_model.specs.declared.command.Command.TheVariants.{Push, Pop}
 use Rattle.em_model.specs.Ascending.{Ascend}
 use Rattle.em_model.proofs.QueueLaws.{in_order_after, kept_head, least_among, lost_head, none_before_least, number_from, without_none}
-use Rattle.em_space.specs.Queue.{Lacks}
 use Rattle.emtool.specs.Answer.{popped_line, queue_text}
 use Rattle.emtool.specs.Print.{popped_in}
-use Rattle.emtool.specs.Serve.{Follows, NumberedTo, item_record}
+use Rattle.emtool.specs.Serve.{Follows, item_record}
 
 -- an element that doesn't go before another, and isn't it, is above it
 above_by : (y w : Item) → goes_before y w ≡ false → y.number ≢ w.number
@@ -98,7 +96,7 @@ popped_from (x ∷ xs) pushes rest (Some r) a e n =
     let tail : in_order (map item_record (without_least (x ∷ xs))) ≡ rest = ap (drop 1) both in
     (sym tail, ap (λ s. Some (s.a, s.c)) head)
 
-pub follows_pop : (items rest : List Record) (pushes : ℕ) (q : Queue) (item : Option Record)
+follows_pop : (items rest : List Record) (pushes : ℕ) (q : Queue) (item : Option Record)
     → Follows items pushes q → items ≡ option_to_list item ++ rest
     → IfNone item (length items ≡ 0) → Popped rest pushes q item
 follows_pop items rest pushes q item f e n =
@@ -112,6 +110,13 @@ follows_pop items rest pushes q item f e n =
       };
       answer = two.1;
     }
+
+-- the same by the count of the elements
+pub counted_pop : {items rest : List Record} {pushes len : ℕ} {q : Queue} {item : Option Record}
+    → Follows items pushes q → items ≡ option_to_list item ++ rest → IfNone item (len ≡ 0)
+    → len ≡ length items → Popped rest pushes q item
+counted_pop {items} {rest} {pushes} {len} {q} {item} f e none count =
+    follows_pop items rest pushes q item f e (rw count at none)
 
 pub pop_text : (rest : List Record) (pushes : ℕ) (q : Queue) (item : Option Record)
     → Popped rest pushes q item
@@ -139,35 +144,3 @@ follows_push items pushes key value q f = record {
 pub follows_first : (items : List Record) → length items ≡ 0 → Follows items 0 no_items
 follows_first [] e = record { items_are = refl; pushes_are = refl; in_order = omega arith }
 follows_first (x ∷ xs) e = absurd (omega arith)
-
--- Numbers of pushes.
-
-pub numbered_more : (n : ℕ) (items : List Record) → NumberedTo n items → NumberedTo (n + 1) items
-numbered_more n [] h = tt
-numbered_more n (x ∷ xs) h = (omega (arith, h.0), numbered_more n xs h.1)
-
-numbered_in : (n : ℕ) (x : Record) (items : List Record) (b : Bool) → x.b ≤ n
-    → NumberedTo n items → NumberedTo n (with_record x items)
-numbered_in n x [] b l h = (l, tt)
-numbered_in n x (y ∷ ys) b l h = ⊎_elim
-    (λ (t : is_below y x ≡ true). rw t (h.0, numbered_in n x ys b l h.1))
-    (λ (f : is_below y x ≡ false). rw f (l, h))
-    (cases_Bool (is_below y x))
-
--- a push with the next number
-pub numbered_push : (n key value : ℕ) (items : List Record) → NumberedTo n items
-    → NumberedTo (n + 1) (with_record (record { a = key; b = n + 1; c = value; d = 0 }) items)
-numbered_push n key value items h =
-    numbered_in (n + 1) _ items true (omega arith) (numbered_more n items h)
-
-pub lacks_next : (n key value : ℕ) (items : List Record) → NumberedTo n items
-    → Lacks (record { a = key; b = n + 1; c = value; d = 0 }) items
-lacks_next n key value [] h = tt
-lacks_next n key value (x ∷ xs) h =
-    ((λ a b. omega (arith, b, h.0)), lacks_next n key value xs h.1)
-
-pub numbered_rest : (n : ℕ) (item : Option Record) (items rest : List Record)
-    → items ≡ option_to_list item ++ rest → NumberedTo n items → NumberedTo n rest
-numbered_rest n None items rest e h = rw e at h
-numbered_rest n (Some x) items rest e h =
-    let both : NumberedTo n (x ∷ rest) = rw e at h in both.1

@@ -1,5 +1,5 @@
 -- Reading a text line by line: what a line adds, and how the lines read are counted.
-use Rattle.std.proofs.Common.{◌≡◌, ℕ, zero, suc, ◌+◌, ◌-◌, ◌<◌, ◌≤◌, ◌^◌, Bool, true, false, cond, List, [], ◌∷◌, ◌++◌, length, Ok, refl, sym, subst, ap, ◌∙◌, arith, append_assoc, zero-add, ⊎_elim, inl, inr, ◌⊎◌}
+use Rattle.std.proofs.Common.{◌≡◌, ℕ, zero, suc, ◌+◌, ◌-◌, ◌<◌, ◌≤◌, ◌^◌, Bool, IsTrue, true, false, cond, List, [], ◌∷◌, ◌++◌, length, Ok, refl, sym, subst, ap, ◌∙◌, arith, append_assoc, zero-add, ⊎_elim, inl, inr, ◌⊎◌}
 use Rattle.std.specs.Prelude.{Some, ◌==◌, take}
 use Rattle.std.specs.List.{count_by, onto_first}
 use Rattle.std.proofs.lemmas.List.{length-append}
@@ -19,6 +19,7 @@ use Rattle.emtool.specs.Stream.{line_at, after_line}
 use Rattle.emtool.specs.CommandLine.{command_of, numbered, before_parsed, parsed_from, Parsed, good_commands}
 use Rattle.emtool.specs.Stops.{StopsBy, IfFault}
 use Rattle.emtool.specs.LineTaken.{LineTaken}
+use Rattle.emtool.specs.Reads.{Reads}
 use Rattle.emtool.specs.RunSize.{lines_given, commands_taken}
 use Rattle.emtool.proofs.LineLemmas.{lines_of-line_at}
 
@@ -293,3 +294,10 @@ pub counted_left : (k : FileKind) (text before : List ℕ) (feed : Fed) (stand :
 counted_left k text before feed stand slot count h same le =
     subst (λ (s : Slot). count ≤ commands_taken k text (stand.slot s).left) same
     (counted_within k text before feed.ahead (stand.slot feed.slot).left count h le)
+
+-- the same after one reader more
+pub counted_read : {tells : Bool} (k : FileKind) {text : List ℕ} {f g h : Fed} {a b c : Stand}
+    {count : ℕ} → Reads tells f a g b → Reads tells g b h c → IsTrue tells
+    → Counted k text (rest g b) count → count ≤ commands_taken k text (c.slot f.slot).left
+counted_read k {text} {f} {g} {h} {a} {b} {c} {count} p q told counted =
+    counted_left k text (rest g b) h c f.slot count counted (q.slot ∙ p.slot) (q.shorter told)

@@ -12,7 +12,7 @@ use Rattle.emtool.specs.Options.{has_name, number_in, number_or, option_fault, o
 use Rattle.emtool.proofs.OptionLemmas.{position_map}
 
 -- the bytes of the word at a place
-text_at : (options : List (String Global)) (i : ℕ) (word : String Global) → i < length options
+pub text_at : (options : List (String Global)) (i : ℕ) (word : String Global) → i < length options
     → word ≡ get_or options i word → get_or (texts_of options) i [] ≡ string_bytes word
 text_at options i word h w = get_or-map string_bytes options i word [] h ∙ ap string_bytes (sym w)
 
@@ -84,7 +84,7 @@ module _ (options : List (String Global)) (i : ℕ) (word : String Global) (byte
       ≡ options_refusal (take (i + 1) (texts_of options)) (drop (i + 1) (texts_of options))
   word_passed e = step None e
 
--- behind the last word nothing is refused
+-- after the last word nothing is refused
 pub all_passed : (options : List (String Global)) (i : ℕ) → length options ≤ i
     → options_refusal (take i (texts_of options)) (drop i (texts_of options)) ≡ None
 all_passed options i h =

@@ -1,28 +1,33 @@
 -- A run over a service or a queue.
-use Rattle.std.proofs.Common.{◌≡◌, ◌≢◌, ℕ, ◌+◌, ◌-◌, ◌<◌, ◌≤◌, ◌^◌, List, [], ◌∷◌, ◌++◌, length, ap, sym, subst, ◌∙◌, refl, arith, Bool, IsTrue, Some, None, inl, inr, ⊎_elim}
+use Rattle.std.proofs.Common.{◌≡◌, ◌≢◌, ℕ, ◌+◌, ◌-◌, ◌<◌, ◌≤◌, ◌^◌, List, [], ◌∷◌, ◌++◌, length, ap, sym, subst, ◌∙◌, refl, arith, Bool, true, IsTrue, Result, Some, None, inl, inr, ⊎_elim}
 use Rattle.em_record.specs.Shape.{ShapeNumbers, payload_of}
+use Rattle.em_io.specs.Feed.{Fed, rest}
+use Rattle.em_io.specs.Shelf.{Stand}
+use Rattle.em_io.specs.declared.shelf.Slot.{Slot}
+use Rattle.em_io.specs.declared.shelf.Slot.TheVariants.{First}
 use Rattle.em_io.specs.Sink.{IsRule}
 use Rattle.em_io.proofs.Sent.{part-of, sent-nothing}
 use Rattle.em_record.specs.declared.record.Record.{Record}
 use Rattle.em_model.specs.Stab.{stab_answers}
-use Rattle.em_space.specs.Queue.{QueueCounts, Leaves, fresh_counts}
+use Rattle.em_space.specs.Queue.{QueueCounts, Leaves}
 use Rattle.em_space.specs.Rig.{RigState, Cause, Sound, Touches}
 use Rattle.em_space.specs.declared.fault.EmFault.TheVariants as em
 use Rattle.em_space.proofs.Steps.{cause_after, goes_nothing}
 use Rattle.em_space.proofs.Within.{touches_within, within_none}
 use Rattle.em_chain.specs.Counts.{ceiling}
 use Rattle.em_plain.specs.QueueLaws.{blocks_is}
-use Rattle.em_plain.specs.ScanQueue.{IsScanQueue, counts_of, queue_blocks}
+use Rattle.em_plain.specs.ScanQueue.{IsScanQueue, counts_of, fresh_counts, queue_blocks}
 use Rattle.em_plain.specs.declared.scan_queue.ScanQueue.{ScanQueue}
 use Rattle.emtool.specs.CommandLine.{first_fault, good_commands}
 use Rattle.emtool.specs.Due.{output_text, text_unless}
 use Rattle.emtool.specs.Answer.{text_for}
-use Rattle.emtool.specs.Run.{Outside}
+use Rattle.emtool.specs.Reads.{Reads}
+use Rattle.emtool.specs.Run.{IsAllRead, Outside}
 use Rattle.emtool.specs.RunSize.{commands_taken}
-use Rattle.emtool.specs.Serve.{IsAlone, IsFilledBy}
+use Rattle.emtool.specs.Serve.{Answers, IsAlone, IsFilledBy}
 use Rattle.emtool.specs.Print.{records_text}
 use Rattle.emtool.specs.Service.{IsFilled, kind_is, records_for}
-use Rattle.emtool.specs.Stop.{Faults, IfStopsFull, OnFault, PrintCause, StopCause}
+use Rattle.emtool.specs.Stop.{Faults, IfStopsFull, OnFault, PrintCause, ReadsAll, StopCause}
 use Rattle.emtool.specs.declared.service.Service.{Service}
 use Rattle.emtool.specs.declared.service.Service.TheVariants as service
 use Rattle.emtool.specs.declared.stop.Stop.{Stop}
@@ -119,10 +124,44 @@ records_due k text stabs items n none made count =
     ∙ ap (λ s. records_text k s (records_for k (good_commands k text))) count
     ∙ text_same k (good_commands k text) n ∙ sym (all_due k text none)
 
+-- What a feed of this text was given for is what the text is due.
+module _ (tells told : Bool) (k : FileKind) (feed : Fed) (stand : Stand) (text left : List ℕ)
+    (e : rest feed stand ≡ text) (n : k ≢ kind.Queue)
+    (whole : IsTrue tells → ReadsAll k (rest feed stand) left) where
+  pub no_fault_in : IsTrue tells → first_fault k text ≡ None
+  no_fault_in t = sym (ap (λ (s : List ℕ). first_fault k s) e) ∙ (whole t).fault
+
+  pub printed_due : (stabs : ℕ) (items : List Record)
+      → (IsTrue tells → IsTrue told → items ≡ records_for k (good_commands k (rest feed stand)))
+      → (IsTrue tells → stabs ≡ length (stab_answers (good_commands k (rest feed stand))))
+      → IsTrue tells → IsTrue told → records_text k stabs items ≡ output_text k text
+  printed_due stabs items made count t d =
+      records_due k (rest feed stand) stabs items n (whole t).fault (made t d) (count t)
+      ∙ ap (λ (s : List ℕ). output_text k s) e
+
 -- nothing is left where a feed has nothing more to give
-pub left_none : (ahead left : List ℕ) → ahead ++ left ≡ [] → left ≡ []
+left_none : (ahead left : List ℕ) → ahead ++ left ≡ [] → left ≡ []
 left_none [] left e = e
 left_none (x ∷ xs) left e = cc
+
+-- a reader of the open first slot that has nothing more to give read all of it
+pub first_read : {tells : Bool} {a b : Stand} (f g : Fed) → f.slot ≡ First → Reads tells f a g b
+    → (a.slot First).ready ≡ true → (IsTrue tells → rest g b ≡ []) → IsAllRead tells (b.slot First)
+first_read {tells} {a} {b} f g e r ready end = record {
+  opened = subst (λ (s : Slot). (b.slot s).ready ≡ (a.slot s).ready) e r.ready ∙ ready;
+  nothing_left = λ t. left_none g.ahead _
+      (subst (λ (s : Slot). g.ahead ++ (b.slot s).left ≡ []) (r.slot ∙ e) (end t));
+}
+
+-- what a feed of this text was answered by answers the text
+pub answers_of : {tells told : Bool} {T : Type 0} {took : List ℕ → List ℕ → List ℕ} (k : FileKind)
+    (feed : Fed) (stand : Stand) (text old new : List ℕ) (result : Result T Stop)
+    → rest feed stand ≡ text
+    → (IsTrue tells → IsTrue told
+    → Answers took (text_for k (good_commands k (rest feed stand))) old new result)
+    → IsTrue tells → IsTrue told → Answers took (text_for k (good_commands k text)) old new result
+answers_of {tells} {told} {T} {took} k feed stand text old new result e a t d =
+    subst (λ (s : List ℕ). Answers took (text_for k (good_commands k s)) old new result) e (a t d)
 
 filled_alone : (tells : Bool) (text left : List ℕ) (s t : RigState) (c : QueueCounts) (used : ℕ)
     → 0 < payload_of s.pool.shape → Leaves c s t → IsFilledBy c s used
@@ -143,13 +182,14 @@ filled_alone tells text left s t c used some l full most n = record {
       rw (l.touches.shape) (omega (arith, rises, u, most));
 }
 
--- a new queue is alone on a rig of which no block is or was in use,
+-- a new queue is alone on a rig of which no block is or was in use, and that moved none,
 pub alone_fresh : (s : RigState) (c : QueueCounts) (frames areas : ℕ)
-    → c ≡ fresh_counts frames areas → s.used ≡ 0 → s.most ≡ 0 → IsAlone s c
-alone_fresh s c frames areas e used most = rw e (record {
+    → c ≡ fresh_counts frames areas → s.used ≡ 0 → s.most ≡ 0 → s.moves ≡ 0 → IsAlone s c
+alone_fresh s c frames areas e used most none = rw e (record {
   used = used;
   most = omega (arith, most);
   paid = inr (omega (arith, used));
+  moved = omega (arith, none);
 })
 
 -- and has no block that a call of its own could change

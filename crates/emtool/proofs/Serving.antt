@@ -1,5 +1,5 @@
 -- A queue file that is answered command by command.
-use Rattle.std.proofs.Common.{◌≡◌, ℕ, ◌+◌, ◌-◌, ◌≤◌, ◌^◌, List, [], ◌∷◌, ◌++◌, ap, ◌∙◌, arith, length, Result, Ok, Err, inl, inr, ⊎_elim}
+use Rattle.std.proofs.Common.{◌≡◌, ℕ, ◌+◌, ◌-◌, ◌≤◌, ◌^◌, List, ◌∷◌, ◌++◌, ap, ◌∙◌, arith, Result, Ok, Err, inl, inr, ⊎_elim}
 use Rattle.std.proofs.lemmas.Grind.{flat_map-append}
 use Rattle.std.specs.Prelude.{IsErr}
 use Rattle.std.specs.Result.{IsErrAnd}
@@ -11,10 +11,11 @@ use Rattle.em_space.specs.Queue.{Pays, QueueCounts, Served, Serves}
 use Rattle.em_space.specs.Rig.{RigState}
 use Rattle.em_space.specs.declared.fault.EmFault.TheVariants.{DeviceFault, Full, Damaged}
 use Rattle.emtool.specs.Answer.{popped_line, queue_text}
-use Rattle.emtool.specs.Serve.{Answers, Follows, IsAlone, IsFilledBy, NumberedTo, ServeCause}
+use Rattle.emtool.specs.Serve.{Answers, Follows, IsAlone, IsFilledBy, ServeCause}
 use Rattle.emtool.specs.Stop.{IfStopsFull, OnFault}
 use Rattle.emtool.specs.declared.stop.Stop.{Stop}
 use Rattle.emtool.specs.declared.stop.Stop.TheVariants.{Fault, Read, Write, Em}
+use Rattle.emtool.proofs.Listing.{full_paid}
 
 -- The answers so far went out, and those to the commands that are left are to go.
 pub record Serving (took : List ℕ → List ℕ → List ℕ) (whole : List ℕ) (left : List Command)
@@ -46,24 +47,14 @@ alone_next held s t c d a v w = record {
       inr (omega (arith, x, y)))
       w.pays.is)
       a.paid;
+  moved = let e = v.spent in omega (arith, e, a.moved);
 }
 
 filled_by : (held : List ℕ) (s t : RigState) (c d : QueueCounts) (used : ℕ) → IsAlone s c
     → Serves held c d s t → Pays c.unstored s.pool.shape.frames s t
     → (used ≡ t.blocks) × (t.used ≡ t.blocks) → IsFilledBy d t used
 filled_by held s t c d used a v p full = record {
-  paid =
-      let f : t.pool.shape.frames ≡ s.pool.shape.frames =
-      ap (λ x. x.frames) v.touches.shape in
-      ⊎_elim
-      (λ (x : 2 ^ 64 - 1 ≤ s.moves). inl (let m = v.touches.moves in omega (arith, x, m)))
-      (λ (x : s.used ≤ s.moves + c.unstored).
-      ⊎_elim
-      (λ (y : 2 ^ 64 - 1 ≤ t.moves). inl y)
-      (λ (y : t.used + s.moves + c.unstored ≤ s.used + t.moves + s.pool.shape.frames).
-      inr (omega (arith, x, y, full.0, full.1, f)))
-      p.is)
-      a.paid;
+  paid = full_paid held s t c.unstored used v.touches a.paid p full;
   most =
       let m = v.most in let n = v.more in let u = v.sound.numbers.used_most in
       omega (arith, m, n, u, full.0, full.1, a.used, a.most);
@@ -81,12 +72,6 @@ stops_full held s t c d faults after (Em DeviceFault) a v cause p = tt
 stops_full held s t c d faults after (Em (Full used)) a v cause p =
     filled_by held s t c d used a v p cause
 stops_full held s t c d faults after (Em (Damaged block)) a v cause p = tt
-
--- Before the first command.
-
-pub numbered_none : (n : ℕ) (items : List Record) → 0 ≡ length items → NumberedTo n items
-numbered_none n [] e = tt
-numbered_none n (x ∷ xs) e = absurd (omega arith)
 
 -- A call that answers one command stops at no fault of the text.
 

@@ -3,28 +3,19 @@ use Rattle.std.proofs.Common.{◌≡◌, ◌∙◌, ap, Bool, subst, length, dro
 use Rattle.em_io.specs.Shelf.{Stand, Leaves}
 use Rattle.em_io.specs.Feed.{Fed, rest}
 use Rattle.std.proofs.lemmas.List.{length-drop}
+use Rattle.em_io.proofs.Takes.{leaves-then}
 use Rattle.emtool.specs.Reads.{Reads}
-
-leaves_then : {a b c : Stand} (f : Fed) → Leaves f.slot a b → Leaves f.slot b c → Leaves f.slot a c
-leaves_then f p q = record {
-  text = q.text ∙ p.text;
-  others = λ s ne. q.others s ne ∙ p.others s ne;
-}
 
 -- two readers in turn are a reader
 pub reads_then : (t : Bool) (f g h : Fed) (a b c : Stand) → Reads t f a g b → Reads t g b h c
     → Reads t f a h c
 reads_then t f g h a b c p q =
     let leaves : Leaves f.slot b c = subst (λ s. Leaves s b c) p.slot q.leaves in
-    let opened : (c.slot f.slot).opened ≡ (b.slot f.slot).opened =
-    subst (λ s. (c.slot s).opened ≡ (b.slot s).opened) p.slot q.opened in
-    let ready : (c.slot f.slot).ready ≡ (b.slot f.slot).ready =
-    subst (λ s. (c.slot s).ready ≡ (b.slot s).ready) p.slot q.ready in
     record {
       slot = q.slot ∙ p.slot;
-      leaves = leaves_then f p.leaves leaves;
-      opened = opened ∙ p.opened;
-      ready = ready ∙ p.ready;
+      leaves = leaves-then p.leaves leaves;
+      opened = subst (λ s. (c.slot s).opened ≡ (b.slot s).opened) p.slot q.opened ∙ p.opened;
+      ready = subst (λ s. (c.slot s).ready ≡ (b.slot s).ready) p.slot q.ready ∙ p.ready;
       shorter = λ told. omega (arith, p.shorter told, q.shorter told);
       lost = λ told.
           subst (λ s. (c.slot s).lost ≡ (b.slot s).lost) p.slot (q.lost told) ∙ p.lost told;

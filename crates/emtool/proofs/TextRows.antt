@@ -1,5 +1,5 @@
 -- Worked texts: what the definitions of command files say of them.
-use Rattle.std.specs.Prelude.{◌≡◌, [], ◌∷◌, codes, refl, Some, None, Ok, Err}
+use Rattle.std.specs.Prelude.{◌≡◌, [], ◌∷◌, codes, map, refl, Some, None, Ok, Err}
 use Rattle.em_model.specs.declared.command.Command.TheVariants as command
 use Rattle.emtool.specs.declared.text.FileKind.TheVariants.{Map, Queue, Stab}
 use Rattle.emtool.specs.declared.text.TextKind.TheVariants.{BadNumber, TooLarge, BadSeparator, Unknown, EmptyLine, LowAboveHigh, TooLong}
@@ -75,26 +75,13 @@ the_command_of_a_last_line = refl
 
 -- Lines of a text whose front was given.
 
-five_of_two_lines : lines_given 5 (codes "get 1\nget 2") ≡ 0
-five_of_two_lines = refl
+two_lines : map (λ n. lines_given n (codes "get 1\nget 2")) (5 ∷ 6 ∷ 10 ∷ 11 ∷ [])
+    ≡ 0 ∷ 1 ∷ 1 ∷ 2 ∷ []
+two_lines = refl
 
-six_of_two_lines : lines_given 6 (codes "get 1\nget 2") ≡ 1
-six_of_two_lines = refl
-
-ten_of_two_lines : lines_given 10 (codes "get 1\nget 2") ≡ 1
-ten_of_two_lines = refl
-
-all_of_two_lines : lines_given 11 (codes "get 1\nget 2") ≡ 2
-all_of_two_lines = refl
-
-five_before_an_empty_line : lines_given 5 (codes "get 1\n\n") ≡ 0
-five_before_an_empty_line = refl
-
-six_before_an_empty_line : lines_given 6 (codes "get 1\n\n") ≡ 1
-six_before_an_empty_line = refl
-
-all_with_an_empty_line : lines_given 7 (codes "get 1\n\n") ≡ 2
-all_with_an_empty_line = refl
+a_line_and_an_empty_line : map (λ n. lines_given n (codes "get 1\n\n")) (5 ∷ 6 ∷ 7 ∷ [])
+    ≡ 0 ∷ 1 ∷ 2 ∷ []
+a_line_and_an_empty_line = refl
 
 none_of_the_empty_text : lines_given 0 [] ≡ 0
 none_of_the_empty_text = refl

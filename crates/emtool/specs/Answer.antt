@@ -33,7 +33,7 @@ popped_line answer = popped_word answer ++ 10 ∷ []
 abbrev pub queue_text : List (Option (ℕ × ℕ)) → List ℕ
 queue_text answers = flat_map popped_line answers
 
--- numbers, each behind a space
+-- numbers, each after a space
 abbrev pub further_words : List ℕ → List ℕ
 further_words numbers = flat_map (λ n. 32 ∷ decimal n) numbers
 

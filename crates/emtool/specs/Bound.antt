@@ -1,13 +1,13 @@
--- The stated bounds of a run, by the size of the run, where this much of the text is left.
+-- The stated bounds of a run, by its size, if this much of its text is left.
 use Rattle.std.specs.Prelude.{ℕ, ◌+◌, ◌*◌, List}
 use Rattle.em_record.specs.Cost.{cost}
 use Rattle.emtool.specs.declared.job.Job.{Job}
 use Rattle.emtool.specs.RunSize.{run_size}
 
--- the block transfers that a run may make
+-- the transfer cost of a run's size; no run is held to it yet
 abbrev pub transfer_bound : Job → List ℕ → List ℕ → ℕ
 transfer_bound job text left = cost job.shape (run_size job.kind text left)
 
--- the blocks that are enough for a run: one for each transfer, and four for each frame
+-- the blocks that are enough for a run: its transfer cost, and four for each frame
 abbrev pub stated_room : Job → List ℕ → List ℕ → ℕ
 stated_room job text left = transfer_bound job text left + 4 * job.shape.frames

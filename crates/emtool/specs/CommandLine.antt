@@ -17,7 +17,7 @@ abbrev pub ◌>>=◌ : {A B : Type 0} → Result A TextKind → (A → Result B 
 (Ok x) >>= next = next x
 (Err fault) >>= next = Err fault
 
--- the number that decimal digits spell, behind digits that spell `n`
+-- the number that decimal digits spell, after digits that spell `n`
 abbrev pub digits_after : ℕ → List ℕ → ℕ
 digits_after n [] = n
 digits_after n (digit ∷ digits) = digits_after (10 * n + (digit - 48)) digits
@@ -34,21 +34,21 @@ number_of (byte ∷ bytes) =
     if all_ascii_digits (byte ∷ bytes) && nat_le (length (byte ∷ bytes)) 20
     then in_range (digits_after 0 (byte ∷ bytes)) else Err BadNumber
 
--- the operand that is the first of the parts that are left; where there is none the line has ended
+-- the operand that is the first of the parts that are left; if there is none the line has ended
 abbrev pub operand : List (List ℕ) → Result ℕ TextKind
 operand [] = Err BadSeparator
 operand (part ∷ parts) = number_of part
 
--- the command, if the line ends behind its last operand
+-- the command, if the line ends after its last operand
 abbrev pub at_end : List (List ℕ) → Command → Result Command TextKind
 at_end [] spelled = Ok spelled
 at_end (part ∷ parts) spelled = Err BadSeparator
 
--- a command of one operand, from the parts behind its word
+-- a command of one operand, from the parts after its word
 abbrev pub with_operand : (ℕ → Command) → List (List ℕ) → Result Command TextKind
 with_operand make parts = operand parts >>= λ x. at_end (drop 1 parts) (make x)
 
--- a command of two operands, from the parts behind its word
+-- a command of two operands, from the parts after its word
 abbrev pub with_operands : (ℕ → ℕ → Command) → List (List ℕ) → Result Command TextKind
 with_operands make parts = operand parts >>= λ x. with_operand (make x) (drop 1 parts)
 
@@ -58,7 +58,7 @@ in_order (command.Interval low high) =
     if nat_lt high low then Err LowAboveHigh else Ok (command.Interval low high)
 in_order other = Ok other
 
--- the command of a map file, from its word and the parts behind it: `put K V`, `del K` or `get K`
+-- the command of a map file, from its word and the parts after it: `put K V`, `del K` or `get K`
 abbrev pub map_command_of : List ℕ → List (List ℕ) → Result Command TextKind
 map_command_of word parts =
     if bytes_eq word (codes "put") then with_operands command.Put parts
@@ -80,7 +80,7 @@ stab_command_of word parts =
     else (if bytes_eq word (codes "stab") then with_operand command.Stab parts
     else Err Unknown)
 
--- the command of a word and the parts behind it, by the file's table of words
+-- the command of a word and the parts after it, by the file's table of words
 abbrev pub table_command_of : FileKind → List ℕ → List (List ℕ) → Result Command TextKind
 table_command_of kind.Map word parts = map_command_of word parts
 table_command_of kind.Queue word parts = queue_command_of word parts
@@ -93,7 +93,7 @@ command_of_parts kind (word ∷ parts) = table_command_of kind word parts
 
 -- The command that a line spells, or the fault of its first item that fails. The items in order:
 -- the line has a byte; its word is of the file's table; before each operand stands one space,
--- and the operand is a number; behind the last one the line ends; an interval is in order.
+-- and the operand is a number; after the last one the line ends; an interval is in order.
 abbrev pub command_of : FileKind → List ℕ → Result Command TextKind
 command_of kind [] = Err EmptyLine
 command_of kind (byte ∷ bytes) = command_of_parts kind (parts_of (byte ∷ bytes))
@@ -107,7 +107,7 @@ pub record Parsed : Type 0 where
   pub good : List Command
   pub fault : Option (TextKind × ℕ)
 
--- what is parsed of a line of this number and of the lines behind it
+-- what is parsed of a line of this number and of the lines after it
 abbrev pub before_parsed : ℕ → Result Command TextKind → Parsed → Parsed
 before_parsed number (Ok spelled) behind =
     record { good = spelled ∷ behind.good; fault = behind.fault }

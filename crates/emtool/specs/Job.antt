@@ -1,6 +1,6 @@
 -- The job that the words name, or their first refusal: docs/FORMATS.md, "Words". A word is the list
 -- of its bytes.
-use Rattle.std.specs.Prelude.{ℕ, ◌+◌, ◌*◌, ◌/◌, ◌<◌, ◌≤◌, ◌^◌, List, [], ◌∷◌, if◌then◌else◌, codes, bytes_eq, get_or, length, map, min, nat_le, nat_lt, Option, Some, None, String, string_bytes, Result, Ok, Err, IfOk}
+use Rattle.std.specs.Prelude.{ℕ, ◌+◌, ◌*◌, ◌/◌, ◌<◌, ◌≤◌, ◌^◌, List, [], ◌∷◌, if◌then◌else◌, codes, bytes_eq, get_or, length, map, min, nat_le, nat_lt, Option, Some, None, String, string_bytes, Result, Ok, Err}
 use Rattle.std.specs.Global.{Global}
 use Rattle.em_record.specs.declared.fault.ShapeFault.{ShapeFault}
 use Rattle.em_record.specs.declared.fault.ShapeFault.TheVariants as shape
@@ -27,7 +27,7 @@ abbrev pub ◌>>=◌ : {A B : Type 0} → Result A Usage → (A → Result B Usa
 (Ok x) >>= next = next x
 (Err usage) >>= next = Err usage
 
--- what comes next, behind options of which one may be refused
+-- what comes next, after options of which one may be refused
 abbrev pub unless : {A : Type 0} → Option Usage → Result A Usage → Result A Usage
 unless None next = next
 unless (Some usage) next = Err usage
@@ -87,12 +87,12 @@ job_with kind options file =
       file = file;
     })
 
--- the job of so many words, of which these option words stand behind the command
+-- the job of this many words, of which these option words stand after the command
 abbrev pub job_behind : FileKind → List (List ℕ) → ℕ → Result Job Usage
 job_behind kind options count = unless (options_refusal [] options)
     (operand_of (length options + 1) count >>= λ file. job_with kind options file)
 
--- the job of a command of this kind, and of the words behind the command
+-- the job of a command of this kind, and of the words after the command
 abbrev pub job_for : Option FileKind → List (List ℕ) → Result Job Usage
 job_for None words = refused UnknownCommand 0
 job_for (Some kind) words = job_behind kind (option_words words) (length words + 1)
@@ -106,13 +106,14 @@ job_of (command ∷ words) = job_for (kind_of command) words
 abbrev pub file_name : List (List ℕ) → Job → List ℕ
 file_name words job = get_or words job.file []
 
--- P of the job, where the words name one
-abbrev pub ForJob : List (List ℕ) → (Job → Type 0) → Type 0
-ForJob words P = IfOk (job_of words) P
-
 -- the limits of a job over this many words
 pub record IsJob (words : ℕ) (job : Job) : Type 0 where
   pub shape : IsShape job.shape
   pub blocks_low : 0 < job.blocks
   pub blocks_high : job.blocks ≤ 2 ^ 40
   pub file : job.file < words
+
+-- A job has some blocks, and at most 2 ^ 40.
+pub record HasBlocks (job : Job) : Type 0 where
+  pub low : 0 < job.blocks
+  pub high : job.blocks ≤ 2 ^ 40

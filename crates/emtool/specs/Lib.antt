@@ -9,6 +9,7 @@ pub mod Lines
 pub mod Options
 pub mod Outcome
 pub mod Print
+pub mod Promise
 pub mod Reads
 pub mod Report
 pub mod Run

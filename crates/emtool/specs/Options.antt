@@ -12,7 +12,7 @@ use Rattle.emtool.specs.CommandLine.{number_of}
 abbrev pub is_option : List ℕ → Bool
 is_option word = starts_with nat_eq word (codes "--")
 
--- the option words among the words behind a command: those up to the first that is none
+-- the option words among the words after a command: those up to the first that is none
 abbrev pub option_words : List (List ℕ) → List (List ℕ)
 option_words words = before_first (λ word. not (is_option word)) words
 
@@ -20,7 +20,7 @@ option_words words = before_first (λ word. not (is_option word)) words
 abbrev pub name_of : List ℕ → List ℕ
 name_of word = before_first (λ byte. byte == 61) word
 
--- an option's number: what stands behind the first `=`, where that is a number
+-- an option's number: what stands after the first `=`, where that is a number
 abbrev pub number_in : List ℕ → Option ℕ
 number_in word = result_ok (number_of (after_first (λ byte. byte == 61) word))
 
@@ -51,19 +51,19 @@ has_value word =
     if has_name (codes "--stats") word then bytes_eq word (codes "--stats")
     else is_some (number_in word)
 
--- what is wrong with an option word behind these earlier ones
+-- what is wrong with an option word after these earlier ones
 abbrev pub option_fault : List (List ℕ) → List ℕ → Option UsageKind
 option_fault earlier word =
     if not (is_known word) then Some UnknownOption
     else (if has_option (name_of word) earlier then Some RepeatedOption
     else (if not (has_value word) then Some BadValue else None))
 
--- the fault at a word, or else what is refused behind it
+-- the fault at a word, or else what is refused after it
 abbrev pub refused_or : Option UsageKind → ℕ → Option Usage → Option Usage
 refused_or None number behind = behind
 refused_or (Some kind) number behind = Some (record { kind = kind; word = number })
 
--- the first refusal among option words that stand behind these earlier ones
+-- the first refusal among option words that stand after these earlier ones
 abbrev pub options_refusal : List (List ℕ) → List (List ℕ) → Option Usage
 options_refusal earlier [] = None
 options_refusal earlier (word ∷ words) =
@@ -76,6 +76,6 @@ number_or name options default =
     unwrap_or (option_and_then (λ place. number_in (get_or options place []))
     (place_of name options)) default
 
--- the number of the word of the option of this name, which stands behind the command
+-- the number of the word of the option of this name, which stands after the command
 abbrev pub word_of : List ℕ → List (List ℕ) → ℕ
 word_of name options = unwrap_or (place_of name options) (length options) + 1

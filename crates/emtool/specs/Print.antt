@@ -1,10 +1,13 @@
 -- The text of answers that are records: docs/FORMATS.md, "Records of answers".
-use Rattle.std.specs.Prelude.{◌≡◌, ℕ, zero, suc, ◌+◌, ◌==◌, if◌then◌else◌, false, List, [], ◌∷◌, ◌++◌, map, Option, Some, None, option_map, option_to_list, IfNone, IsTrue}
+use Rattle.std.specs.Prelude.{◌≡◌, ℕ, zero, suc, ◌+◌, ◌<◌, ◌≤◌, ◌==◌, if◌then◌else◌, false, List, [], ◌∷◌, ◌++◌, map, Option, Some, None, option_map, option_to_list, IfErr, IfNone, IsTrue, Result}
 use Rattle.em_record.specs.declared.record.Record.{Record}
-use Rattle.em_space.specs.Rig.{RigState}
-use Rattle.em_chain.specs.Reader.{IsReader, reader_items}
+use Rattle.em_io.specs.declared.sink.Sink.{Ghosts as SinkGhosts}
+use Rattle.em_space.specs.Rig.{RigState, Goes, Sound}
+use Rattle.em_chain.specs.Reader.{IsReader, ReaderHasFrame, reader_items}
 use Rattle.em_chain.specs.declared.reader.Reader.{Reader}
 use Rattle.emtool.specs.Answer.{map_text, stab_text}
+use Rattle.emtool.specs.Stop.{PrintCause}
+use Rattle.emtool.specs.declared.stop.Stop.{Stop}
 use Rattle.emtool.specs.declared.text.FileKind.{FileKind}
 use Rattle.emtool.specs.declared.text.FileKind.TheVariants.{Map, Queue, Stab}
 
@@ -21,18 +24,18 @@ abbrev pub intervals_at : ℕ → List Record → List ℕ
 intervals_at stab [] = []
 intervals_at stab (x ∷ xs) = if x.a == stab then x.b ∷ intervals_at stab xs else []
 
--- the pairs behind them
+-- the pairs after them
 abbrev pub pairs_behind : ℕ → List Record → List Record
 pairs_behind stab [] = []
 pairs_behind stab (x ∷ xs) = if x.a == stab then pairs_behind stab xs else x ∷ xs
 
--- the answers to so many stabs, of which the first has this number
+-- the answers to this many stabs, of which the first has this number
 abbrev pub groups_from : ℕ → ℕ → List Record → List (List ℕ)
 groups_from stab zero items = []
 groups_from stab (suc n) items =
     intervals_at stab items ∷ groups_from (stab + 1) n (pairs_behind stab items)
 
--- the text of the records of answers of a file of this kind, and of so many stabs
+-- the text of the records of answers of a file of this kind, and of this many stabs
 abbrev pub records_text : FileKind → ℕ → List Record → List ℕ
 records_text Map stabs items = map_text (answers_in items)
 records_text Queue stabs items = []
@@ -47,8 +50,25 @@ pub record LooksAt (s : RigState) (r : Reader) : Type 0 where
   pub is : IsReader s r
   pub over : r.taking ≡ false
 
--- From a first pair, if any, and a reader of those behind it, all pairs of a stab were read: another
--- one is the next, if any, and a reader has those behind it.
+-- Such a reader may be read: a frame is free for it.
+pub record Looks (s : RigState) (r : Reader) : Type 0 where
+  pub sound : Sound s
+  pub reader : LooksAt s r
+  pub free : 0 < s.pool.free
+
+-- Records were read, which changed no block, and the reader's frame is the pool's.
+pub record ReadsOn (s t : RigState) (r : Reader) : Type 0 where
+  pub goes : Goes [] s t
+  pub frame : ReaderHasFrame t r
+
+-- No count of faults of the output fell, and a stop has its cause.
+pub record PrintStops {T W : Type 0} (w : SinkGhosts W) (out out_after : W) (s t : RigState)
+    (result : Result T Stop) : Type 0 where
+  pub later : w.faults out ≤ w.faults out_after
+  pub cause : IfErr result (PrintCause (w.faults out) (w.faults out_after) s t)
+
+-- From a first pair, if any, and a reader of those after it, all pairs of a stab were read: another
+-- one is the next, if any, and a reader has those after it.
 pub record IsBehind (stab : ℕ) (s t : RigState) (first : Option Record) (r : Reader)
     (next : Option Record) (q : Reader) : Type 0 where
   pub reader : LooksAt t q

@@ -18,7 +18,7 @@ pub record Reads (tells : Bool) (feed : Fed) (stand : Stand) (feed_after : Fed)
   pub lost : IsTrue tells → (stand_after.slot feed.slot).lost ≡ (stand.slot feed.slot).lost
 
 -- What every reader of a line promises: at most `most` bytes were taken, only the feed's slot was
--- read, and the answer is that the shelf failed only where its count of faults rose.
+-- read, and the answer is that the shelf failed only if its count of faults rose.
 pub record ReadsLine {A : Type 0} (most : ℕ) (tells : Bool) (feed : Fed) (stand : Stand)
     (faults : ℕ) (feed_after : Fed) (stand_after : Stand) (faults_after : ℕ)
     (result : Result A LineStop) : Type 0 where

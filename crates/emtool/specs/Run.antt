@@ -10,6 +10,7 @@ use Rattle.em_io.specs.declared.sink.Sink.{Ghosts as SinkGhosts}
 use Rattle.em_frames.specs.Device.{DeviceState}
 use Rattle.em_frames.specs.Pool.{PoolCounts}
 use Rattle.em_plain.specs.Room.{plain_room}
+use Rattle.em_space.specs.Rig.{RigState}
 use Rattle.em_space.specs.declared.fault.EmFault.{EmFault}
 use Rattle.em_space.specs.declared.fault.EmFault.TheVariants as em
 use Rattle.emtool.specs.declared.status.Status.{Status}
@@ -19,18 +20,17 @@ use Rattle.emtool.specs.declared.stop.Stop.{Stop}
 use Rattle.emtool.specs.declared.stop.Stop.TheVariants as stop
 use Rattle.emtool.specs.declared.text.FileKind.{FileKind}
 use Rattle.emtool.specs.declared.text.FileKind.TheVariants.{Map, Queue, Stab}
-use Rattle.emtool.specs.Bound.{stated_room}
 use Rattle.emtool.specs.declared.job.Job.{Job}
-use Rattle.emtool.specs.Due.{due_status, output_text}
+use Rattle.emtool.specs.Due.{due_status, output_text, text_of}
 use Rattle.emtool.specs.RunSize.{run_size}
-use Rattle.emtool.specs.Status.{OnEnd, OnDone, IfEndsFull, IfEndsDamaged}
+use Rattle.emtool.specs.Status.{OnBegun, OnEnd, OnDone, OnNoMemory, OnUsage, IfEndsFull, IfEndsDamaged}
 
--- The outside at one moment: the device, the state of the output, the first slot of the shelf, and
--- how often shelf and output failed.
+-- The outside at one moment: the device, the state of the output, what stands on the shelf, and how
+-- often shelf and output failed.
 pub record Outside : Type 0 where
   pub device : DeviceState
   pub output : List ℕ
-  pub slot : SlotState
+  pub stand : Stand
   pub read_faults : ℕ
   pub write_faults : ℕ
 
@@ -39,7 +39,7 @@ abbrev pub outside : {H W : Type 0} → ShelfGhosts H → SinkGhosts W → Devic
 outside h w device shelf out = record {
   device = device;
   output = w.state out;
-  slot = (h.stand shelf).slot First;
+  stand = h.stand shelf;
   read_faults = h.faults shelf;
   write_faults = w.faults out;
 }
@@ -79,7 +79,7 @@ CountsBy Map told = Unit {0}
 CountsBy Queue told = Unit {0}
 CountsBy Stab told = IsTrue told
 
--- The end of a run over this text, on a device of so many blocks of which none was in use or moved
+-- The end of a run over this text, on a device of this many blocks of which none was in use or moved
 -- before.
 pub record Ended (tells : Bool) (took : List ℕ → List ℕ → List ℕ) (kind : FileKind)
     (text : List ℕ) (shape : ShapeNumbers) (blocks : ℕ) (old new : Outside) (status : Status)
@@ -87,14 +87,15 @@ pub record Ended (tells : Bool) (took : List ℕ → List ℕ → List ℕ) (kin
   pub answers : IsTrue tells → IsTrue old.device.told
       → OnEnd status
       ((status ≡ due_status kind text) × (new.output ≡ took old.output (output_text kind text)))
+  pub due : IsTrue tells → OnEnd status (status ≡ due_status kind text)
   pub prefix : IsTrue tells → IsTrue old.device.told
       → SentPart took old.output (output_text kind text) new.output
-  pub all_read : OnDone status (IsAllRead tells new.slot)
+  pub all_read : OnDone status (IsAllRead tells (new.stand.slot First))
   pub full : IfEndsFull status (λ used. used ≡ blocks)
   pub paid : IfEndsFull status
       (λ used. (2 ^ 64 - 1 ≤ new.device.moves) ⊎ (used ≤ new.device.moves + shape.frames))
   pub size : IsTrue tells → CountsBy kind old.device.told
-      → IfEndsFull status (λ used. used ≤ plain_room shape (run_size kind text new.slot.left))
+      → IfEndsFull status (λ used. used ≤ plain_room shape (run_size kind text (new.stand.slot First).left))
   pub damaged : IfEndsDamaged status (λ at. IsFalse old.device.told × (at < blocks))
 
 -- The device still tells what it told, and no count of faults fell.
@@ -117,7 +118,20 @@ pub record Caused (old new : Outside) (status : Status) : Type 0 where
   pub write : status ≡ WriteFault → Rose old.write_faults new.write_faults
   pub device : status ≡ DeviceFault → Rose old.device.faults new.device.faults
 
--- No slot but the first changed. Where the shelf tells, it is lost only where no file has this
+-- A run over the open slot's text, on a rig that was `s` and is `t`: how it ended, and why. Only that
+-- slot was read.
+pub record Runs {H W : Type 0} (h : ShelfGhosts H) (w : SinkGhosts W) (kind : FileKind)
+    (s t : RigState) (shelf : H) (out : W) (shelf_after : H) (out_after : W) (status : Status)
+    : Type 0 where
+  pub ended : Ended h.tells w.took kind ((h.stand shelf).slot First).left s.pool.shape s.blocks
+      (outside h w s.device shelf out) (outside h w t.device shelf_after out_after) status
+  pub caused : Caused (outside h w s.device shelf out)
+      (outside h w t.device shelf_after out_after) status
+  pub reads : ReadsFirst h.tells (h.stand shelf) (h.stand shelf_after)
+  pub no_usage : OnUsage status ⊥
+  pub no_memory : OnNoMemory status ⊥
+
+-- No slot but the first changed. If the shelf tells, it is lost only if no file has this
 -- name, and where the run was done or the input malformed a file has it.
 pub record OpensOnly (tells : Bool) (name : List ℕ) (old new : Stand) (status : Status)
     : Type 0 where
@@ -130,13 +144,15 @@ pub record HasSizes (job : Job) (device : DeviceState) : Type 0 where
   pub blocks : device.blocks ≡ job.blocks
   pub block : device.block ≡ job.shape.block
 
--- The device was full of blocks in use: their number is that of the job's blocks. It is below the
--- moves that were made plus four for each frame, where the count of moves isn't at its end, and
--- below the stated room.
-pub record IsFull (tells : Bool) (job : Job) (text : List ℕ) (old new : Outside) (used : ℕ)
-    : Type 0 where
-  pub all : used ≡ job.blocks
-  pub moves : new.device.moves < 2 ^ 64 - 1
-      → used + old.device.moves < new.device.moves + 4 * job.shape.frames
-  pub room : IsTrue tells → CountsBy job.kind old.device.told
-      → used < stated_room job text new.slot.left
+-- The run of a job over the file of this name: how it ended, and why; the file alone was opened; and
+-- unless the device failed at once, it has the job's sizes.
+pub record RunsJob {H W : Type 0} (h : ShelfGhosts H) (w : SinkGhosts W) (job : Job) (name : List ℕ)
+    (device : DeviceState) (shelf : H) (out : W) (device_after : DeviceState) (shelf_after : H)
+    (out_after : W) (status : Status) : Type 0 where
+  pub ended : Ended h.tells w.took job.kind (text_of (h.stand shelf) name) job.shape job.blocks
+      (outside h w device shelf out) (outside h w device_after shelf_after out_after) status
+  pub caused : Caused (outside h w device shelf out)
+      (outside h w device_after shelf_after out_after) status
+  pub opens : OpensOnly h.tells name (h.stand shelf) (h.stand shelf_after) status
+  pub begun : OnBegun status (HasSizes job device_after)
+  pub no_usage : OnUsage status ⊥

@@ -1,12 +1,12 @@
 -- A queue file that is answered pop by pop.
-use Rattle.std.specs.Prelude.{◌≡◌, ℕ, ◌+◌, ◌-◌, ◌≤◌, ◌^◌, ◌⊎◌, List, [], ◌∷◌, map, Result, OnOk, IfErr}
+use Rattle.std.specs.Prelude.{◌≡◌, ℕ, ◌+◌, ◌-◌, ◌≤◌, ◌^◌, ◌⊎◌, List, map, Result, OnOk, IfErr}
 use Rattle.em_record.specs.Count.{Rose}
 use Rattle.em_io.specs.Sink.{SentPart}
 use Rattle.em_model.specs.Queue.{Item, Queue, AreInOrder}
 use Rattle.em_record.specs.Order.{in_order}
 use Rattle.em_record.specs.declared.record.Record.{Record}
-use Rattle.em_space.specs.Queue.{QueueCounts}
-use Rattle.em_space.specs.Rig.{RigState, Cause}
+use Rattle.em_space.specs.Queue.{QueueCounts, Shares}
+use Rattle.em_space.specs.Rig.{RigState, Cause, Sound, Touches}
 use Rattle.emtool.specs.Stop.{OnFault}
 use Rattle.emtool.specs.declared.stop.Stop.{Stop}
 use Rattle.emtool.specs.declared.stop.Stop.TheVariants.{Fault, Read, Write, Em}
@@ -23,16 +23,11 @@ item_record x = record { a = x.key; b = x.number; c = x.value; d = 0 }
 abbrev pub waiting_records : Queue → List Record
 waiting_records q = in_order (map item_record q.waiting)
 
--- These items wait, and so many pushes came before, after the commands of this queue.
+-- These items wait, and this many pushes came before, after the commands of this queue.
 pub record Follows (items : List Record) (pushes : ℕ) (q : Queue) : Type 0 where
   pub items_are : items ≡ waiting_records q
   pub pushes_are : pushes ≡ q.pushes
   pub in_order : AreInOrder q
-
--- each item has one of these numbers
-abbrev pub NumberedTo : ℕ → List Record → Type 0
-NumberedTo n [] = Unit {0}
-NumberedTo n (x ∷ xs) = (x.b ≤ n) × NumberedTo n xs
 
 -- The text of all answers went out where the run was done or stopped at a faulty line, else a front
 -- of it.
@@ -42,12 +37,13 @@ pub record Answers {T : Type 0} (took : List ℕ → List ℕ → List ℕ) (tex
   pub fault : IfErr result (λ stop. OnFault stop (new ≡ took old text))
   pub part : SentPart took old text new
 
--- All blocks in use are the queue's, which never held more than its number says, and were moved or
--- aren't stored yet.
+-- The queue is alone on the rig: all blocks in use are its own, at no moment more than its number
+-- says; each was moved or isn't stored yet; and all moves were made in its calls.
 pub record IsAlone (s : RigState) (c : QueueCounts) : Type 0 where
   pub used : s.used ≡ c.blocks
   pub most : s.most ≤ c.most
   pub paid : (2 ^ 64 - 1 ≤ s.moves) ⊎ (s.used ≤ s.moves + c.unstored)
+  pub moved : s.moves ≤ c.spent
 
 -- A stop of a call that answers one command: the output's count of faults rose, or the rig gave up.
 abbrev pub ServeCause : ℕ → ℕ → RigState → RigState → Stop → Type 0
@@ -60,3 +56,10 @@ ServeCause faults after old new (Em fault) = Cause old new fault
 pub record IsFilledBy (c : QueueCounts) (new : RigState) (used : ℕ) : Type 0 where
   pub paid : (2 ^ 64 - 1 ≤ new.moves) ⊎ (used ≤ new.moves + new.pool.shape.frames)
   pub most : used ≤ c.most
+
+-- All that happened on the rig were calls of a queue, which held these blocks at first.
+pub record CallsOnly (held : List ℕ) (c d : QueueCounts) (s t : RigState) : Type 0 where
+  pub sound : Sound t
+  pub touches : Touches held s t
+  pub shares : Shares c d s.pool t.pool
+  pub spent : t.moves + c.spent ≡ s.moves + d.spent

@@ -38,7 +38,7 @@ OnEnd Done P = P
 OnEnd (Malformed kind place) P = P
 OnEnd other P = Unit {0}
 
--- P, where there was no memory
+-- P, if there was no memory
 abbrev pub OnNoMemory : Status → Type 0 → Type 0
 OnNoMemory NoMemory P = P
 OnNoMemory other P = Unit {0}

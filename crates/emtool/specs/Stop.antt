@@ -25,7 +25,7 @@ fault_counts read write = record { read = read; write = write }
 abbrev pub reading : ℕ → Faults
 reading faults = fault_counts faults 0
 
--- A stop has its cause: the first fault of the text, where the shelf tells it; a count of faults
+-- A stop has its cause: the first fault of the text, if the shelf tells it; a count of faults
 -- that rose; or what a call on the rig says.
 abbrev pub StopCause : Bool → FileKind → List ℕ → Faults → Faults → RigState → RigState → Stop
     → Type 0

@@ -22,7 +22,7 @@ abbrev pub after_word : List ℕ → List ℕ
 after_word [] = []
 after_word (byte ∷ bytes) = if byte == 32 || byte == 10 then byte ∷ bytes else after_word bytes
 
--- The parts of the line that are left behind a part. Only a space, a newline or the text's end
+-- The parts of the line that are left after a part. Only a space, a newline or the text's end
 -- stands there, so that what is no newline is taken for the space.
 abbrev pub parts_left : List ℕ → List (List ℕ)
 parts_left [] = []

@@ -5,7 +5,7 @@ ghost use Rattle.em_io.specs.Feed.{rest};
 ghost use Rattle.emtool.specs.CommandLine.{at_end, map_command_of, queue_command_of, stab_command_of, table_command_of, command_of, parsed_from};
 ghost use Rattle.emtool.specs.Kind.{IsOfKind};
 ghost use Rattle.emtool.specs.Lines.{lines_of};
-ghost use Rattle.emtool.specs.LineTaken.{LineTaken};
+ghost use Rattle.emtool.specs.LineTaken.{LineTaken, ReadsCommand};
 ghost use Rattle.emtool.specs.Stream.{line_at, after_line, parts_left};
 ghost use Rattle.emtool.specs.Stops.{Gives, IfFault};
 ghost use Rattle.emtool.specs.Reads.{ReadsLine};
@@ -23,7 +23,7 @@ const LAST_LINE: u64 = 1 << 40;
 /// More bytes than any word of a table has.
 const LONG_WORD: usize = 5;
 
-/// Reads the line's end behind the last operand of a command.
+/// Reads the line's end after the last operand of a command.
 #[tactic(auto, using(crate::proofs::Steps::reads_then, crate::proofs::Steps::reads_take))]
 fn read_end<H: Shelf>(feed: &mut Feed, shelf: &mut H, command: Command) -> Result<Command, LineStop>
     requires ready { ((H.stand shelf.old).slot feed.old.slot).ready ≡ true }
@@ -46,18 +46,15 @@ fn read_end<H: Shelf>(feed: &mut Feed, shelf: &mut H, command: Command) -> Resul
     }
 }
 
-/// Reads the rest of a line of a map file, behind its word.
+/// Reads the rest of a line of a map file, after its word.
 #[tactic(auto, using(crate::proofs::Steps::reads_then))]
 fn map_command<H: Shelf>(feed: &mut Feed, shelf: &mut H, word: &[u8]) -> Result<Command, LineStop>
     requires ready { ((H.stand shelf.old).slot feed.old.slot).ready ≡ true }
     requires place { feed.old.place < 2 ^ 47 }
-    ensures value { IsTrue H.tells → Gives result
-        (map_command_of word.now (parts_left (rest feed.old (H.stand shelf.old)))) }
-    ensures line { IsTrue H.tells → OnOk result
-        (rest feed.new (H.stand shelf.new) ≡ after_line (rest feed.old (H.stand shelf.old))) }
-    ensures kind { IfOk result (IsOfKind FileKind.Map) }
-    ensures reads { ReadsLine 43 H.tells feed.old (H.stand shelf.old) (H.faults shelf.old)
-        feed.new (H.stand shelf.new) (H.faults shelf.new) result }
+    ensures reads { ReadsCommand FileKind.Map 43
+        H.tells feed.old (H.stand shelf.old) (H.faults shelf.old)
+        feed.new (H.stand shelf.new) (H.faults shelf.new)
+        (map_command_of word.now (parts_left (rest feed.old (H.stand shelf.old)))) result }
 {
     if word == b"put".as_slice() {
         let key = read_operand(feed, shelf)?;
@@ -74,18 +71,15 @@ fn map_command<H: Shelf>(feed: &mut Feed, shelf: &mut H, word: &[u8]) -> Result<
     }
 }
 
-/// Reads the rest of a line of a queue file, behind its word.
+/// Reads the rest of a line of a queue file, after its word.
 #[tactic(auto, using(crate::proofs::Steps::reads_then))]
 fn queue_command<H: Shelf>(feed: &mut Feed, shelf: &mut H, word: &[u8]) -> Result<Command, LineStop>
     requires ready { ((H.stand shelf.old).slot feed.old.slot).ready ≡ true }
     requires place { feed.old.place < 2 ^ 47 }
-    ensures value { IsTrue H.tells → Gives result
-        (queue_command_of word.now (parts_left (rest feed.old (H.stand shelf.old)))) }
-    ensures line { IsTrue H.tells → OnOk result
-        (rest feed.new (H.stand shelf.new) ≡ after_line (rest feed.old (H.stand shelf.old))) }
-    ensures kind { IfOk result (IsOfKind FileKind.Queue) }
-    ensures reads { ReadsLine 43 H.tells feed.old (H.stand shelf.old) (H.faults shelf.old)
-        feed.new (H.stand shelf.new) (H.faults shelf.new) result }
+    ensures reads { ReadsCommand FileKind.Queue 43
+        H.tells feed.old (H.stand shelf.old) (H.faults shelf.old)
+        feed.new (H.stand shelf.new) (H.faults shelf.new)
+        (queue_command_of word.now (parts_left (rest feed.old (H.stand shelf.old)))) result }
 {
     if word == b"push".as_slice() {
         let key = read_operand(feed, shelf)?;
@@ -98,18 +92,15 @@ fn queue_command<H: Shelf>(feed: &mut Feed, shelf: &mut H, word: &[u8]) -> Resul
     }
 }
 
-/// Reads the rest of a line of a stab file, behind its word.
+/// Reads the rest of a line of a stab file, after its word.
 #[tactic(auto, using(crate::proofs::Steps::reads_then))]
 fn stab_command<H: Shelf>(feed: &mut Feed, shelf: &mut H, word: &[u8]) -> Result<Command, LineStop>
     requires ready { ((H.stand shelf.old).slot feed.old.slot).ready ≡ true }
     requires place { feed.old.place < 2 ^ 47 }
-    ensures value { IsTrue H.tells → Gives result
-        (stab_command_of word.now (parts_left (rest feed.old (H.stand shelf.old)))) }
-    ensures line { IsTrue H.tells → OnOk result
-        (rest feed.new (H.stand shelf.new) ≡ after_line (rest feed.old (H.stand shelf.old))) }
-    ensures kind { IfOk result (IsOfKind FileKind.Stab) }
-    ensures reads { ReadsLine 43 H.tells feed.old (H.stand shelf.old) (H.faults shelf.old)
-        feed.new (H.stand shelf.new) (H.faults shelf.new) result }
+    ensures reads { ReadsCommand FileKind.Stab 43
+        H.tells feed.old (H.stand shelf.old) (H.faults shelf.old)
+        feed.new (H.stand shelf.new) (H.faults shelf.new)
+        (stab_command_of word.now (parts_left (rest feed.old (H.stand shelf.old)))) result }
 {
     if word == b"iv".as_slice() {
         let low = read_operand(feed, shelf)?;
@@ -127,7 +118,7 @@ fn stab_command<H: Shelf>(feed: &mut Feed, shelf: &mut H, word: &[u8]) -> Result
     }
 }
 
-/// Reads the rest of a line behind its word, by the file's table of words.
+/// Reads the rest of a line after its word, by the file's table of words.
 fn table_command<H: Shelf>(
     kind: FileKind,
     feed: &mut Feed,
@@ -136,13 +127,10 @@ fn table_command<H: Shelf>(
 ) -> Result<Command, LineStop>
     requires ready { ((H.stand shelf.old).slot feed.old.slot).ready ≡ true }
     requires place { feed.old.place < 2 ^ 47 }
-    ensures value { IsTrue H.tells → Gives result
-        (table_command_of kind word.now (parts_left (rest feed.old (H.stand shelf.old)))) }
-    ensures line { IsTrue H.tells → OnOk result
-        (rest feed.new (H.stand shelf.new) ≡ after_line (rest feed.old (H.stand shelf.old))) }
-    ensures kind { IfOk result (IsOfKind kind) }
-    ensures reads { ReadsLine 43 H.tells feed.old (H.stand shelf.old) (H.faults shelf.old)
-        feed.new (H.stand shelf.new) (H.faults shelf.new) result }
+    ensures reads { ReadsCommand kind 43
+        H.tells feed.old (H.stand shelf.old) (H.faults shelf.old)
+        feed.new (H.stand shelf.new) (H.faults shelf.new)
+        (table_command_of kind word.now (parts_left (rest feed.old (H.stand shelf.old)))) result }
 {
     match kind {
         FileKind::Map => map_command(feed, shelf, word),
@@ -177,7 +165,7 @@ fn filled_command<H: Shelf>(
 }
 
 /// Reads the line that begins here, of which it takes at most 48 bytes. After a command the feed
-/// stands behind the line's newline; after an `Err` it may stand anywhere in the line. `Fault` is
+/// stands after the line's newline; after an `Err` it may stand anywhere in the line. `Fault` is
 /// the fault of the line's first item that fails, and `Read` comes where the shelf failed.
 #[tactic(auto, using(crate::proofs::Steps::reads_then))]
 pub fn read_command<H: Shelf>(

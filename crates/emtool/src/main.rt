@@ -10,14 +10,8 @@ ghost use Rattle.emtool.specs.Outcome.{report_text};
 ghost use Rattle.emtool.specs.Status.{OnDone};
 
 mod byte;
-#[cfg(test)]
-mod command_tests;
-#[cfg(test)]
-mod device_tests;
 mod help;
 mod job;
-#[cfg(test)]
-mod job_tests;
 mod line;
 mod operand;
 mod option;
@@ -46,13 +40,13 @@ use std::alloc::Global;
 use std::process::ExitCode;
 use std::{env, io};
 
-/// The exit code where there is no memory.
+/// The exit code if there is no memory.
 const NO_MEMORY: u8 = 7;
 
 /// The exit code where a word isn't UTF-8.
 const USAGE: u8 = 1;
 
-/// The words behind the program's name, or the exit code of why they can't be had.
+/// The words after the program's name, or the exit code of why they can't be had.
 fn words_of(rt: &HostRuntime, alloc: Global) -> Result<Vec<String>, u8> {
     let arguments = match env::args(rt) {
         Ok(arguments) => arguments,

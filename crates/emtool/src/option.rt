@@ -155,7 +155,7 @@ pub fn word_of(options: &[String], name: &[u8]) -> u64
     }
 }
 
-/// What is wrong with an option word behind these earlier ones.
+/// What is wrong with an option word after these earlier ones.
 fn option_fault(earlier: &[String], word: &[u8]) -> Option<UsageKind>
     ensures { result ≡ option_fault (texts_of earlier.now) word.now }
 {
@@ -172,7 +172,7 @@ fn option_fault(earlier: &[String], word: &[u8]) -> Option<UsageKind>
     None
 }
 
-/// The option words among the words behind a command.
+/// The option words among the words after a command.
 #[tactic(auto, using(crate::proofs::OptionLemmas::first_found_map, crate::proofs::OptionLemmas::first_missing_map))]
 pub fn option_words(words: &[String]) -> &[String]
     ensures { texts_of result.now ≡ option_words (texts_of words.now) }

@@ -1,14 +1,14 @@
 // Answers that are printed, line by line.
-ghost use Rattle.std.specs.Prelude.{◌≡◌, ◌<◌, ◌≤◌, ◌++◌, ◌∷◌, [], None, decimal, option_to_list, IfErr, IfNone, IfOk, IsTrue, OnOk};
+ghost use Rattle.std.specs.Prelude.{◌≡◌, ◌<◌, ◌++◌, ◌∷◌, [], None, decimal, option_to_list, IfNone, IfOk, IsTrue, OnOk};
 ghost use Rattle.em_record.specs.Count.{HasCause};
 ghost use Rattle.em_io.specs.Sink.{Sent, SentPart};
 ghost use Rattle.em_space.specs.Rig.{Sound, Goes};
 ghost use Rattle.em_space.specs.Seen.{seen};
 ghost use Rattle.em_chain.specs.Chain.{IsChain, chain_items};
-ghost use Rattle.em_chain.specs.Reader.{ReaderHasFrame, reader_items};
+ghost use Rattle.em_chain.specs.Reader.{reader_items};
 ghost use Rattle.emtool.specs.Answer.{answer_line, answer_word, further_words, map_text, numbers_line, popped_line, popped_word, stab_text};
-ghost use Rattle.emtool.specs.Print.{IsBehind, LooksAt, answer_in, answers_in, groups_from, intervals_at, popped_in, records_text};
-ghost use Rattle.emtool.specs.Stop.{PrintCause, Prints};
+ghost use Rattle.emtool.specs.Print.{IsBehind, Looks, PrintStops, ReadsOn, answer_in, answers_in, groups_from, intervals_at, popped_in, records_text};
+ghost use Rattle.emtool.specs.Stop.{Prints};
 
 use crate::stop::Stop;
 use crate::text::FileKind;
@@ -55,106 +55,46 @@ fn print_answer<W: Sink>(out: &mut W, answer: Option<u64>) -> Result<(), Failed>
 }
 
 /// The answer to a get that a record stands for.
-fn to_answer(item: Record) -> Option<u64>
+fn answer_in(item: Record) -> Option<u64>
     ensures { result ≡ answer_in item }
 {
     if item.b == 0 { None } else { Some(item.c) }
 }
 
-/// Prints one line for each record of a chain of answers of a map.
+/// Prints one line for each record that a reader has left.
 fn print_map<D: Device, W: Sink>(
     rig: &mut Rig<'_, D>,
-    chain: &Chain,
-    out: &mut W,
-) -> Result<(), Stop>
-    requires sound { Sound (seen D.state rig.old) }
-    requires is { IsChain (seen D.state rig.old) chain.now }
-    requires free { 1 < (seen D.state rig.old).pool.free }
-    ensures goes { Goes [] (seen D.state rig.old) (seen D.state rig.new) }
-    ensures prints { IsTrue (seen D.state rig.old).device.told → Prints W.took
-        (map_text (answers_in (chain_items (seen D.state rig.old) chain.now)))
-        (W.state out.old) (W.state out.new) result }
-    ensures later { W.faults out.old ≤ W.faults out.new }
-    ensures cause { IfErr result (PrintCause (W.faults out.old) (W.faults out.new)
-        (seen D.state rig.old) (seen D.state rig.new)) }
-{
-    let mut reader = Reader::over(rig, chain);
-    let done = print_map_by(rig, &mut reader, chain.len(), out);
-    reader.abandon(rig);
-    done
-}
-
-/// Prints one line for each of the next `count` records of a reader.
-fn print_map_by<D: Device, W: Sink>(
-    rig: &mut Rig<'_, D>,
     reader: &mut Reader,
-    count: u64,
     out: &mut W,
 ) -> Result<(), Stop>
-    requires sound { Sound (seen D.state rig.old) }
-    requires reader { LooksAt (seen D.state rig.old) reader.old }
-    requires free { 0 < (seen D.state rig.old).pool.free }
-    requires count { count ≡ reader.old.count }
-    ensures goes { Goes [] (seen D.state rig.old) (seen D.state rig.new) }
-    ensures frame { ReaderHasFrame (seen D.state rig.new) reader.new }
+    requires looks { Looks (seen D.state rig.old) reader.old }
+    ensures reads { ReadsOn (seen D.state rig.old) (seen D.state rig.new) reader.new }
     ensures prints { IsTrue (seen D.state rig.old).device.told → Prints W.took
         (map_text (answers_in (reader_items (seen D.state rig.old) reader.old)))
         (W.state out.old) (W.state out.new) result }
-    ensures later { W.faults out.old ≤ W.faults out.new }
-    ensures cause { IfErr result (PrintCause (W.faults out.old) (W.faults out.new)
-        (seen D.state rig.old) (seen D.state rig.new)) }
+    ensures stops { PrintStops W.Sink out.old out.new
+        (seen D.state rig.old) (seen D.state rig.new) result }
 {
-    for _ in 0..count {
-        let Some(item) = reader.next(rig)? else {
-            return Ok(());
-        };
-        print_answer(out, to_answer(item))?;
+    while let Some(item) = reader.next(rig)? {
+        print_answer(out, answer_in(item))?;
     }
     Ok(())
 }
 
-/// Prints the lines of so many stabs, by a chain of pairs.
+/// Prints the lines of this many stabs, by the pairs of a reader.
 fn print_stabs<D: Device, W: Sink>(
-    rig: &mut Rig<'_, D>,
-    chain: &Chain,
-    stabs: u64,
-    out: &mut W,
-) -> Result<(), Stop>
-    requires sound { Sound (seen D.state rig.old) }
-    requires is { IsChain (seen D.state rig.old) chain.now }
-    requires free { 1 < (seen D.state rig.old).pool.free }
-    ensures goes { Goes [] (seen D.state rig.old) (seen D.state rig.new) }
-    ensures prints { IsTrue (seen D.state rig.old).device.told → Prints W.took
-        (stab_text (groups_from 0 stabs (chain_items (seen D.state rig.old) chain.now)))
-        (W.state out.old) (W.state out.new) result }
-    ensures later { W.faults out.old ≤ W.faults out.new }
-    ensures cause { IfErr result (PrintCause (W.faults out.old) (W.faults out.new)
-        (seen D.state rig.old) (seen D.state rig.new)) }
-{
-    let mut reader = Reader::over(rig, chain);
-    let done = print_stabs_by(rig, &mut reader, stabs, out);
-    reader.abandon(rig);
-    done
-}
-
-/// Prints the lines of so many stabs, by the pairs of a reader.
-fn print_stabs_by<D: Device, W: Sink>(
     rig: &mut Rig<'_, D>,
     reader: &mut Reader,
     stabs: u64,
     out: &mut W,
 ) -> Result<(), Stop>
-    requires sound { Sound (seen D.state rig.old) }
-    requires reader { LooksAt (seen D.state rig.old) reader.old }
-    requires free { 0 < (seen D.state rig.old).pool.free }
-    ensures goes { Goes [] (seen D.state rig.old) (seen D.state rig.new) }
-    ensures frame { ReaderHasFrame (seen D.state rig.new) reader.new }
+    requires looks { Looks (seen D.state rig.old) reader.old }
+    ensures reads { ReadsOn (seen D.state rig.old) (seen D.state rig.new) reader.new }
     ensures prints { IsTrue (seen D.state rig.old).device.told → Prints W.took
         (stab_text (groups_from 0 stabs (reader_items (seen D.state rig.old) reader.old)))
         (W.state out.old) (W.state out.new) result }
-    ensures later { W.faults out.old ≤ W.faults out.new }
-    ensures cause { IfErr result (PrintCause (W.faults out.old) (W.faults out.new)
-        (seen D.state rig.old) (seen D.state rig.new)) }
+    ensures stops { PrintStops W.Sink out.old out.new
+        (seen D.state rig.old) (seen D.state rig.new) result }
 {
     let mut next = reader.next(rig)?;
     for stab in 0..stabs {
@@ -163,7 +103,7 @@ fn print_stabs_by<D: Device, W: Sink>(
     Ok(())
 }
 
-/// Prints the line of a stab by the next pair of a reader and those behind it. Answers the first
+/// Prints the line of a stab by the next pair of a reader and those after it. Answers the first
 /// pair of another stab.
 fn print_stab<D: Device, W: Sink>(
     rig: &mut Rig<'_, D>,
@@ -172,21 +112,17 @@ fn print_stab<D: Device, W: Sink>(
     next: Option<Record>,
     out: &mut W,
 ) -> Result<Option<Record>, Stop>
-    requires sound { Sound (seen D.state rig.old) }
-    requires reader { LooksAt (seen D.state rig.old) reader.old }
-    requires free { 0 < (seen D.state rig.old).pool.free }
+    requires looks { Looks (seen D.state rig.old) reader.old }
     requires none { IfNone next (reader.old.count ≡ 0) }
-    ensures goes { Goes [] (seen D.state rig.old) (seen D.state rig.new) }
-    ensures frame { ReaderHasFrame (seen D.state rig.new) reader.new }
+    ensures reads { ReadsOn (seen D.state rig.old) (seen D.state rig.new) reader.new }
     ensures behind { IfOk result (λ other. IsBehind stab
         (seen D.state rig.old) (seen D.state rig.new) next reader.old other reader.new) }
     ensures prints { IsTrue (seen D.state rig.old).device.told → Prints W.took
         (numbers_line (intervals_at stab
         (option_to_list next ++ reader_items (seen D.state rig.old) reader.old)))
         (W.state out.old) (W.state out.new) result }
-    ensures later { W.faults out.old ≤ W.faults out.new }
-    ensures cause { IfErr result (PrintCause (W.faults out.old) (W.faults out.new)
-        (seen D.state rig.old) (seen D.state rig.new)) }
+    ensures stops { PrintStops W.Sink out.old out.new
+        (seen D.state rig.old) (seen D.state rig.new) result }
 {
     let mut printer = Printer::new();
     match next {
@@ -204,7 +140,7 @@ fn print_stab<D: Device, W: Sink>(
     }
 }
 
-/// Adds the intervals of the next pairs of a reader that are of this stab, each behind a space.
+/// Adds the intervals of the next pairs of a reader that are of this stab, each after a space.
 /// Answers the first pair of another stab.
 fn add_further<D: Device, W: Sink>(
     rig: &mut Rig<'_, D>,
@@ -213,11 +149,8 @@ fn add_further<D: Device, W: Sink>(
     printer: &mut Printer,
     out: &mut W,
 ) -> Result<Option<Record>, Stop>
-    requires sound { Sound (seen D.state rig.old) }
-    requires reader { LooksAt (seen D.state rig.old) reader.old }
-    requires free { 0 < (seen D.state rig.old).pool.free }
-    ensures goes { Goes [] (seen D.state rig.old) (seen D.state rig.new) }
-    ensures frame { ReaderHasFrame (seen D.state rig.new) reader.new }
+    requires looks { Looks (seen D.state rig.old) reader.old }
+    ensures reads { ReadsOn (seen D.state rig.old) (seen D.state rig.new) reader.new }
     ensures behind { IfOk result (λ other. IsBehind stab
         (seen D.state rig.old) (seen D.state rig.new) None reader.old other reader.new) }
     ensures sent { IsTrue (seen D.state rig.old).device.told → OnOk result (Sent W.took
@@ -226,9 +159,8 @@ fn add_further<D: Device, W: Sink>(
     ensures part { IsTrue (seen D.state rig.old).device.told → SentPart W.took
         (W.state out.old) (printer.old ++ further_words (intervals_at stab
         (reader_items (seen D.state rig.old) reader.old))) (W.state out.new) }
-    ensures later { W.faults out.old ≤ W.faults out.new }
-    ensures cause { IfErr result (PrintCause (W.faults out.old) (W.faults out.new)
-        (seen D.state rig.old) (seen D.state rig.new)) }
+    ensures stops { PrintStops W.Sink out.old out.new
+        (seen D.state rig.old) (seen D.state rig.new) result }
 {
     loop {
         match reader.next(rig)? {
@@ -256,14 +188,23 @@ pub fn print_answers<D: Device, W: Sink>(
         (records_text kind answers.now.stabs
         (chain_items (seen D.state rig.old) answers.now.records))
         (W.state out.old) (W.state out.new) result }
-    ensures later { W.faults out.old ≤ W.faults out.new }
-    ensures cause { IfErr result (PrintCause (W.faults out.old) (W.faults out.new)
-        (seen D.state rig.old) (seen D.state rig.new)) }
+    ensures stops { PrintStops W.Sink out.old out.new
+        (seen D.state rig.old) (seen D.state rig.new) result }
 {
     match kind {
-        FileKind::Map => print_map(rig, &answers.records, out),
+        FileKind::Map => {
+            let mut reader = Reader::over(rig, &answers.records);
+            let done = print_map(rig, &mut reader, out);
+            reader.abandon(rig);
+            done
+        }
         FileKind::Queue => Ok(()),
-        FileKind::Stab => print_stabs(rig, &answers.records, answers.stabs, out),
+        FileKind::Stab => {
+            let mut reader = Reader::over(rig, &answers.records);
+            let done = print_stabs(rig, &mut reader, answers.stabs, out);
+            reader.abandon(rig);
+            done
+        }
     }
 }
 

@@ -2,7 +2,7 @@
 ghost use Rattle.std.specs.Prelude.{◌≡◌, ◌≤◌, true, [], length, IfErr, IfOk, IsTrue, OnOk};
 ghost use Rattle.em_io.specs.Feed.{rest};
 ghost use Rattle.em_model.specs.Stab.{stab_answers, stab_answer_of};
-ghost use Rattle.em_space.specs.Rig.{Sound, Goes};
+ghost use Rattle.em_space.specs.Rig.{Goes};
 ghost use Rattle.em_space.specs.Seen.{seen};
 ghost use Rattle.em_chain.specs.Chain.{IsChain, chain_items};
 ghost use Rattle.em_chain.specs.Effects.{GivesFrame};
@@ -10,8 +10,8 @@ ghost use Rattle.em_plain.specs.CommandList.{BeginsList, HasListFrame, list_comm
 ghost use Rattle.emtool.specs.CommandLine.{good_commands};
 ghost use Rattle.emtool.specs.Reads.{Reads};
 ghost use Rattle.emtool.specs.RunSize.{commands_taken};
-ghost use Rattle.emtool.specs.Service.{IsFilled, Lists, kind_is, list_of, records_for};
-ghost use Rattle.emtool.specs.Stop.{IfStopsFull, ReadsAll, StopCause, reading};
+ghost use Rattle.emtool.specs.Service.{IsUnused, Lists, StopsReading, kind_is, list_of, records_for};
+ghost use Rattle.emtool.specs.Stop.{ReadsAll};
 
 use crate::line::take_line;
 use crate::print::Answers;
@@ -43,12 +43,10 @@ fn read_all<D: Device, H: Shelf>(
     feed: &mut Feed,
     shelf: &mut H,
 ) -> Result<u64, Stop>
-    requires sound { Sound (seen D.state rig.old) }
+    requires unused { IsUnused (seen D.state rig.old) }
     requires free { 6 ≤ (seen D.state rig.old).pool.free }
     requires begins { BeginsList (seen D.state rig.old) (list_of service.old) }
     requires kind { kind_is service.old ≡ kind }
-    requires used { (seen D.state rig.old).used ≡ 0 }
-    requires none_ever { (seen D.state rig.old).most ≡ 0 }
     requires ready { ((H.stand shelf.old).slot feed.old.slot).ready ≡ true }
     requires place { feed.old.place ≡ 0 }
     ensures goes { Goes [] (seen D.state rig.old) (seen D.state rig.new) }
@@ -70,12 +68,8 @@ fn read_all<D: Device, H: Shelf>(
         ≡ good_commands kind (rest feed.old (H.stand shelf.old))) }
     ensures stabs { IsTrue H.tells → IfOk result (λ n. n
         ≡ length (stab_answers (good_commands kind (rest feed.old (H.stand shelf.old))))) }
-    ensures stop { IfErr result (StopCause H.tells kind (rest feed.old (H.stand shelf.old))
-        (reading (H.faults shelf.old)) (reading (H.faults shelf.new))
+    ensures stop { IfErr result (StopsReading H.Shelf kind feed.old shelf.old shelf.new
         (seen D.state rig.old) (seen D.state rig.new)) }
-    ensures full { IfErr result (λ stop. IfStopsFull stop (IsFilled H.tells kind
-        (rest feed.old (H.stand shelf.old)) ((H.stand shelf.new).slot feed.old.slot).left
-        (seen D.state rig.new))) }
 {
     let mut number: u64 = 1;
     let mut stabs: u64 = 0;
@@ -83,7 +77,7 @@ fn read_all<D: Device, H: Shelf>(
         let next = match take_line(kind, feed, shelf, number) {
             Ok(next) => next,
             Err(LineStop::Read) => return Err(Stop::Read),
-            Err(LineStop::Fault(kind)) => return Err(Stop::Fault { kind, line: number }),
+            Err(LineStop::Fault(fault)) => return Err(Stop::at_line(fault, number)),
         };
         let Some(command) = next else {
             return Ok(stabs);
@@ -105,12 +99,10 @@ pub fn read_answers<D: Device, H: Shelf>(
     feed: &mut Feed,
     shelf: &mut H,
 ) -> Result<Answers, Stop>
-    requires sound { Sound (seen D.state rig.old) }
+    requires unused { IsUnused (seen D.state rig.old) }
     requires free { 6 ≤ (seen D.state rig.old).pool.free }
     requires begins { BeginsList (seen D.state rig.old) (list_of service) }
     requires kind { kind_is service ≡ kind }
-    requires used { (seen D.state rig.old).used ≡ 0 }
-    requires none_ever { (seen D.state rig.old).most ≡ 0 }
     requires ready { ((H.stand shelf.old).slot feed.old.slot).ready ≡ true }
     requires place { feed.old.place ≡ 0 }
     ensures gives { GivesFrame [] (seen D.state rig.old) (seen D.state rig.new) }
@@ -124,12 +116,8 @@ pub fn read_answers<D: Device, H: Shelf>(
         ≡ records_for kind (good_commands kind (rest feed.old (H.stand shelf.old)))) }
     ensures stabs { IsTrue H.tells → IfOk result (λ a. a.stabs
         ≡ length (stab_answers (good_commands kind (rest feed.old (H.stand shelf.old))))) }
-    ensures stop { IfErr result (StopCause H.tells kind (rest feed.old (H.stand shelf.old))
-        (reading (H.faults shelf.old)) (reading (H.faults shelf.new))
+    ensures stop { IfErr result (StopsReading H.Shelf kind feed.old shelf.old shelf.new
         (seen D.state rig.old) (seen D.state rig.new)) }
-    ensures full { IfErr result (λ stop. IfStopsFull stop (IsFilled H.tells kind
-        (rest feed.old (H.stand shelf.old)) ((H.stand shelf.new).slot feed.old.slot).left
-        (seen D.state rig.new))) }
 {
     match read_all(kind, rig, &mut service, feed, shelf) {
         Ok(stabs) => match service.finish(rig) {

@@ -149,7 +149,7 @@ fn put_number<E: Sink>(printer: &mut Printer, err: &mut E, number: u64)
     let _fits = printer.add_number(err, number);
 }
 
-/// Adds a number, where there is one.
+/// Adds a number, if there is one.
 fn put_digits<E: Sink>(printer: &mut Printer, err: &mut E, number: Option<u64>)
     requires { length printer.old ≤ 1000 }
     ensures quiet { err.new ≡ err.old }

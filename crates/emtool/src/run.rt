@@ -1,15 +1,15 @@
 // One run of a command file on an open rig.
 ghost use Rattle.std.specs.Prelude.{◌≡◌, ◌≤◌, true, []};
 ghost use Rattle.em_io.specs.Shelf.{IsFresh};
-ghost use Rattle.em_space.specs.Queue.{CanServe, fresh_counts};
-ghost use Rattle.em_space.specs.Rig.{Sound, Goes};
+ghost use Rattle.em_space.specs.Queue.{CanServe};
+ghost use Rattle.em_space.specs.Rig.{Goes};
 ghost use Rattle.em_space.specs.Seen.{seen};
 ghost use Rattle.em_chain.specs.Effects.{GivesFrame};
 ghost use Rattle.em_plain.specs.CommandList.{BeginsList};
-ghost use Rattle.em_plain.specs.ScanQueue.{IsScanQueue, counts_of};
+ghost use Rattle.em_plain.specs.ScanQueue.{IsScanQueue, counts_of, fresh_counts};
 ghost use Rattle.emtool.specs.Due.{text_of};
-ghost use Rattle.emtool.specs.Run.{outside, stop_status, Ended, Caused, IsReady, OpensOnly, ReadsFirst};
-ghost use Rattle.emtool.specs.Service.{kind_is, list_of};
+ghost use Rattle.emtool.specs.Run.{outside, stop_status, Ended, Caused, IsReady, OpensOnly, Runs};
+ghost use Rattle.emtool.specs.Service.{IsUnused, kind_is, list_of};
 ghost use Rattle.emtool.specs.Status.{OnUsage, OnNoMemory};
 
 use crate::print::print_answers;
@@ -21,7 +21,7 @@ use crate::stop::Stop;
 use crate::text::FileKind;
 use em_frames::Device;
 use em_io::{Feed, Shelf, Sink, Slot};
-use em_plain::ScanQueue;
+use em_plain::{ScanMap, ScanQueue, ScanStab};
 use em_space::{EmFault, Queue, Rig};
 
 /// The status of a run that stopped.
@@ -52,24 +52,14 @@ fn run_service<D: Device, H: Shelf, W: Sink>(
     shelf: &mut H,
     out: &mut W,
 ) -> Status
-    requires sound { Sound (seen D.state rig.old) }
+    requires unused { IsUnused (seen D.state rig.old) }
     requires free { 6 ≤ (seen D.state rig.old).pool.free }
     requires begins { BeginsList (seen D.state rig.old) (list_of service) }
     requires kind { kind_is service ≡ kind }
-    requires used { (seen D.state rig.old).used ≡ 0 }
-    requires none_ever { (seen D.state rig.old).most ≡ 0 }
     requires ready { ((H.stand shelf.old).slot Slot.First).ready ≡ true }
     ensures gives { GivesFrame [] (seen D.state rig.old) (seen D.state rig.new) }
-    ensures ended { Ended H.tells W.took kind ((H.stand shelf.old).slot Slot.First).left
-        (seen D.state rig.old).pool.shape (seen D.state rig.old).blocks
-        (outside H.Shelf W.Sink (seen D.state rig.old).device shelf.old out.old)
-        (outside H.Shelf W.Sink (seen D.state rig.new).device shelf.new out.new) result }
-    ensures caused { Caused
-        (outside H.Shelf W.Sink (seen D.state rig.old).device shelf.old out.old)
-        (outside H.Shelf W.Sink (seen D.state rig.new).device shelf.new out.new) result }
-    ensures reads { ReadsFirst H.tells (H.stand shelf.old) (H.stand shelf.new) }
-    ensures no_usage { OnUsage result ⊥ }
-    ensures no_memory { OnNoMemory result ⊥ }
+    ensures runs { Runs H.Shelf W.Sink kind (seen D.state rig.old) (seen D.state rig.new)
+        shelf.old out.old shelf.new out.new result }
 {
     let mut feed = Feed::new(Slot::First);
     match read_answers(kind, rig, service, &mut feed, shelf) {
@@ -88,24 +78,15 @@ fn run_queue<D: Device, H: Shelf, W: Sink>(
     shelf: &mut H,
     out: &mut W,
 ) -> Status
-    requires sound { Sound (seen D.state rig.old) }
+    requires unused { IsUnused (seen D.state rig.old) }
     requires free { CanServe (seen D.state rig.old).pool }
     requires is { IsScanQueue (seen D.state rig.old) queue }
     requires fresh { counts_of queue ≡ fresh_counts 1 0 }
-    requires used { (seen D.state rig.old).used ≡ 0 }
-    requires none_ever { (seen D.state rig.old).most ≡ 0 }
+    requires none_moved { (seen D.state rig.old).moves ≡ 0 }
     requires ready { ((H.stand shelf.old).slot Slot.First).ready ≡ true }
     ensures gives { GivesFrame [] (seen D.state rig.old) (seen D.state rig.new) }
-    ensures ended { Ended H.tells W.took FileKind.Queue ((H.stand shelf.old).slot Slot.First).left
-        (seen D.state rig.old).pool.shape (seen D.state rig.old).blocks
-        (outside H.Shelf W.Sink (seen D.state rig.old).device shelf.old out.old)
-        (outside H.Shelf W.Sink (seen D.state rig.new).device shelf.new out.new) result }
-    ensures caused { Caused
-        (outside H.Shelf W.Sink (seen D.state rig.old).device shelf.old out.old)
-        (outside H.Shelf W.Sink (seen D.state rig.new).device shelf.new out.new) result }
-    ensures reads { ReadsFirst H.tells (H.stand shelf.old) (H.stand shelf.new) }
-    ensures no_usage { OnUsage result ⊥ }
-    ensures no_memory { OnNoMemory result ⊥ }
+    ensures runs { Runs H.Shelf W.Sink FileKind.Queue (seen D.state rig.old) (seen D.state rig.new)
+        shelf.old out.old shelf.new out.new result }
 {
     let mut feed = Feed::new(Slot::First);
     let done = serve(rig, &mut queue, &mut feed, shelf, out);
@@ -123,34 +104,25 @@ fn run_open<D: Device, H: Shelf, W: Sink>(
     shelf: &mut H,
     out: &mut W,
 ) -> Status
-    requires sound { Sound (seen D.state rig.old) }
+    requires unused { IsUnused (seen D.state rig.old) }
     requires free { IsReady (seen D.state rig.old).pool }
-    requires used { (seen D.state rig.old).used ≡ 0 }
-    requires none_ever { (seen D.state rig.old).most ≡ 0 }
+    requires none_moved { (seen D.state rig.old).moves ≡ 0 }
     requires ready { ((H.stand shelf.old).slot Slot.First).ready ≡ true }
     ensures goes { Goes [] (seen D.state rig.old) (seen D.state rig.new) }
-    ensures ended { Ended H.tells W.took kind ((H.stand shelf.old).slot Slot.First).left
-        (seen D.state rig.old).pool.shape (seen D.state rig.old).blocks
-        (outside H.Shelf W.Sink (seen D.state rig.old).device shelf.old out.old)
-        (outside H.Shelf W.Sink (seen D.state rig.new).device shelf.new out.new) result }
-    ensures caused { Caused
-        (outside H.Shelf W.Sink (seen D.state rig.old).device shelf.old out.old)
-        (outside H.Shelf W.Sink (seen D.state rig.new).device shelf.new out.new) result }
-    ensures reads { ReadsFirst H.tells (H.stand shelf.old) (H.stand shelf.new) }
-    ensures no_usage { OnUsage result ⊥ }
-    ensures no_memory { OnNoMemory result ⊥ }
+    ensures runs { Runs H.Shelf W.Sink kind (seen D.state rig.old) (seen D.state rig.new)
+        shelf.old out.old shelf.new out.new result }
 {
     match kind {
-        FileKind::Map => match Service::map(rig) {
-            Ok(service) => run_service(kind, rig, service, shelf, out),
+        FileKind::Map => match ScanMap::new(rig) {
+            Ok(map) => run_service(kind, rig, Service::Map(map), shelf, out),
             Err(fault) => status_of(Stop::Em(fault)),
         },
         FileKind::Queue => match ScanQueue::new(rig) {
             Ok(queue) => run_queue(rig, queue, shelf, out),
             Err(fault) => status_of(Stop::Em(fault)),
         },
-        FileKind::Stab => match Service::stab(rig) {
-            Ok(service) => run_service(kind, rig, service, shelf, out),
+        FileKind::Stab => match ScanStab::new(rig) {
+            Ok(stab) => run_service(kind, rig, Service::Stab(stab), shelf, out),
             Err(fault) => status_of(Stop::Em(fault)),
         },
     }
@@ -165,10 +137,9 @@ pub fn run_file<D: Device, H: Shelf, W: Sink>(
     name: &str,
     out: &mut W,
 ) -> Status
-    requires sound { Sound (seen D.state rig.old) }
+    requires unused { IsUnused (seen D.state rig.old) }
     requires free { IsReady (seen D.state rig.old).pool }
-    requires used { (seen D.state rig.old).used ≡ 0 }
-    requires none_ever { (seen D.state rig.old).most ≡ 0 }
+    requires none_moved { (seen D.state rig.old).moves ≡ 0 }
     requires fresh { IsFresh (H.stand shelf.old) }
     ensures goes { Goes [] (seen D.state rig.old) (seen D.state rig.new) }
     ensures ended { Ended H.tells W.took kind (text_of (H.stand shelf.old) name.now)

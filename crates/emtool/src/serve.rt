@@ -1,17 +1,18 @@
 // A queue file is answered pop by pop.
-ghost use Rattle.std.specs.Prelude.{◌≡◌, ◌<◌, ◌≤◌, ◌^◌, true, IfErr, IfOk, IsTrue, OnOk};
+ghost use Rattle.std.specs.Prelude.{◌≡◌, ◌+◌, ◌<◌, ◌≤◌, ◌^◌, true, IfErr, IfOk, IsTrue, OnOk};
 ghost use Rattle.em_io.specs.Feed.{rest};
 ghost use Rattle.em_model.specs.Queue.{queue_answer_of, queue_step};
 ghost use Rattle.em_space.specs.Held.{Within};
-ghost use Rattle.em_space.specs.Queue.{CanServe, Pays, Served, Serves, Shares};
-ghost use Rattle.em_space.specs.Rig.{Sound, Touches};
+ghost use Rattle.em_space.specs.Numbered.{NumberedTo};
+ghost use Rattle.em_space.specs.Queue.{CanServe, IsNew, Pays, Served, Serves};
+ghost use Rattle.em_space.specs.Rig.{Sound};
 ghost use Rattle.em_space.specs.Seen.{seen};
 ghost use Rattle.emtool.specs.Answer.{queue_text, text_for};
 ghost use Rattle.emtool.specs.CommandLine.{good_commands};
 ghost use Rattle.emtool.specs.Kind.{IsOfKind};
 ghost use Rattle.emtool.specs.Reads.{Reads};
 ghost use Rattle.emtool.specs.RunSize.{commands_taken};
-ghost use Rattle.emtool.specs.Serve.{Answers, Follows, IsAlone, IsFilledBy, Model, NumberedTo, ServeCause};
+ghost use Rattle.emtool.specs.Serve.{Answers, CallsOnly, Follows, IsAlone, IsFilledBy, Model, ServeCause};
 ghost use Rattle.emtool.specs.Stop.{IfStopsFull, Prints, ReadsAll, StopCause, fault_counts};
 
 use crate::line::take_line;
@@ -100,17 +101,13 @@ pub fn serve<D: Device, H: Shelf, W: Sink, Q: Queue>(
     requires sound { Sound (seen D.state rig.old) }
     requires queue { Q.IsQueue queue.old (seen D.state rig.old) }
     requires free { CanServe (seen D.state rig.old).pool }
-    requires fresh { (Q.counts queue.old).n ≡ 0 }
-    requires empty { (Q.counts queue.old).len ≡ 0 }
+    requires fresh { IsNew (Q.counts queue.old) }
     requires alone { IsAlone (seen D.state rig.old) (Q.counts queue.old) }
     requires ready { ((H.stand shelf.old).slot feed.old.slot).ready ≡ true }
     requires place { feed.old.place ≡ 0 }
-    ensures sound { Sound (seen D.state rig.new) }
-    ensures touches { Touches (Q.blocks queue.old (seen D.state rig.old))
-        (seen D.state rig.old) (seen D.state rig.new) }
+    ensures calls_only { CallsOnly (Q.blocks queue.old (seen D.state rig.old))
+        (Q.counts queue.old) (Q.counts queue.new) (seen D.state rig.old) (seen D.state rig.new) }
     ensures frames { Q.HasItsFrames queue.new (seen D.state rig.new) }
-    ensures shares { Shares (Q.counts queue.old) (Q.counts queue.new)
-        (seen D.state rig.old).pool (seen D.state rig.new).pool }
     ensures reads { Reads H.tells feed.old (H.stand shelf.old) feed.new (H.stand shelf.new) }
     ensures read_later { H.faults shelf.old ≤ H.faults shelf.new }
     ensures write_later { W.faults out.old ≤ W.faults out.new }
@@ -137,7 +134,7 @@ pub fn serve<D: Device, H: Shelf, W: Sink, Q: Queue>(
         let next = match take_line(FileKind::Queue, feed, shelf, number) {
             Ok(next) => next,
             Err(LineStop::Read) => return Err(Stop::Read),
-            Err(LineStop::Fault(kind)) => return Err(Stop::Fault { kind, line: number }),
+            Err(LineStop::Fault(fault)) => return Err(Stop::at_line(fault, number)),
         };
         let Some(command) = next else {
             return Ok(());

@@ -1,14 +1,13 @@
 // What answers a command file after all of it was read: a map or an interval list.
-ghost use Rattle.std.specs.Prelude.{◌≡◌, ◌<◌, ◌≤◌, ◌^◌, [], IfErr, IfOk, IsOk, OnErr, OnOk};
+ghost use Rattle.std.specs.Prelude.{◌≡◌, ◌<◌, ◌≤◌, ◌^◌, [], IfErr, IfOk, OnErr};
 ghost use Rattle.em_space.specs.Queue.{Pays};
-ghost use Rattle.em_space.specs.Rig.{Cause, Goes, Sound};
+ghost use Rattle.em_space.specs.Rig.{Cause, Sound};
 ghost use Rattle.em_space.specs.Seen.{seen};
-ghost use Rattle.em_chain.specs.Effects.{GivesFrame, LendsFrame, OnFull, Unmoved};
-ghost use Rattle.em_plain.specs.CommandList.{AnsweredBy, BeginsList, HasListFrame, IsCommandList, NoteCosts, Notes, held, list_blocks, list_commands, list_len, unstored};
+ghost use Rattle.em_chain.specs.Effects.{GivesFrame, Unmoved};
+ghost use Rattle.em_plain.specs.CommandList.{AnsweredBy, BeginsList, HasListFrame, IsCommandList, Noted, held, list_blocks, list_commands, list_len, unstored};
 ghost use Rattle.em_plain.specs.Room.{StaysWithin, plain_room};
 ghost use Rattle.emtool.specs.Kind.{IsOfKind};
 
-use crate::text::FileKind;
 use em_chain::Chain;
 use em_frames::Device;
 use em_model::Command;
@@ -27,34 +26,6 @@ impl Service {
     ghost use Rattle.emtool.specs.Run.{CountsBy};
     ghost use Rattle.emtool.specs.Service.{list_of, kind_is, records_for, size_for};
 
-    /// A map that was given no command.
-    pub fn map<D: Device>(rig: &mut Rig<'_, D>) -> Result<Service, EmFault>
-        requires sound { Sound (seen D.state rig.old) }
-        requires free { 6 ≤ (seen D.state rig.old).pool.free }
-        ensures lends { LendsFrame (seen D.state rig.old) (seen D.state rig.new) }
-        ensures unmoved { Unmoved (seen D.state rig.old) (seen D.state rig.new) }
-        ensures begins { IfOk result (λ s. BeginsList (seen D.state rig.new) (list_of s)) }
-        ensures kind { IfOk result (λ s. kind_is s ≡ FileKind.Map) }
-        ensures complete { IsOk result }
-    {
-        let map = ScanMap::new(rig)?;
-        Ok(Service::Map(map))
-    }
-
-    /// An interval list that was given no command.
-    pub fn stab<D: Device>(rig: &mut Rig<'_, D>) -> Result<Service, EmFault>
-        requires sound { Sound (seen D.state rig.old) }
-        requires free { 6 ≤ (seen D.state rig.old).pool.free }
-        ensures lends { LendsFrame (seen D.state rig.old) (seen D.state rig.new) }
-        ensures unmoved { Unmoved (seen D.state rig.old) (seen D.state rig.new) }
-        ensures begins { IfOk result (λ s. BeginsList (seen D.state rig.new) (list_of s)) }
-        ensures kind { IfOk result (λ s. kind_is s ≡ FileKind.Stab) }
-        ensures complete { IsOk result }
-    {
-        let stab = ScanStab::new(rig)?;
-        Ok(Service::Stab(stab))
-    }
-
     /// Gives it a command of its kind.
     pub fn take<D: Device>(&mut self, rig: &mut Rig<'_, D>, command: Command) -> Result<(), EmFault>
         requires sound { Sound (seen D.state rig.old) }
@@ -62,19 +33,22 @@ impl Service {
         requires free { 6 ≤ (seen D.state rig.old).pool.free }
         requires few { list_len (list_of self.old) < 2 ^ 40 }
         requires kind { IsOfKind (kind_is self.old) command }
-        ensures goes { Goes (list_blocks (seen D.state rig.old) (list_of self.old))
-            (seen D.state rig.old) (seen D.state rig.new) }
-        ensures frame { HasListFrame (seen D.state rig.new) (list_of self.new) }
         ensures kept { kind_is self.new ≡ kind_is self.old }
-        ensures notes { OnOk result (Notes (seen D.state rig.old) (seen D.state rig.new)
-            (list_of self.old) (list_of self.new) command) }
-        ensures costs { NoteCosts (seen D.state rig.old) (seen D.state rig.new)
-            (list_of self.old) result }
-        ensures cause { IfErr result (Cause (seen D.state rig.old) (seen D.state rig.new)) }
+        ensures noted { Noted (seen D.state rig.old) (seen D.state rig.new)
+            (list_of self.old) (list_of self.new) command result }
     {
         match self {
-            Service::Map(map) => take_map(map, rig, command),
-            Service::Stab(stab) => take_stab(stab, rig, command),
+            Service::Map(map) => match command {
+                Command::Put { key, value } => map.put(rig, key, value),
+                Command::Del { key } => map.del(rig, key),
+                Command::Get { key } => map.get(rig, key),
+                _ => Ok(()),
+            },
+            Service::Stab(stab) => match command {
+                Command::Interval { low, high } => stab.interval(rig, low, high),
+                Command::Stab { point } => stab.stab(rig, point),
+                _ => Ok(()),
+            },
         }
     }
 
@@ -115,58 +89,5 @@ impl Service {
             Service::Map(map) => map.abandon(rig),
             Service::Stab(stab) => stab.abandon(rig),
         }
-    }
-}
-
-/// Gives a map a command of a map file.
-fn take_map<D: Device>(
-    map: &mut ScanMap,
-    rig: &mut Rig<'_, D>,
-    command: Command,
-) -> Result<(), EmFault>
-    requires sound { Sound (seen D.state rig.old) }
-    requires is { IsCommandList (seen D.state rig.old) map.old.list }
-    requires free { 6 ≤ (seen D.state rig.old).pool.free }
-    requires few { list_len map.old.list < 2 ^ 40 }
-    requires kind { IsOfKind FileKind.Map command }
-    ensures goes { Goes (list_blocks (seen D.state rig.old) map.old.list)
-        (seen D.state rig.old) (seen D.state rig.new) }
-    ensures frame { HasListFrame (seen D.state rig.new) map.new.list }
-    ensures notes { OnOk result (Notes (seen D.state rig.old) (seen D.state rig.new)
-        map.old.list map.new.list command) }
-    ensures costs { NoteCosts (seen D.state rig.old) (seen D.state rig.new) map.old.list result }
-    ensures cause { IfErr result (Cause (seen D.state rig.old) (seen D.state rig.new)) }
-{
-    match command {
-        Command::Put { key, value } => map.put(rig, key, value),
-        Command::Del { key } => map.del(rig, key),
-        Command::Get { key } => map.get(rig, key),
-        _ => Ok(()),
-    }
-}
-
-/// Gives an interval list a command of a stab file.
-fn take_stab<D: Device>(
-    stab: &mut ScanStab,
-    rig: &mut Rig<'_, D>,
-    command: Command,
-) -> Result<(), EmFault>
-    requires sound { Sound (seen D.state rig.old) }
-    requires is { IsCommandList (seen D.state rig.old) stab.old.list }
-    requires free { 6 ≤ (seen D.state rig.old).pool.free }
-    requires few { list_len stab.old.list < 2 ^ 40 }
-    requires kind { IsOfKind FileKind.Stab command }
-    ensures goes { Goes (list_blocks (seen D.state rig.old) stab.old.list)
-        (seen D.state rig.old) (seen D.state rig.new) }
-    ensures frame { HasListFrame (seen D.state rig.new) stab.new.list }
-    ensures notes { OnOk result (Notes (seen D.state rig.old) (seen D.state rig.new)
-        stab.old.list stab.new.list command) }
-    ensures costs { NoteCosts (seen D.state rig.old) (seen D.state rig.new) stab.old.list result }
-    ensures cause { IfErr result (Cause (seen D.state rig.old) (seen D.state rig.new)) }
-{
-    match command {
-        Command::Interval { low, high } => stab.interval(rig, low, high),
-        Command::Stab { point } => stab.stab(rig, point),
-        _ => Ok(()),
     }
 }

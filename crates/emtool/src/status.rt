@@ -14,7 +14,7 @@ pub enum UsageKind {
     UnknownOption,
     /// An earlier word has the option's name.
     RepeatedOption,
-    /// The option wants a number of 64 bits behind a `=`, or, as `--stats` does, nothing.
+    /// The option wants a number of 64 bits after a `=`, or, as `--stats` does, nothing.
     BadValue,
     /// The command wants one operand more.
     MissingOperand,
@@ -59,7 +59,7 @@ pub enum Status {
     WriteFault,
     /// The device failed: its count of faults rose.
     DeviceFault,
-    /// A block was needed, and all `used` blocks of the device were in use.
+    /// The device has `used` blocks, and a block more was needed.
     Full { used: u64 },
     /// There was no memory for the frames, or for what the device keeps. Nothing was read or
     /// printed.

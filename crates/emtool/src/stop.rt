@@ -19,6 +19,18 @@ pub enum Stop {
     Em(EmFault),
 }
 
+impl Stop {
+    /// The stop at a fault of the line of this number.
+    pub fn at_line(fault: TextKind, number: u64) -> Stop
+        ensures is { result ≡ stop.Fault fault number }
+    {
+        Stop::Fault {
+            kind: fault,
+            line: number,
+        }
+    }
+}
+
 impl From<EmFault> for Stop {
     ghost from_gives = { λ fault e. e ≡ stop.Em fault };
 

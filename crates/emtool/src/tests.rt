@@ -1,80 +1,118 @@
-//! Whole runs over the outside in memory.
-ghost use Rattle.std.specs.Prelude.{◌≡◌, ◌<◌};
+//! Whole runs over the outside in memory in which a call fails, or the device gives other records
+//! than were written. Runs in which nothing fails are data, and run on the built program.
+ghost use Rattle.std.specs.Prelude.{◌≡◌};
 
-use crate::help::HELP;
-use crate::job::Job;
-use crate::outcome::Stats;
-use crate::status::{Malform, Status, UsageKind};
-use crate::text::{FileKind, TextKind};
-use crate::top::{emtool, run_pool};
-use crate::{asked_text, print_text};
+mod damaged;
+
+use crate::print_text;
+use crate::status::Status;
+use crate::top::emtool;
 use em_frames::{Device, Grant, MemDevice};
 use em_io::{MemShelf, MemSink};
-use em_record::Shape;
+use std::alloc::Global;
 use std::test::Fail;
 
-/// The file of the first worked run, of 42 bytes.
-const FIRST: &[u8] = b"put 5 10\nget 5\nput 5 11\nget 5\ndel 5\nget 5\n";
+/// The file of a map, of 42 bytes.
+const MAP: &[u8] = b"put 5 10\nget 5\nput 5 11\nget 5\ndel 5\nget 5\n";
+
+/// The lines that it is answered by.
+const GOT: &[u8] = b"10\n11\n-\n";
 
 /// A file with the least and the greatest key, of 77 bytes; its last line has no newline.
 const ENDS: &[u8] =
     b"get 0\nput 0 7\nput 18446744073709551615 8\ndel 9\nget 18446744073709551615\nget 0";
 
-/// The outside of a run: the most bytes that a call of the output takes, and the numbers of the
-/// calls of each part that fail.
+/// The lines that it is answered by.
+const GOT_ENDS: &[u8] = b"-\n8\n7\n";
+
+/// The file of a queue, of 43 bytes.
+const QUEUE: &[u8] = b"push 4 1\npush 4 2\npop\npush 4 0\npop\npop\npop\n";
+
+/// The lines that it is answered by.
+const POPPED: &[u8] = b"4 1\n4 2\n4 0\n-\n";
+
+/// The file of an interval list, of 94 bytes.
+const STAB: &[u8] =
+    b"stab 5\niv 5 5\niv 7 18446744073709551615\nstab 5\nstab 6\nstab 18446744073709551615\niv 0 5\nstab 5\n";
+
+/// The lines that it is answered by.
+const HELD: &[u8] = b"-\n0\n-\n1\n0 2\n";
+
+/// The words of the runs of several blocks.
+const SMALL: [&str; 5] = ["map", "--block=128", "--frames=64", "--blocks=100", "a"];
+
+/// The calls of each part of the outside that fail.
 #[derive(Clone, Copy)]
-pub struct Setting<'a> {
-    pub piece: usize,
-    pub device_fails: &'a [u64],
-    pub shelf_fails: &'a [u64],
-    pub out_fails: &'a [u64],
-    pub err_fails: &'a [u64],
+struct Fails<'a> {
+    device: &'a [u64],
+    shelf: &'a [u64],
+    out: &'a [u64],
+    err: &'a [u64],
 }
 
-/// Nothing fails, and a line goes out in one call.
-pub const PLAIN: Setting<'static> = Setting {
-    piece: 1000,
-    device_fails: &[],
-    shelf_fails: &[],
-    out_fails: &[],
-    err_fails: &[],
-};
+/// The part of the outside of which a call fails.
+#[derive(Clone, Copy)]
+enum Part {
+    Device,
+    Shelf,
+    Output,
+    Errors,
+}
+
+/// These calls of a part fail, and no others.
+fn failing(part: Part, calls: &[u64]) -> Fails<'_> {
+    let none = Fails {
+        device: &[],
+        shelf: &[],
+        out: &[],
+        err: &[],
+    };
+    match part {
+        Part::Device => Fails {
+            device: calls,
+            ..none
+        },
+        Part::Shelf => Fails {
+            shelf: calls,
+            ..none
+        },
+        Part::Output => Fails { out: calls, ..none },
+        Part::Errors => Fails { err: calls, ..none },
+    }
+}
 
 /// How a run over a device in memory and a shelf with the file `a` ended, what the output took and
 /// what the error stream took.
-pub fn run(
+fn run(
     rt: &HostRuntime,
     words: &[&str],
     text: &[u8],
-    setting: Setting<'_>,
-) -> Result<(Status, MemSink, MemSink), Fail>
-    requires { 0 < setting.piece }
-{
-    let mut device = MemDevice::new(rt.alloc(), setting.device_fails)?;
-    run_over(&mut device, rt, words, text, setting)
+    fails: Fails<'_>,
+) -> Result<(Status, MemSink, MemSink), Fail> {
+    let mut device = MemDevice::new(rt.alloc(), fails.device)?;
+    run_over(&mut device, rt, words, text, fails)
 }
 
-/// The same over a device that isn't begun yet. A read of the shelf gives at most 5 bytes, and a
-/// call of the error stream takes at most 7.
-pub fn run_over<D: Device>(
+/// The same over a device that isn't begun yet. A read of the shelf gives at most 5 bytes, a call of
+/// the output takes a line, and one of the error stream at most 7 bytes.
+fn run_over<D: Device>(
     device: &mut D,
     rt: &HostRuntime,
     words: &[&str],
     text: &[u8],
-    setting: Setting<'_>,
+    fails: Fails<'_>,
 ) -> Result<(Status, MemSink, MemSink), Fail>
     requires device { (D.state device.old).blocks ≡ 0 }
-    requires piece { 0 < setting.piece }
 {
     let alloc = rt.alloc();
     let mut given = Vec::new(alloc);
     for word in words {
         given.push(String::from_str(alloc, word)?)?;
     }
-    let mut shelf = MemShelf::new(alloc, 5, setting.shelf_fails)?;
+    let mut shelf = MemShelf::new(alloc, 5, fails.shelf)?;
     shelf.add("a", text)?;
-    let mut out = MemSink::new(alloc, setting.piece, setting.out_fails)?;
-    let mut err = MemSink::new(alloc, 7, setting.err_fails)?;
+    let mut out = MemSink::new(alloc, 1000, fails.out)?;
+    let mut err = MemSink::new(alloc, 7, fails.err)?;
     let status = emtool(
         &given,
         Grant::new(alloc),
@@ -86,497 +124,237 @@ pub fn run_over<D: Device>(
     Ok((status, out, err))
 }
 
-/// The status of a faulty line.
-fn malformed(kind: TextKind, place: u64) -> Status {
-    Status::Malformed {
-        kind: Malform::Text(kind),
-        place,
+/// Runs a file once for each row: the number of the call of this part that fails, the exit code, and
+/// how many bytes of all lines the output took. Answers the first call at which a run ends otherwise.
+fn first_wrong(
+    rt: &HostRuntime,
+    words: &[&str],
+    text: &[u8],
+    lines: &[u8],
+    part: Part,
+    rows: &[(u64, u8, usize)],
+) -> Result<Option<u64>, Fail> {
+    for (call, code, length) in rows {
+        let calls = [*call];
+        let (status, out, _) = run(rt, words, text, failing(part, &calls))?;
+        let sent = out.bytes();
+        if status.code() != *code || sent.len() != *length || !lines.starts_with(sent) {
+            return Ok(Some(*call));
+        }
     }
+    Ok(None)
 }
 
-#[test]
-fn map_files_are_answered(rt: HostRuntime) -> Result<(), Fail> {
-    let cases: [(&[u8], &[u8]); 3] = [(FIRST, b"10\n11\n-\n"), (b"", b""), (ENDS, b"-\n8\n7\n")];
-    for (text, output) in cases {
-        let (status, out, err) = run(&rt, &["map", "a"], text, PLAIN)?;
-        assert!(rt; status == Status::Done);
-        assert_eq!(rt; out.bytes(), output);
-        assert_eq!(rt; err.bytes(), b"".as_slice());
+/// A line this many times, and a last one.
+fn repeated(alloc: Global, line: &[u8], count: u64, last: &[u8]) -> Result<Vec<u8>, Fail> {
+    let mut text = Vec::new(alloc);
+    for _ in 0..count {
+        text.extend_from_slice(line)?;
     }
-    Ok(())
-}
-
-#[test]
-fn faulty_lines_are_named_and_nothing_is_printed(rt: HostRuntime) -> Result<(), Fail> {
-    let cases: [(&[u8], TextKind, u64, &[u8]); 6] = [
-        (
-            b"put 1 2\nget 1\nput 1 18446744073709551616\n",
-            TextKind::TooLarge,
-            3,
-            b"emtool: malformed: TooLarge at 3\n",
-        ),
-        (
-            b"put 1 2\nget  1\nbogus\n",
-            TextKind::BadSeparator,
-            2,
-            b"emtool: malformed: BadSeparator at 2\n",
-        ),
-        (
-            b"get 1\nbogus\n",
-            TextKind::Unknown,
-            2,
-            b"emtool: malformed: Unknown at 2\n",
-        ),
-        (
-            b"get 1\n\n",
-            TextKind::EmptyLine,
-            2,
-            b"emtool: malformed: EmptyLine at 2\n",
-        ),
-        (
-            b"get 000000000000000000001\n",
-            TextKind::BadNumber,
-            1,
-            b"emtool: malformed: BadNumber at 1\n",
-        ),
-        (
-            b"pop\n",
-            TextKind::Unknown,
-            1,
-            b"emtool: malformed: Unknown at 1\n",
-        ),
-    ];
-    for (text, kind, line, message) in cases {
-        let (status, out, err) = run(&rt, &["map", "a"], text, PLAIN)?;
-        assert!(rt; status == malformed(kind, line));
-        assert_eq!(rt; out.bytes(), b"".as_slice());
-        assert_eq!(rt; err.bytes(), message);
-    }
-    Ok(())
-}
-
-#[test]
-fn words_that_name_no_job_are_refused(rt: HostRuntime) -> Result<(), Fail> {
-    let cases: [(&[&str], UsageKind, u64, &[u8]); 13] = [
-        (
-            &[],
-            UsageKind::NoCommand,
-            0,
-            b"emtool: usage: NoCommand at word 0\n",
-        ),
-        (
-            &["mop", "a"],
-            UsageKind::UnknownCommand,
-            0,
-            b"emtool: usage: UnknownCommand at word 0\n",
-        ),
-        (
-            &["map"],
-            UsageKind::MissingOperand,
-            1,
-            b"emtool: usage: MissingOperand at word 1\n",
-        ),
-        (
-            &["map", "--stat", "a"],
-            UsageKind::UnknownOption,
-            1,
-            b"emtool: usage: UnknownOption at word 1\n",
-        ),
-        (
-            &["map", "--"],
-            UsageKind::UnknownOption,
-            1,
-            b"emtool: usage: UnknownOption at word 1\n",
-        ),
-        (
-            &["map", "a", "b"],
-            UsageKind::ExtraOperand,
-            2,
-            b"emtool: usage: ExtraOperand at word 2\n",
-        ),
-        (
-            &["map", "a", "--stats"],
-            UsageKind::ExtraOperand,
-            2,
-            b"emtool: usage: ExtraOperand at word 2\n",
-        ),
-        (
-            &["map", "--stats", "--stats", "a"],
-            UsageKind::RepeatedOption,
-            2,
-            b"emtool: usage: RepeatedOption at word 2\n",
-        ),
-        (
-            &["map", "--block=x", "a"],
-            UsageKind::BadValue,
-            1,
-            b"emtool: usage: BadValue at word 1\n",
-        ),
-        (
-            &["map", "--block=64", "a"],
-            UsageKind::BlockRange,
-            1,
-            b"emtool: usage: BlockRange at word 1\n",
-        ),
-        (
-            &["map", "--frames=60", "a"],
-            UsageKind::FramesRange,
-            1,
-            b"emtool: usage: FramesRange at word 1\n",
-        ),
-        (
-            &["map", "--frames=68", "a"],
-            UsageKind::FramesMultiple,
-            1,
-            b"emtool: usage: FramesMultiple at word 1\n",
-        ),
-        (
-            &["map", "--blocks=0", "a"],
-            UsageKind::BlocksRange,
-            1,
-            b"emtool: usage: BlocksRange at word 1\n",
-        ),
-    ];
-    for (words, kind, word, message) in cases {
-        let (status, out, err) = run(&rt, words, FIRST, PLAIN)?;
-        assert!(rt; status == Status::Usage { kind, word });
-        assert_eq!(rt; out.bytes(), b"".as_slice());
-        assert_eq!(rt; err.bytes(), message);
-    }
-    Ok(())
-}
-
-/// So small a file is one block: one move stores it, one reads it on the way over the list, and one
-/// for each of the three gets. The frames are one for the reading of the list and one for a get.
-#[test]
-fn every_shape_answers_alike_and_says_its_cost(rt: HostRuntime) -> Result<(), Fail> {
-    let cases: [(&[&str], &[u8]); 5] = [
-        (&["map", "a"], b""),
-        (&["map", "--stats", "a"], b"moves 9 peak 3\n"),
-        (
-            &["map", "--block=128", "--frames=64", "--stats", "a"],
-            b"moves 9 peak 3\n",
-        ),
-        (&["map", "--block=65536", "--frames=64", "a"], b""),
-        (
-            &["map", "--frames=1024", "--block=2048", "--stats", "a"],
-            b"moves 9 peak 3\n",
-        ),
-    ];
-    for (words, message) in cases {
-        let (status, out, err) = run(&rt, words, FIRST, PLAIN)?;
-        assert!(rt; status == Status::Done);
-        assert_eq!(rt; out.bytes(), b"10\n11\n-\n".as_slice());
-        assert_eq!(rt; err.bytes(), message);
-    }
-    Ok(())
-}
-
-/// 254 records fill two blocks of 127: two moves store them, two read them on the way over the
-/// whole list, and two again for the get. The answer's block is stored, two moves release each
-/// block of the commands, and one reads the answer. Where a line behind them is faulty, one block
-/// was stored, and the other still stands in the frame.
-#[test]
-fn statistics_follow_the_message(rt: HostRuntime) -> Result<(), Fail> {
-    let mut text = Vec::new(rt.alloc());
-    for _ in 0..253 {
-        text.extend_from_slice(b"put 1 2\n")?;
-    }
-    text.extend_from_slice(b"get 1\n")?;
-    let words = ["map", "--block=128", "--stats", "--blocks=3", "a"];
-    let (status, out, err) = run(&rt, &words, &text, PLAIN)?;
-    assert!(rt; status == Status::Done);
-    assert_eq!(rt; out.bytes(), b"2\n".as_slice());
-    assert_eq!(rt; err.bytes(), b"moves 12 peak 3\n".as_slice());
-    text.extend_from_slice(b"gut 1\n")?;
-    let (status, out, err) = run(&rt, &words, &text, PLAIN)?;
-    assert!(rt; status == malformed(TextKind::Unknown, 255));
-    assert_eq!(rt; out.bytes(), b"".as_slice());
-    let lines = b"emtool: malformed: Unknown at 255\nmoves 1 peak 1\n";
-    assert_eq!(rt; err.bytes(), lines.as_slice());
-    Ok(())
-}
-
-#[test]
-fn a_name_that_is_not_there_is_a_read_fault(rt: HostRuntime) -> Result<(), Fail> {
-    let (status, out, err) = run(&rt, &["map", "b"], FIRST, PLAIN)?;
-    assert!(rt; status == Status::ReadFault);
-    assert_eq!(rt; out.bytes(), b"".as_slice());
-    assert_eq!(rt;
-        err.bytes(),
-        b"emtool: an input could not be read\n".as_slice()
-    );
-    Ok(())
+    text.extend_from_slice(last)?;
+    Ok(text)
 }
 
 /// Call 0 begins the device, call 1 writes the one block of so small a file, and call 2 reads it in
-/// search of gets. Then each get reads it, but where no command stands before it. One call writes
-/// the answers, two release the block of the commands, and the last one reads the answers.
+/// search of gets. Then each get reads it, unless no command stands before it. One call writes the
+/// answers, two release the block of the commands, and the last one reads the answers.
 #[test]
-fn each_failing_call_of_the_device_is_a_device_fault(rt: HostRuntime) -> Result<(), Fail> {
-    let failed: &[u8] = b"emtool: the scratch device failed\n";
-    let cases: [(&[u8], u64, Status, &[u8], &[u8]); 12] = [
-        (FIRST, 0, Status::DeviceFault, b"", failed),
-        (FIRST, 1, Status::DeviceFault, b"", failed),
-        (FIRST, 2, Status::DeviceFault, b"", failed),
-        (FIRST, 3, Status::DeviceFault, b"", failed),
-        (FIRST, 6, Status::DeviceFault, b"", failed),
-        (FIRST, 7, Status::DeviceFault, b"", failed),
-        (FIRST, 9, Status::DeviceFault, b"", failed),
-        (FIRST, 10, Status::Done, b"10\n11\n-\n", b""),
-        (ENDS, 0, Status::DeviceFault, b"", failed),
-        (ENDS, 4, Status::DeviceFault, b"", failed),
-        (ENDS, 8, Status::DeviceFault, b"", failed),
-        (ENDS, 9, Status::Done, b"-\n8\n7\n", b""),
+fn a_map_ends_at_a_failing_call_of_the_device(rt: HostRuntime) -> Result<(), Fail> {
+    let rows = [
+        (0, 5, 0),
+        (1, 5, 0),
+        (2, 5, 0),
+        (7, 5, 0),
+        (9, 5, 0),
+        (10, 0, 8),
     ];
-    for (text, call, status, output, message) in cases {
-        let failing = [call];
-        let setting = Setting {
-            device_fails: &failing,
-            ..PLAIN
-        };
-        let (got, out, err) = run(&rt, &["map", "a"], text, setting)?;
-        assert!(rt; got == status);
-        assert_eq!(rt; out.bytes(), output);
+    let wrong = first_wrong(&rt, &["map", "a"], MAP, GOT, Part::Device, &rows)?;
+    assert_eq!(rt; wrong, None);
+    Ok(())
+}
+
+#[test]
+fn a_map_of_the_ends_ends_at_a_failing_call(rt: HostRuntime) -> Result<(), Fail> {
+    let rows = [(0, 5, 0), (4, 5, 0), (8, 5, 0), (9, 0, 6)];
+    let wrong = first_wrong(&rt, &["map", "a"], ENDS, GOT_ENDS, Part::Device, &rows)?;
+    assert_eq!(rt; wrong, None);
+    Ok(())
+}
+
+/// Call 0 opens the file. The 42 bytes come in 9 reads, and one more finds the end.
+#[test]
+fn a_map_ends_at_a_failing_call_of_the_shelf(rt: HostRuntime) -> Result<(), Fail> {
+    let rows = [(0, 3, 0), (1, 3, 0), (9, 3, 0), (10, 3, 0), (11, 0, 8)];
+    let wrong = first_wrong(&rt, &["map", "a"], MAP, GOT, Part::Shelf, &rows)?;
+    assert_eq!(rt; wrong, None);
+    Ok(())
+}
+
+/// The 77 bytes come in 16 reads, and the end is found three times: by the last number, by the last
+/// line, and where the next line would begin.
+#[test]
+fn the_end_of_a_file_may_fail(rt: HostRuntime) -> Result<(), Fail> {
+    let rows = [(16, 3, 0), (17, 3, 0), (18, 3, 0), (19, 3, 0), (20, 0, 6)];
+    let wrong = first_wrong(&rt, &["map", "a"], ENDS, GOT_ENDS, Part::Shelf, &rows)?;
+    assert_eq!(rt; wrong, None);
+    Ok(())
+}
+
+/// Each line goes out in one call.
+#[test]
+fn a_map_ends_at_a_failing_write(rt: HostRuntime) -> Result<(), Fail> {
+    let rows = [(0, 4, 0), (1, 4, 3), (2, 4, 6), (3, 0, 8)];
+    let wrong = first_wrong(&rt, &["map", "a"], MAP, GOT, Part::Output, &rows)?;
+    assert_eq!(rt; wrong, None);
+    Ok(())
+}
+
+/// The 301 commands take three blocks of 127. Calls 1 to 3 write the blocks, 4 to 6 read them in
+/// search of gets, and 7 to 9 read them for the one get. Call 10 writes the answer, 11 to 16 release
+/// the blocks, and 17 reads the answer: there is no call 18.
+#[test]
+fn a_map_of_several_blocks_ends_at_a_failing_call(rt: HostRuntime) -> Result<(), Fail> {
+    let text = repeated(rt.alloc(), b"put 1 2\n", 300, b"get 1\n")?;
+    let rows = [
+        (3, 5, 0),
+        (6, 5, 0),
+        (9, 5, 0),
+        (10, 5, 0),
+        (17, 5, 0),
+        (18, 0, 2),
+    ];
+    let wrong = first_wrong(&rt, &SMALL, &text, b"2\n", Part::Device, &rows)?;
+    assert_eq!(rt; wrong, None);
+    Ok(())
+}
+
+/// The first two pops make 4 calls each: the block is stored, loaded and released, and its header read
+/// again, since one item is left. The third pop makes 3 of them, and the last none.
+#[test]
+fn a_queue_ends_at_a_failing_call_of_the_device(rt: HostRuntime) -> Result<(), Fail> {
+    let rows = [
+        (0, 5, 0),
+        (4, 5, 0),
+        (5, 5, 4),
+        (8, 5, 4),
+        (11, 5, 8),
+        (12, 0, 14),
+    ];
+    let wrong = first_wrong(&rt, &["queue", "a"], QUEUE, POPPED, Part::Device, &rows)?;
+    assert_eq!(rt; wrong, None);
+    Ok(())
+}
+
+/// The pops end in calls 5, 7, 8 and 9 of the shelf, and call 10 finds the end.
+#[test]
+fn a_queue_ends_at_a_failing_call_of_the_shelf(rt: HostRuntime) -> Result<(), Fail> {
+    let rows = [
+        (0, 3, 0),
+        (5, 3, 0),
+        (6, 3, 4),
+        (8, 3, 8),
+        (10, 3, 14),
+        (11, 0, 14),
+    ];
+    let wrong = first_wrong(&rt, &["queue", "a"], QUEUE, POPPED, Part::Shelf, &rows)?;
+    assert_eq!(rt; wrong, None);
+    Ok(())
+}
+
+#[test]
+fn a_queue_ends_at_a_failing_write(rt: HostRuntime) -> Result<(), Fail> {
+    let rows = [(0, 4, 0), (1, 4, 4), (3, 4, 12), (4, 0, 14)];
+    let wrong = first_wrong(&rt, &["queue", "a"], QUEUE, POPPED, Part::Output, &rows)?;
+    assert_eq!(rt; wrong, None);
+    Ok(())
+}
+
+/// Call 1 stores the commands, and call 2 loads them in search of stabs. Each stab but the first, which
+/// no interval precedes, loads them again. Call 7 stores the pairs, calls 8 and 9 release the commands,
+/// and call 10 loads the pairs.
+#[test]
+fn a_stab_file_ends_at_a_failing_call_of_the_device(rt: HostRuntime) -> Result<(), Fail> {
+    let rows = [
+        (0, 5, 0),
+        (1, 5, 0),
+        (6, 5, 0),
+        (7, 5, 0),
+        (10, 5, 0),
+        (11, 0, 12),
+    ];
+    let wrong = first_wrong(&rt, &["stab", "a"], STAB, HELD, Part::Device, &rows)?;
+    assert_eq!(rt; wrong, None);
+    Ok(())
+}
+
+/// Call 20 of the shelf finds the end.
+#[test]
+fn a_stab_file_ends_at_a_failing_call_of_the_shelf(rt: HostRuntime) -> Result<(), Fail> {
+    let rows = [(0, 3, 0), (20, 3, 0), (21, 0, 12)];
+    let wrong = first_wrong(&rt, &["stab", "a"], STAB, HELD, Part::Shelf, &rows)?;
+    assert_eq!(rt; wrong, None);
+    Ok(())
+}
+
+#[test]
+fn a_stab_file_ends_at_a_failing_write(rt: HostRuntime) -> Result<(), Fail> {
+    let rows = [(0, 4, 0), (2, 4, 4), (4, 4, 8), (5, 0, 12)];
+    let wrong = first_wrong(&rt, &["stab", "a"], STAB, HELD, Part::Output, &rows)?;
+    assert_eq!(rt; wrong, None);
+    Ok(())
+}
+
+/// Call 2 of the shelf gives the end of line 1, which is faulty, and call 3 would fail: nothing is read
+/// after the first fault.
+#[test]
+fn nothing_is_read_after_a_faulty_line(rt: HostRuntime) -> Result<(), Fail> {
+    let text = b"bogus\nget 1\npop\nstab 1\nbogus\n";
+    for command in ["map", "queue", "stab"] {
+        let (status, out, err) = run(&rt, &[command, "a"], text, failing(Part::Shelf, &[3]))?;
+        assert_eq!(rt; status.code(), 2);
+        assert_eq!(rt; out.bytes(), b"".as_slice());
+        assert_eq!(rt;
+            err.bytes(),
+            b"emtool: malformed: Unknown at 1\n".as_slice()
+        );
+    }
+    Ok(())
+}
+
+/// The message of the status, and the line of the statistics after it.
+#[test]
+fn a_failing_call_is_reported(rt: HostRuntime) -> Result<(), Fail> {
+    let cases: [(Part, &[u8]); 3] = [
+        (
+            Part::Device,
+            b"emtool: the scratch device failed\nmoves 0 peak 0\n",
+        ),
+        (
+            Part::Shelf,
+            b"emtool: an input could not be read\nmoves 0 peak 0\n",
+        ),
+        (
+            Part::Output,
+            b"emtool: the output could not be written\nmoves 9 peak 3\n",
+        ),
+    ];
+    for (part, message) in cases {
+        let (_, out, err) = run(&rt, &["map", "--stats", "a"], MAP, failing(part, &[0]))?;
+        assert_eq!(rt; out.bytes(), b"".as_slice());
         assert_eq!(rt; err.bytes(), message);
     }
     Ok(())
 }
 
-/// Call 0 opens the file. The first file's 42 bytes come in 9 reads, and one more finds its end.
-/// The other's 77 bytes come in 16 reads, and its end is found three times: by the last number, by
-/// the last line, and where the next line would begin.
-#[test]
-fn each_failing_call_of_the_shelf_is_a_read_fault(rt: HostRuntime) -> Result<(), Fail> {
-    let cases: [(&[u8], u64, &[u8]); 2] = [(FIRST, 11, b"10\n11\n-\n"), (ENDS, 20, b"-\n8\n7\n")];
-    for (text, calls, output) in cases {
-        for call in 0..calls + 1 {
-            let failing = [call];
-            let setting = Setting {
-                shelf_fails: &failing,
-                ..PLAIN
-            };
-            let (status, out, _) = run(&rt, &["map", "a"], text, setting)?;
-            if call < calls {
-                assert!(rt; status == Status::ReadFault);
-                assert_eq!(rt; out.bytes(), b"".as_slice());
-            } else {
-                assert!(rt; status == Status::Done);
-                assert_eq!(rt; out.bytes(), output);
-            }
-        }
-    }
-    Ok(())
-}
-
-/// The output takes three bytes a call, so each line of the files goes out in one.
-#[test]
-fn each_failing_write_leaves_the_lines_before_it(rt: HostRuntime) -> Result<(), Fail> {
-    let cases: [(&[u8], u64, Status, &[u8]); 8] = [
-        (FIRST, 0, Status::WriteFault, b""),
-        (FIRST, 1, Status::WriteFault, b"10\n"),
-        (FIRST, 2, Status::WriteFault, b"10\n11\n"),
-        (FIRST, 3, Status::Done, b"10\n11\n-\n"),
-        (ENDS, 0, Status::WriteFault, b""),
-        (ENDS, 1, Status::WriteFault, b"-\n"),
-        (ENDS, 2, Status::WriteFault, b"-\n8\n"),
-        (ENDS, 3, Status::Done, b"-\n8\n7\n"),
-    ];
-    for (text, call, status, output) in cases {
-        let failing = [call];
-        let setting = Setting {
-            piece: 3,
-            out_fails: &failing,
-            ..PLAIN
-        };
-        let (got, out, _) = run(&rt, &["map", "a"], text, setting)?;
-        assert!(rt; got == status);
-        assert_eq!(rt; out.bytes(), output);
-    }
-    Ok(())
-}
-
+/// There is no file `b`.
 #[test]
 fn a_failing_error_stream_changes_no_status(rt: HostRuntime) -> Result<(), Fail> {
     let cases: [(u64, &[u8]); 2] = [(0, b""), (1, b"emtool:")];
     for (call, message) in cases {
-        let failing = [call];
-        let setting = Setting {
-            err_fails: &failing,
-            ..PLAIN
-        };
-        let (status, _, err) = run(&rt, &["map", "b"], FIRST, setting)?;
+        let calls = [call];
+        let (status, _, err) = run(&rt, &["map", "b"], MAP, failing(Part::Errors, &calls))?;
         assert!(rt; status == Status::ReadFault);
         assert_eq!(rt; err.bytes(), message);
-    }
-    Ok(())
-}
-
-/// The keys 0 to 2049, each with the value 3 above it, fill two blocks of 1023, and the last four
-/// stand in a third one with the gets. Calls 1 to 3 of the device write the blocks, 4 to 6 read
-/// them in search of gets, and each of the three gets reads all of them. Call 16 writes the
-/// answers, 17 to 22 release the blocks, and 23 reads the answers: there is no call 24.
-#[test]
-fn a_map_of_several_blocks_is_answered(rt: HostRuntime) -> Result<(), Fail> {
-    let alloc = rt.alloc();
-    let mut text = Vec::new(alloc);
-    for key in 0..2050u64 {
-        let line = format!(in alloc; "put {} {}\n", key, key + 3)?;
-        text.extend_from_slice(line.as_bytes())?;
-    }
-    text.extend_from_slice(b"get 5\nget 2047\nget 2050\n")?;
-    let cases: [(u64, Status, &[u8]); 10] = [
-        (1, Status::DeviceFault, b""),
-        (3, Status::DeviceFault, b""),
-        (4, Status::DeviceFault, b""),
-        (6, Status::DeviceFault, b""),
-        (9, Status::DeviceFault, b""),
-        (15, Status::DeviceFault, b""),
-        (16, Status::DeviceFault, b""),
-        (22, Status::DeviceFault, b""),
-        (23, Status::DeviceFault, b""),
-        (24, Status::Done, b"8\n2050\n-\n"),
-    ];
-    for (call, status, output) in cases {
-        let failing = [call];
-        let setting = Setting {
-            device_fails: &failing,
-            ..PLAIN
-        };
-        let (got, out, _) = run(&rt, &["map", "a"], &text, setting)?;
-        assert!(rt; got == status);
-        assert_eq!(rt; out.bytes(), output);
-    }
-    Ok(())
-}
-
-/// The commands want five blocks of 1023, and the device has three, of which two were stored.
-#[test]
-fn a_small_device_is_full(rt: HostRuntime) -> Result<(), Fail> {
-    let alloc = rt.alloc();
-    let mut text = Vec::new(alloc);
-    for _ in 0..4096 {
-        text.extend_from_slice(b"put 1 2\n")?;
-    }
-    text.extend_from_slice(b"get 1\n")?;
-    let mut shelf = MemShelf::new(alloc, 4096, &[])?;
-    shelf.add("a", &text)?;
-    let mut device = MemDevice::new(alloc, &[])?;
-    let mut out = MemSink::new(alloc, 10, &[])?;
-    let Ok(shape) = Shape::new(1024, 256) else {
-        unreachable!()
-    };
-    let pool = Grant::new(alloc).pool(shape)?;
-    let job = Job {
-        kind: FileKind::Map,
-        shape,
-        blocks: 3,
-        stats: true,
-        file: 1,
-    };
-    let outcome = run_pool(&job, "a", pool, &mut device, &mut shelf, &mut out);
-    assert!(rt; outcome.status == Status::Full { used: 3 });
-    assert!(rt; outcome.stats == Some(Stats { moves: 2, peak: 1 }));
-    assert_eq!(rt; out.bytes(), b"".as_slice());
-    Ok(())
-}
-
-/// At the smallest shape 508 records fill four blocks of 127: a device of three is full, of which
-/// two are stored, and one of five takes them all and the answer. Four stores, four reads on the
-/// way over the list, and four for the get; the answer is stored, eight moves release the blocks,
-/// and one reads the answer.
-#[test]
-fn a_device_of_so_many_blocks_is_full(rt: HostRuntime) -> Result<(), Fail> {
-    let mut text = Vec::new(rt.alloc());
-    for _ in 0..507 {
-        text.extend_from_slice(b"put 1 2\n")?;
-    }
-    text.extend_from_slice(b"get 1\n")?;
-    let words = [
-        "map",
-        "--block=128",
-        "--frames=64",
-        "--blocks=3",
-        "--stats",
-        "a",
-    ];
-    let (status, out, err) = run(&rt, &words, &text, PLAIN)?;
-    assert!(rt; status == Status::Full { used: 3 });
-    assert_eq!(rt; out.bytes(), b"".as_slice());
-    let lines = b"emtool: the scratch device is full at 3 blocks\nmoves 2 peak 1\n";
-    assert_eq!(rt; err.bytes(), lines.as_slice());
-    let words = [
-        "map",
-        "--block=128",
-        "--frames=64",
-        "--blocks=5",
-        "--stats",
-        "a",
-    ];
-    let (status, out, err) = run(&rt, &words, &text, PLAIN)?;
-    assert!(rt; status == Status::Done);
-    assert_eq!(rt; out.bytes(), b"2\n".as_slice());
-    assert_eq!(rt; err.bytes(), b"moves 22 peak 3\n".as_slice());
-    Ok(())
-}
-
-/// The line of the statistics comes at every status but a refusal of the words.
-#[test]
-fn statistics_come_where_a_run_was_stopped(rt: HostRuntime) -> Result<(), Fail> {
-    let fails = [0];
-    let cases: [(&[&str], Setting<'_>, &[u8]); 4] = [
-        (
-            &["map", "--stats"],
-            PLAIN,
-            b"emtool: usage: MissingOperand at word 2\n",
-        ),
-        (
-            &["map", "--stats", "b"],
-            PLAIN,
-            b"emtool: an input could not be read\nmoves 0 peak 0\n",
-        ),
-        (
-            &["map", "--stats", "a"],
-            Setting {
-                device_fails: &fails,
-                ..PLAIN
-            },
-            b"emtool: the scratch device failed\nmoves 0 peak 0\n",
-        ),
-        (
-            &["map", "--stats", "a"],
-            Setting {
-                out_fails: &fails,
-                ..PLAIN
-            },
-            b"emtool: the output could not be written\nmoves 9 peak 3\n",
-        ),
-    ];
-    for (words, setting, message) in cases {
-        let (_, out, err) = run(&rt, words, FIRST, setting)?;
-        assert_eq!(rt; out.bytes(), b"".as_slice());
-        assert_eq!(rt; err.bytes(), message);
-    }
-    Ok(())
-}
-
-/// Help and the version are asked for by one word alone.
-#[test]
-fn help_and_version_are_asked_for_alone(rt: HostRuntime) -> Result<(), Fail> {
-    let alloc = rt.alloc();
-    let cases: [(&[&str], Option<&str>); 5] = [
-        (&["--help"], Some(HELP)),
-        (&["--version"], Some("emtool 0.1.0\n")),
-        (&[], None),
-        (&["--help", "map"], None),
-        (&["help"], None),
-    ];
-    for (words, text) in cases {
-        let mut given = Vec::new(alloc);
-        for word in words {
-            given.push(String::from_str(alloc, word)?)?;
-        }
-        assert_eq!(rt; asked_text(&given), text);
     }
     Ok(())
 }
@@ -585,12 +363,7 @@ fn help_and_version_are_asked_for_alone(rt: HostRuntime) -> Result<(), Fail> {
 #[test]
 fn a_text_is_printed_or_its_failure_told(rt: HostRuntime) -> Result<(), Fail> {
     let alloc = rt.alloc();
-    let mut out = MemSink::new(alloc, 3, &[])?;
     let mut err = MemSink::new(alloc, 7, &[])?;
-    let status = print_text("a text\n", &mut out, &mut err);
-    assert!(rt; status == Status::Done);
-    assert_eq!(rt; out.bytes(), b"a text\n".as_slice());
-    assert_eq!(rt; err.bytes(), b"".as_slice());
     let mut out = MemSink::new(alloc, 3, &[1])?;
     let status = print_text("a text\n", &mut out, &mut err);
     assert!(rt; status == Status::WriteFault);

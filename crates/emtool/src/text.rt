@@ -22,7 +22,7 @@ pub enum TextKind {
     BadNumber,
     /// An operand is above 2^64 - 1.
     TooLarge,
-    /// The line ends before an operand or goes on behind the last one, or an operand is empty.
+    /// The line ends before an operand or goes on after the last one, or an operand is empty.
     BadSeparator,
     /// The bytes up to the first space or the line's end are no word of the file's table.
     Unknown,

@@ -29,3 +29,8 @@ loop-number-preserved g c =
       count = omega (arith, a.appends.count_is, inv.count);
       few = omega (arith, a.costs.more, inv.few);
     }
+
+pub returns-in_err-append-clause-goes : goal.returns-in_err-append-clause-goes
+returns-in_err-append-clause-goes g c =
+    let inv = c.loop-number.invariant in
+    goes_within [] _ _ _ _ inv.goes inv.writes.within c.append.ensures.goes

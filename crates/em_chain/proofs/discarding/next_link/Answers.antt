@@ -5,9 +5,8 @@ use Rattle.em_frames.specs.Device.{block_at, zero_record}
 use Rattle.em_space.specs.Free.{header}
 use Rattle.em_space.specs.Rig.{RigState}
 use Rattle.em_space.specs.Seen.{seen}
-use Rattle.em_space.proofs.Steps.{touches_then}
+use Rattle.em_space.proofs.Steps.{touches_then, untold_by}
 use Rattle.em_space.proofs.Held.{in_use_kept}
-use Rattle.em_chain.proofs.Keeps.{untold_by}
 use Rattle.em_chain.proofs.Rows.{row_head, row_passes}
 use Rattle.em_chain.proofs.discarding.next_link.Goals as goal
 

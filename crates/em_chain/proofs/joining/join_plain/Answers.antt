@@ -4,13 +4,13 @@ use Rattle.em_frames.specs.Device.{block_at}
 use Rattle.em_space.specs.Free.{header}
 use Rattle.em_space.specs.Rig.{RigState}
 use Rattle.em_space.specs.Seen.{seen}
-use Rattle.em_space.proofs.Steps.{touches_then, touches_after}
+use Rattle.em_space.proofs.Steps.{untold_by}
 use Rattle.em_space.proofs.Held.{in_use_kept}
 use Rattle.em_chain.specs.Joins.{IsLastBlock}
 use Rattle.em_chain.specs.List.{with_link}
-use Rattle.em_chain.proofs.Keeps.{untold_by}
 use Rattle.em_chain.proofs.Laws.{tail_leads, tail_within}
-use Rattle.em_chain.proofs.Joins.{join_is, touches_tail}
+use Rattle.em_chain.proofs.Joins.{join_is, tail_goes}
+use Rattle.em_chain.proofs.Keeps.{touches_between}
 use Rattle.em_chain.proofs.joining.join_plain.Goals as goal
 
 pub returns-then-not-is_link-clause-cause : goal.returns-then-not-is_link-clause-cause
@@ -53,54 +53,30 @@ link_block-linked-requires-clause-last g c = λ z.
 
 pub returns-in-Err-clause-goes : goal.returns-in-Err-clause-goes
 returns-in-Err-clause-goes g c =
-    let s = seen g.D.Device.state c.args.rig.now in
-    let m = seen g.D.Device.state c.lend-frame.new.self in
-    let u = seen g.D.Device.state c.link_block-linked.new.rig in
-    let t = seen g.D.Device.state c.give.new.self in
-    let l = c.args.first.tail - 1 in
     let k = c.requires.linkable in
-    let h = c.link_block-linked.ensures.goes.touches in
-    record {
-      sound = c.give.ensures.sound;
-      touches = touches_tail s t c.args.first k.first k.first_some
-          (touches_then (l ∷ []) s u t
-          (touches_after (l ∷ []) s m u c.lend-frame.ensures.touches h)
-          c.give.ensures.touches);
-      frames = search rules;
-    }
+    tail_goes c.args.first k.first k.first_some c.lend-frame.ensures.touches
+    c.link_block-linked.ensures.goes.touches c.give.ensures.touches c.give.ensures.sound
+    (search rules)
 
 pub returns-in-Ok-clause-goes : goal.returns-in-Ok-clause-goes
 returns-in-Ok-clause-goes g c =
-    let s = seen g.D.Device.state c.args.rig.now in
-    let m = seen g.D.Device.state c.lend-frame.new.self in
-    let u = seen g.D.Device.state c.link_block-linked.new.rig in
-    let t = seen g.D.Device.state c.give.new.self in
-    let l = c.args.first.tail - 1 in
     let k = c.requires.linkable in
-    let h = c.link_block-linked.ensures.goes.touches in
-    record {
-      sound = c.give.ensures.sound;
-      touches = touches_tail s t c.args.first k.first k.first_some
-          (touches_then (l ∷ []) s u t
-          (touches_after (l ∷ []) s m u c.lend-frame.ensures.touches h)
-          c.give.ensures.touches);
-      frames = search rules;
-    }
+    tail_goes c.args.first k.first k.first_some c.lend-frame.ensures.touches
+    c.link_block-linked.ensures.goes.touches c.give.ensures.touches c.give.ensures.sound
+    (search rules)
 
 pub returns-in-Ok-clause-joins : goal.returns-in-Ok-clause-joins
 returns-in-Ok-clause-joins g c =
     let s = seen g.D.Device.state c.args.rig.now in
-    let m = seen g.D.Device.state c.lend-frame.new.self in
     let u = seen g.D.Device.state c.link_block-linked.new.rig in
     let t = seen g.D.Device.state c.give.new.self in
     let l = c.args.first.tail - 1 in
     let k = c.requires.linkable in
-    let h = c.link_block-linked.ensures.goes.touches in
     let b = c.in-Ok.ensures.links in
     join_is s t c.args.first c.args.second (header (block_at s.device l)).b k.first k.second
     k.first_some k.second_some k.skip k.room.count k.room.blocks k.apart
-    (touches_then (l ∷ []) s u t
-    (touches_after (l ∷ []) s m u c.lend-frame.ensures.touches h) c.give.ensures.touches)
+    (touches_between (l ∷ []) c.lend-frame.ensures.touches
+    c.link_block-linked.ensures.goes.touches c.give.ensures.touches)
     (λ z. refl)
     (λ z. ap (λ (r : RigState). block_at r.device l) c.give.ensures.given
     ∙ b.is (c.lend-frame.ensures.touches.told ∙ z)

@@ -12,7 +12,7 @@ use Rattle.em_chain.proofs.Keeps.{touches_none}
 use Rattle.em_chain.proofs.Withins.{within_grows}
 use Rattle.em_chain.proofs.Parts.{err_of}
 use Rattle.em_chain.proofs.Queues.{apart_beside, apart_grown, writer_beside}
-use Rattle.em_client.proofs.Clients.{left_next, take_next}
+use Rattle.em_client.proofs.Clients.{left_next, list_more, list_most, take_next}
 use Rattle.em_client.proofs.client.beside.Goals as goal
 
 pub returns-in_default-clause-writer : goal.returns-in_default-clause-writer
@@ -86,6 +86,8 @@ loop-count-init g c =
       remaining = omega arith;
       len = omega arith;
       blocks = omega arith;
+      filled_is = omega arith;
+      spent = omega arith;
       left = λ z. refl;
       written = λ z. sym (append-nil (writer_items s c.args.writer.now));
     }
@@ -178,6 +180,8 @@ loop-count-preserved g c =
           omega (arith, m, one, inv.remaining);
       len = let m = a.appends.count_is in omega (arith, m, inv.len);
       blocks = let m = a.costs.more in omega (arith, m, inv.blocks);
+      filled_is = omega (arith, a.appends.filled_is, st.filled_is, inv.filled_is);
+      spent = omega (arith, a.costs.moves, e.serves.spent, inv.spent);
       left = λ z.
           let zs = inv.touches.told ∙ z in
           kept.1 (e.serves.touches.told ∙ zs)
@@ -194,3 +198,38 @@ loop-count-preserved g c =
           ∙ ap (λ (l : List Record). first ++ l)
           (sym (take_next all _ x c.loop-count.count (sym next ∙ inv.left z)));
     }
+
+pub returns-in_err-item-clause-spent : goal.returns-in_err-item-clause-spent
+returns-in_err-item-clause-spent g c =
+    let inv = c.loop-count.invariant in
+    let m = list_most c.args.writer.now c.loop-count.count c.args.limit inv.sound inv.touches inv.writer inv.filled_is
+    (omega (arith, inv.count)) in
+    omega (arith, m, c.pop.ensures.serves.spent, inv.spent)
+
+pub returns-in_default-clause-spent : goal.returns-in_default-clause-spent
+returns-in_default-clause-spent g c =
+    let inv = c.loop-count.invariant in
+    let m = list_most c.args.writer.now c.loop-count.count c.args.limit inv.sound inv.touches inv.writer inv.filled_is
+    (omega (arith, inv.count)) in
+    omega (arith, m, c.pop.ensures.serves.spent, inv.spent)
+
+pub returns-clause-spent : goal.returns-clause-spent
+returns-clause-spent g c =
+    let inv = c.loop-count.invariant in
+    let m = list_most c.args.writer.now c.loop-count.count c.args.limit inv.sound inv.touches inv.writer inv.filled_is
+    (omega (arith, inv.count)) in
+    omega (arith, m, inv.spent)
+
+pub returns-in_err-append-clause-spent : goal.returns-in_err-append-clause-spent
+returns-in_err-append-clause-spent g c =
+    let inv = c.loop-count.invariant in
+    let e = c.in_ok-item.ensures in
+    let s = seen g.D.Device.state c.loop-count.rig in
+    let t = seen g.D.Device.state c.pop.new.rig in
+    let w = c.loop-count.writer in
+    let st : WriterStays s t w = writer_beside s t w _ _ _ inv.writer e.serves e.served.frames
+    inv.apart in
+    let touches = touches_within _ s t _ _ inv.touches inv.within e.serves.touches in
+    let m = list_more c.args.writer.now w c.loop-count.count c.args.limit e.serves.sound touches
+    (omega (arith, st.filled_is, inv.filled_is)) (omega (arith, c.loop-count-test.true)) in
+    omega (arith, m, c.in_err-append.ensures.spends.moves, e.serves.spent, inv.spent)

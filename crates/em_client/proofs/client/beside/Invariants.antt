@@ -1,9 +1,9 @@
-use Rattle.std.proofs.Common.{◌≡◌, ◌+◌, ◌-◌, ◌≤◌, ◌++◌, take, drop, IsTrue}
+use Rattle.std.proofs.Common.{◌≡◌, ◌+◌, ◌-◌, ◌*◌, ◌≤◌, ◌++◌, take, drop, IsTrue}
 use Rattle.em_space.specs.Held.{Apart, Within}
 use Rattle.em_space.specs.Queue.{CanServe, Shares}
 use Rattle.em_space.specs.Rig.{Sound, Touches}
 use Rattle.em_space.specs.Seen.{seen}
-use Rattle.em_chain.specs.Writer.{IsWriter, writer_blocks, writer_items}
+use Rattle.em_chain.specs.Writer.{IsWriter, filled, writer_blocks, writer_items}
 use Rattle.em_client.proofs.client.beside.Given as goal
 
 abbrev pub invariant-loop-count : goal.invariant-loop-count
@@ -31,6 +31,9 @@ invariant-loop-count g l =
       remaining : l.count + counts.len ≡ old.len;
       len : l.writer.count ≡ l.fn.writer.count + l.count;
       blocks : l.writer.blocks ≤ l.fn.writer.blocks + l.count;
+      filled_is : filled now l.writer ≡ filled first l.fn.writer + l.count;
+      spent : now.moves + old.spent + 2 * l.fn.writer.blocks
+          ≤ first.moves + counts.spent + 2 * l.writer.blocks;
       left : IsTrue first.device.told → g.Q.Queue.items l.queue now ≡ drop l.count items;
       written : IsTrue first.device.told → writer_items now l.writer
           ≡ writer_items first l.fn.writer ++ take l.count items;

@@ -22,6 +22,7 @@ invariant-loop-count g l =
       count : l.count ≤ length l.out;
       n : counts.n ≡ old.n + l.count;
       len : l.count + counts.len ≡ old.len;
+      spent : now.moves + old.spent ≡ first.moves + counts.spent;
       items : IsTrue first.device.told
           → take l.count l.out ++ g.Q.Queue.items l.queue now ≡ g.Q.Queue.items l.fn.queue first;
     }

@@ -1,5 +1,5 @@
 use Rattle.std.proofs.Common.{◌+◌, ◌-◌, ◌∙◌, arith}
-use Rattle.em_plain.proofs.Looking.{looks_next, value_next}
+use Rattle.em_plain.proofs.Looks.{looks_next, value_next}
 use Rattle.em_plain.proofs.map_answers.value_by.Goals as goal
 
 pub loop-preserved : goal.loop-preserved

@@ -2,7 +2,7 @@ use Rattle.std.proofs.Common.{◌≡◌, ◌+◌, ◌-◌, None, take, false, Is
 use Rattle.em_model.specs.Map.{value_from}
 use Rattle.em_space.specs.Seen.{seen}
 use Rattle.em_chain.specs.Reader.{IsReader, reader_items}
-use Rattle.em_plain.specs.Collects.{Looks}
+use Rattle.em_plain.specs.Looks.{Looks}
 use Rattle.em_plain.specs.Command.{commands_in}
 use Rattle.em_plain.proofs.map_answers.value_by.Given as goal
 

@@ -1,172 +1,84 @@
-use Rattle.std.proofs.Common.{◌≡◌, arith}
-use Rattle.std.specs.Ordering.{ord_max}
-use Rattle.em_record.specs.Order.{record_cmp}
+use Rattle.std.proofs.Common.{◌≡◌, arith, ap, Ok}
 use Rattle.em_space.specs.Rig.{Cause}
 use Rattle.em_space.specs.Seen.{seen}
-use Rattle.em_space.proofs.Steps.{cause_after}
-use Rattle.em_chain.specs.Chain.{chain_blocks}
 use Rattle.em_chain.specs.Effects.{OnFull}
-use Rattle.em_chain.specs.Reader.{rest_of}
+use Rattle.em_chain.proofs.Pairs.{pairs_is, pairs_next, pairs_grow}
 use Rattle.em_chain.proofs.Parts.{err_of}
-use Rattle.em_plain.proofs.Least.{can_grow, pass_first, pass_reads, pass_on, pass_writes, pass_appends, skip_read, least_first, least_more, passed_some, stop_costs, stop_full}
+use Rattle.em_plain.proofs.Least.{pass_first, pass_more, pass_stops, passed_none, passed_some}
 use Rattle.em_plain.proofs.scan_queue.pass_all_but_least.Goals as goal
+
+pub returns-in_default-clause-passed : goal.returns-in_default-clause-passed
+returns-in_default-clause-passed g c = passed_none _ _ _ _ _ c.requires.sound
+    c.requires.begins.begins (c.in_ok-least.ensures.end (ap Ok c.in_default.is))
 
 pub loop-init : goal.loop-init
 loop-init g c =
-    let s = seen g.D.Device.state c.args.rig.now in
-    let t = seen g.D.Device.state c.next.new.rig in
-    let r = c.args.reader.now in
-    let w = c.args.writer.now in
-    let b = c.requires.begins in
-    let a = rw c.in-Some.is at c.in_ok-least.ensures.reads in
-    let none = b.begins.count in
+    let b = c.requires.begins.begins in
+    let o = c.in_ok-least.ensures in
+    let a = rw c.in-Some.is at o.reads in
+    let n = b.count in
     record {
-      passes = pass_reads s s t r r c.next.new.self w c.in-Some.least 0 _
-          (pass_first s r w c.requires.sound b.begins b.none_left) c.next.ensures.goes a
-          c.in_ok-least.ensures.costs;
-      holds = least_first s t r c.next.new.self w c.in-Some.least b.begins c.next.ensures.goes a;
+      passes = pass_first b (pairs_next b.pair c.next.ensures.goes a (o.spends b.pair.taking));
       count = omega arith;
     }
 
-pub returns-in_err-item-clause-goes : goal.returns-in_err-item-clause-goes
-returns-in_err-item-clause-goes g c =
-    let s = seen g.D.Device.state c.args.rig.now in
-    let t = seen g.D.Device.state c.loop.rig in
-    let u = seen g.D.Device.state c.next-in-loop.new.rig in
-    pass_on s t u c.args.reader.now c.loop.reader c.loop.writer 1 c.loop.invariant.passes
-    c.next-in-loop.ensures.goes
+pub pass_one-requires-clause-pair : goal.pass_one-requires-clause-pair
+pass_one-requires-clause-pair g c =
+    pairs_is c.requires.begins.begins.pair.taking c.loop.invariant.passes.pairs
 
-pub append-requires-clause-is : goal.append-requires-clause-is
-append-requires-clause-is g c =
-    let s = seen g.D.Device.state c.args.rig.now in
-    let t = seen g.D.Device.state c.loop.rig in
-    let u = seen g.D.Device.state c.next-in-loop.new.rig in
-    let r = c.args.reader.now in
-    let p = c.next-in-loop.new.self in
-    let w = c.loop.writer in
-    let i = c.loop.invariant in
-    let a = rw c.in-Some-2.is at c.in_ok-item.ensures.reads in
-    let h = pass_reads s t u r c.loop.reader p w c.in-Some-2.item 1 _ i.passes
-    c.next-in-loop.ensures.goes a c.in_ok-item.ensures.costs in
-    h.pair.writer
+pub pass_one-requires-clause-room : goal.pass_one-requires-clause-room
+pass_one-requires-clause-room g c =
+    let i = c.loop.invariant.passes in
+    let l = i.pairs.took.left_is in
+    let h = i.held in
+    pairs_grow c.requires.begins.begins i.pairs (omega arith)
 
-pub append-requires-clause-room : goal.append-requires-clause-room
-append-requires-clause-room g c =
-    let s = seen g.D.Device.state c.args.rig.now in
-    let t = seen g.D.Device.state c.loop.rig in
-    let u = seen g.D.Device.state c.next-in-loop.new.rig in
-    let r = c.args.reader.now in
-    let p = c.next-in-loop.new.self in
-    let w = c.loop.writer in
-    let i = c.loop.invariant in
-    let a = rw c.in-Some-2.is at c.in_ok-item.ensures.reads in
-    let h = pass_reads s t u r c.loop.reader p w c.in-Some-2.item 1 _ i.passes
-    c.next-in-loop.ensures.goes a c.in_ok-item.ensures.costs in
-    can_grow s u r p w 1 h c.requires.begins.begins.pair.reader.chain.count_most
+pub returns-in_err-least-2-clause-goes : goal.returns-in_err-least-2-clause-goes
+returns-in_err-least-2-clause-goes g c = (pass_stops c.requires.sound c.requires.begins.begins
+    c.loop.invariant.passes c.in_err-least-2.ensures.done).goes
 
-pub returns-in_err-append-clause-goes : goal.returns-in_err-append-clause-goes
-returns-in_err-append-clause-goes g c =
-    let s = seen g.D.Device.state c.args.rig.now in
-    let t = seen g.D.Device.state c.loop.rig in
-    let u = seen g.D.Device.state c.next-in-loop.new.rig in
-    let r = c.args.reader.now in
-    let p = c.next-in-loop.new.self in
-    let w = c.loop.writer in
-    let i = c.loop.invariant in
-    let a = rw c.in-Some-2.is at c.in_ok-item.ensures.reads in
-    let h = pass_reads s t u r c.loop.reader p w c.in-Some-2.item 1 _ i.passes
-    c.next-in-loop.ensures.goes a c.in_ok-item.ensures.costs in
-    let v = seen g.D.Device.state c.append.new.rig in
-    pass_writes s u v r p w 2 h c.append.ensures.goes
+pub returns-in_err-least-2-clause-costs : goal.returns-in_err-least-2-clause-costs
+returns-in_err-least-2-clause-costs g c =
+    let k = (pass_stops c.requires.sound c.requires.begins.begins c.loop.invariant.passes
+    c.in_err-least-2.ensures.done).costs in
+    record { most = k.most; owes = k.owes }
 
-pub returns-in_err-append-clause-costs : goal.returns-in_err-append-clause-costs
-returns-in_err-append-clause-costs g c =
+pub returns-in_err-least-2-clause-full : goal.returns-in_err-least-2-clause-full
+returns-in_err-least-2-clause-full g c =
     let s = seen g.D.Device.state c.args.rig.now in
-    let t = seen g.D.Device.state c.loop.rig in
-    let u = seen g.D.Device.state c.next-in-loop.new.rig in
-    let r = c.args.reader.now in
-    let p = c.next-in-loop.new.self in
-    let w = c.loop.writer in
-    let i = c.loop.invariant in
-    let a = rw c.in-Some-2.is at c.in_ok-item.ensures.reads in
-    let h = pass_reads s t u r c.loop.reader p w c.in-Some-2.item 1 _ i.passes
-    c.next-in-loop.ensures.goes a c.in_ok-item.ensures.costs in
-    let short = skip_read s t u r c.loop.reader p w c.in-Some-2.item 1 i.passes a in
-    let v = seen g.D.Device.state c.append.new.rig in
-    stop_costs s u v r p w c.append.new.self 2 _ h short c.append.ensures.goes.touches
-    c.in_err-append.ensures.costs
+    err_of _ c.in_err-least-2.field-0.0 (λ x. OnFull x (s.used ≡ s.blocks))
+    c.from_residual-in_err-least-2.ensures.1
+    (pass_stops c.requires.sound c.requires.begins.begins c.loop.invariant.passes
+    c.in_err-least-2.ensures.done).full
 
-pub returns-in_err-append-clause-full : goal.returns-in_err-append-clause-full
-returns-in_err-append-clause-full g c =
-    let s = seen g.D.Device.state c.args.rig.now in
-    let t = seen g.D.Device.state c.loop.rig in
-    let u = seen g.D.Device.state c.next-in-loop.new.rig in
-    let r = c.args.reader.now in
-    let p = c.next-in-loop.new.self in
-    let w = c.loop.writer in
-    let i = c.loop.invariant in
-    let a = rw c.in-Some-2.is at c.in_ok-item.ensures.reads in
-    let h = pass_reads s t u r c.loop.reader p w c.in-Some-2.item 1 _ i.passes
-    c.next-in-loop.ensures.goes a c.in_ok-item.ensures.costs in
-    let short = skip_read s t u r c.loop.reader p w c.in-Some-2.item 1 i.passes a in
-    let v = seen g.D.Device.state c.append.new.rig in
-    let e = c.in_err-append.ensures in
-    err_of _ c.in_err-append.field-0.0 (λ x. OnFull x (s.used ≡ s.blocks))
-    c.from_residual-in_err-append.ensures.1
-    (stop_full s u v r p w c.append.new.self 2 _ c.requires.sound h short
-    c.append.ensures.goes.touches e.costs e.cause)
-
-pub returns-in_err-append-clause-cause : goal.returns-in_err-append-clause-cause
-returns-in_err-append-clause-cause g c =
-    let s = seen g.D.Device.state c.args.rig.now in
-    let t = seen g.D.Device.state c.loop.rig in
-    let u = seen g.D.Device.state c.next-in-loop.new.rig in
-    let r = c.args.reader.now in
-    let p = c.next-in-loop.new.self in
-    let w = c.loop.writer in
-    let i = c.loop.invariant in
-    let a = rw c.in-Some-2.is at c.in_ok-item.ensures.reads in
-    let h = pass_reads s t u r c.loop.reader p w c.in-Some-2.item 1 _ i.passes
-    c.next-in-loop.ensures.goes a c.in_ok-item.ensures.costs in
-    let v = seen g.D.Device.state c.append.new.rig in
-    err_of _ c.in_err-append.field-0.0 (Cause s v) c.from_residual-in_err-append.ensures.1
-    (cause_after (chain_blocks s (rest_of r)) s u v _ h.touches c.in_err-append.ensures.cause)
+pub returns-in_err-least-2-clause-cause : goal.returns-in_err-least-2-clause-cause
+returns-in_err-least-2-clause-cause g c =
+    err_of _ c.in_err-least-2.field-0.0
+    (Cause (seen g.D.Device.state c.args.rig.now) (seen g.D.Device.state c.pass_one.new.rig))
+    c.from_residual-in_err-least-2.ensures.1
+    (pass_stops c.requires.sound c.requires.begins.begins c.loop.invariant.passes
+    c.in_err-least-2.ensures.done).cause
 
 pub loop-preserved : goal.loop-preserved
 loop-preserved g c =
-    let s = seen g.D.Device.state c.args.rig.now in
-    let t = seen g.D.Device.state c.loop.rig in
-    let u = seen g.D.Device.state c.next-in-loop.new.rig in
-    let r = c.args.reader.now in
-    let p = c.next-in-loop.new.self in
-    let w = c.loop.writer in
     let i = c.loop.invariant in
-    let a = rw c.in-Some-2.is at c.in_ok-item.ensures.reads in
-    let h = pass_reads s t u r c.loop.reader p w c.in-Some-2.item 1 _ i.passes
-    c.next-in-loop.ensures.goes a c.in_ok-item.ensures.costs in
-    let short = skip_read s t u r c.loop.reader p w c.in-Some-2.item 1 i.passes a in
-    let v = seen g.D.Device.state c.append.new.rig in
-    let k = c.append.new.self in
-    let x = c.in-Some-2.item in
-    let e = c.in_ok-append.ensures in
-    let b = rw c.max.ensures at e.appends in
-    let n = b.count_is in
+    let o = c.in_ok-least-2.ensures.done in
+    let n = o.2.wrote.count_is in
     let m = i.count in
     record {
-      passes = pass_appends s u v r p w k (ord_max record_cmp x c.loop.least) 1 _ h short
-          c.append.ensures.goes b e.costs;
-      holds = rw c.min-least.ensures (least_more s t u v r c.loop.reader p w k c.loop.least x 1
-          i.holds i.passes c.next-in-loop.ensures.goes a c.append.ensures.goes b);
+      passes = pass_more c.requires.sound.shape.block_low c.requires.begins.begins i.passes o;
       count = omega arith;
     }
 
 pub returns-clause-passed : goal.returns-clause-passed
 returns-clause-passed g c =
-    let s = seen g.D.Device.state c.args.rig.now in
-    let t = seen g.D.Device.state c.loop.rig in
-    let i = c.loop.invariant in
-    let n = i.count in
-    let m = i.passes.passing.left_is in
-    let whole = c.requires.begins.count_is in
-    passed_some s t c.args.reader.now c.loop.reader c.loop.writer c.loop.least i.passes i.holds
-    (omega arith)
+    let i = c.loop.invariant.passes in
+    let n = c.requires.begins in
+    let a = n.count_is in
+    let b = n.begins.count in
+    let l = i.pairs.took.left_is in
+    let k = i.pairs.wrote.count_is in
+    let h = i.held in
+    let m = c.loop.invariant.count in
+    let t = c.loop-test.false in
+    passed_some i (omega arith)

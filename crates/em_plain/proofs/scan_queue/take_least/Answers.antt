@@ -1,16 +1,14 @@
 use Rattle.std.proofs.lemmas.Result.{IfOk-weaker}
 use Rattle.em_space.specs.Seen.{seen}
 use Rattle.em_plain.specs.Least.{Passed, TakesLeast}
-use Rattle.em_plain.proofs.Frames.{writer_lent}
-use Rattle.em_plain.proofs.Taking.{Restarts, begins_anew, finish_goes, take_goes, takes_least}
+use Rattle.em_chain.proofs.Writings.{writer_lent}
+use Rattle.em_plain.proofs.Restarts.{Restarts, begins_anew, finish_goes, take_goes, takes_least}
 use Rattle.em_plain.proofs.scan_queue.take_least.Goals as goal
 
 pub finish-requires-clause-is : goal.finish-requires-clause-is
 finish-requires-clause-is g c =
-    let s = seen g.D.Device.state c.args.rig.now in
-    let a = seen g.D.Device.state c.new-fresh.new.rig in
     rw c.replace-whole.ensures.value
-    (writer_lent s a c.args.list.now c.requires.is.is c.new-fresh.ensures.lends).is
+    (writer_lent c.requires.is.is c.new-fresh.ensures.lends).is
 
 pub returns-in_err-chain-clause-goes : goal.returns-in_err-chain-clause-goes
 returns-in_err-chain-clause-goes g c =
@@ -102,6 +100,7 @@ returns-clause-takes g c =
       opens = c.taking-reader.ensures.opens;
     } in
     let p = c.pass_all_but_least-taken in
-    IfOk-weaker p.result (Passed d m r p.new.reader p.new.writer) (TakesLeast s n w p.new.writer)
+    IfOk-weaker p.result (Passed d m r p.new.reader f p.new.writer) (TakesLeast s n w p.new.writer)
     (λ item t. takes_least s a b d m n w f p.new.writer k r p.new.reader item h p.ensures.goes
-    c.abandon.ensures.gives c.abandon.ensures.unmoved t) p.ensures.passed
+    c.abandon.ensures.gives c.abandon.ensures.unmoved t)
+    (simp c.replace-whole.ensures.after at p.ensures.passed)

@@ -20,7 +20,7 @@ returns-in-Some-clause-value g c = λ told.
     let taken : t ≡ after_word s = rw c.in-Some.is at (c.in_ok-read_word.ensures.taken told) in
     Gives_map c.table_command.result _ _
     (command_of-read c.args.kind s _ t (c.requires.filled told) word taken)
-    (c.table_command.ensures.value told)
+    (c.table_command.ensures.reads.value told)
 
 pub returns-in-Some-clause-line : goal.returns-in-Some-clause-line
 returns-in-Some-clause-line g c = λ told.
@@ -29,4 +29,4 @@ returns-in-Some-clause-line g c = λ told.
     let taken : t ≡ after_word s = rw c.in-Some.is at (c.in_ok-read_word.ensures.taken told) in
     OnOk_map c.table_command.result _ _
     (λ h. h ∙ ap after_line taken ∙ after_line-after_word s)
-    (c.table_command.ensures.line told)
+    (c.table_command.ensures.reads.line told)

@@ -13,11 +13,11 @@ use Rattle.emtool.proofs.read.read_all.Given as goal
 
 abbrev pub invariant-loop-next : goal.invariant-loop-next
 invariant-loop-next g l =
+    let list = list_of l.service in
     let first = seen g.D.Device.state l.fn.rig in
     let now = seen g.D.Device.state l.rig in
     let text = rest l.fn.feed (g.H.Shelf.stand l.fn.shelf) in
     let left = rest l.feed (g.H.Shelf.stand l.shelf) in
-    let list = list_of l.service in
     record {
       goes : Goes [] first now;
       kind : kind_is l.service ≡ l.kind;

@@ -19,20 +19,18 @@ returns-in-Err-finish-clause-gives g c =
 
 pub returns-in-Err-finish-clause-stop : goal.returns-in-Err-finish-clause-stop
 returns-in-Err-finish-clause-stop g c =
-    cause_after [] (seen g.D.Device.state c.args.rig.now)
-    (seen g.D.Device.state c.read_all.new.rig) (seen g.D.Device.state c.finish.new.rig)
-    c.in-Err-finish.fault c.in-Ok.ensures.goes.touches c.in-Err-finish.ensures.cause
-
-pub returns-in-Err-finish-clause-full : goal.returns-in-Err-finish-clause-full
-returns-in-Err-finish-clause-full g c =
     let r = c.in-Ok.ensures in
     let f = c.in-Err-finish.ensures in
     let first = seen g.D.Device.state c.args.rig.now in
     let mid = seen g.D.Device.state c.read_all.new.rig in
     let last = seen g.D.Device.state c.finish.new.rig in
     let list = list_of c.read_all.new.service in
-    let low = c.requires.sound.shape.block_low in
+    let low = c.requires.unused.sound.shape.block_low in
     let some : 0 < payload_of first.pool.shape = omega arith in
-    filled_answers g.H.Shelf.tells c.args.kind _ _ first mid last list (list_commands mid list)
-    c.in-Err-finish.fault some r.goes r.lists f.gives (rw r.kept at f.most) f.owes f.cause
-    r.taken r.len r.commands
+    record {
+      cause = cause_after [] first mid last c.in-Err-finish.fault r.goes.touches f.cause;
+      full =
+          filled_answers g.H.Shelf.tells c.args.kind _ _ first mid last list
+          (list_commands mid list) c.in-Err-finish.fault some r.goes r.lists f.gives
+          (rw r.kept at f.most) f.owes f.cause r.taken r.len r.commands;
+    }

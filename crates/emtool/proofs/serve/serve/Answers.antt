@@ -3,6 +3,7 @@ use Rattle.em_io.specs.Feed.{rest}
 use Rattle.em_io.proofs.Sent.{part-more, part-rest, sent-nothing}
 use Rattle.em_model.specs.Queue.{no_items, queue_answer_of, queue_answers_from, queue_step}
 use Rattle.em_space.specs.Seen.{seen}
+use Rattle.em_space.proofs.Numbered.{numbered_none}
 use Rattle.em_space.proofs.Queues.{shares_none, shares_then, still_serves}
 use Rattle.em_space.proofs.Steps.{goes_nothing}
 use Rattle.em_space.proofs.Within.{touches_within, within_same, within_then}
@@ -14,8 +15,8 @@ use Rattle.emtool.specs.Lines.{lines_of}
 use Rattle.emtool.specs.declared.text.FileKind.TheVariants.{Queue}
 use Rattle.emtool.proofs.Printing.{sent_line}
 use Rattle.emtool.proofs.QueueModel.{follows_first}
-use Rattle.emtool.proofs.ReadLaws.{counted_left, counted_more, counted_none}
-use Rattle.emtool.proofs.Serving.{alone_next, next_answer, numbered_none, stopped}
+use Rattle.emtool.proofs.ReadLaws.{counted_left, counted_more, counted_none, counted_read}
+use Rattle.emtool.proofs.Serving.{alone_next, next_answer, stopped}
 use Rattle.emtool.proofs.Steps.{reads_then}
 use Rattle.emtool.proofs.serve.serve.Goals as goal
 
@@ -26,7 +27,7 @@ loop-next-init g c =
     let items = g.Q.Queue.items c.args.queue.now s in
     let laws = g.met.Q.Queue in
     let none : IsTrue s.device.told → 0 ≡ length items =
-    λ d. sym r.empty ∙ laws.len_is c.args.queue.now s r.queue d in
+    λ d. sym r.fresh.len ∙ laws.len_is c.args.queue.now s r.queue d in
     record {
       sound = r.sound;
       touches = touches_none _ s s (goes_nothing s r.sound).touches;
@@ -35,9 +36,10 @@ loop-next-init g c =
       free = r.free;
       within = within_same s _;
       alone = r.alone;
-      number = omega (arith, r.fresh);
-      few = omega (arith, r.fresh);
-      limit = omega (arith, r.empty);
+      spent = refl;
+      number = omega (arith, r.fresh.n);
+      few = omega (arith, r.fresh.n);
+      limit = omega (arith, r.fresh.len);
       pushes = omega arith;
       numbers = λ d. numbered_none 0 items (none d);
       place = omega (arith, r.place);
@@ -51,10 +53,10 @@ loop-next-init g c =
       };
       read_later = omega arith;
       write_later = omega arith;
-      fault = λ t. rw r.fresh refl;
+      fault = λ t. rw r.fresh.n refl;
       counted = λ t.
-          rw r.fresh (counted_none Queue (rest c.args.feed.now (g.H.Shelf.stand c.args.shelf.now)));
-      serving = λ t d. rw r.fresh (record {
+          rw r.fresh.n (counted_none Queue (rest c.args.feed.now (g.H.Shelf.stand c.args.shelf.now)));
+      serving = λ t d. rw r.fresh.n (record {
         model = no_items;
         follows = follows_first items (sym (none d));
         sent = sent-nothing g.met.W.Sink.rule (g.met.W.Sink.is_state c.args.out.now) _ refl;
@@ -63,29 +65,22 @@ loop-next-init g c =
 
 pub returns-in-Err-Read-clause-calls : goal.returns-in-Err-Read-clause-calls
 returns-in-Err-Read-clause-calls g c = λ told.
-    let inv = c.loop-next.invariant in
-    let l = c.in-Err-Read.ensures.reads.reads in
-    counted_left Queue _ _ c.take_line.new.feed (g.H.Shelf.stand c.take_line.new.shelf)
-    c.args.feed.now.slot _ (inv.counted told) (l.slot ∙ inv.reads.slot) (l.shorter told)
+    counted_read Queue c.loop-next.invariant.reads c.in-Err-Read.ensures.reads.reads told
+    (c.loop-next.invariant.counted told)
 
 pub returns-in-Err-Fault-clause-calls : goal.returns-in-Err-Fault-clause-calls
 returns-in-Err-Fault-clause-calls g c = λ told.
-    let inv = c.loop-next.invariant in
-    let l = c.in-Err-Fault.ensures.reads.reads in
-    counted_left Queue _ _ c.take_line.new.feed (g.H.Shelf.stand c.take_line.new.shelf)
-    c.args.feed.now.slot _ (inv.counted told) (l.slot ∙ inv.reads.slot) (l.shorter told)
+    counted_read Queue c.loop-next.invariant.reads c.in-Err-Fault.ensures.reads.reads told
+    (c.loop-next.invariant.counted told)
 
 pub returns-in_err-pushes-clause-answers : goal.returns-in_err-pushes-clause-answers
 returns-in_err-pushes-clause-answers g c = λ told dev.
     let inv = c.loop-next.invariant in
-    let l = c.in-Ok.ensures in
     let v = c.in_err-pushes.ensures in
     let count = (g.Q.Queue.counts c.loop-next.queue).n in
-    let before = rest c.loop-next.feed (g.H.Shelf.stand c.loop-next.shelf) in
     let after = rest c.take_line.new.feed (g.H.Shelf.stand c.take_line.new.shelf) in
     let command = c.in-Some.command in
-    let line : LineTaken Queue (count + 1) before after command =
-    rw inv.number at (rw c.in-Some.is at (l.taken told)) in
+    let line = rw inv.number at (rw c.in-Some.is at (c.in-Ok.ensures.taken told)) in
     let p = inv.serving told dev in
     let later = (parsed_from Queue (count + 1 + 1) (lines_of after)).good in
     let step = next_answer p.model command _ later (ap (λ r. r.good) line.from) in
@@ -96,16 +91,27 @@ returns-in_err-pushes-clause-answers g c = λ told dev.
     (rw step (part-more (queue_text (queue_answers_from (queue_step p.model command) later))
     (v.prints (inv.touches.told ∙ dev) p.model p.follows).part)))
 
+pub returns-in_err-pushes-clause-calls_only : goal.returns-in_err-pushes-clause-calls_only
+returns-in_err-pushes-clause-calls_only g c =
+    let inv = c.loop-next.invariant in
+    let v = c.in_err-pushes.ensures in
+    let e = v.serves.spent in
+    record {
+      sound = v.serves.sound;
+      touches = touches_within (seen g.D.Device.state c.args.rig.now)
+          (seen g.D.Device.state c.loop-next.rig) (seen g.D.Device.state c.serve_one.new.rig) _ _
+          inv.touches inv.within v.serves.touches;
+      shares = shares_then _ _ _ _ _ _ inv.shares v.serves.frames;
+      spent = omega (arith, e, inv.spent);
+    }
+
 pub returns-in_err-pushes-clause-calls : goal.returns-in_err-pushes-clause-calls
 returns-in_err-pushes-clause-calls g c = λ told.
     let inv = c.loop-next.invariant in
     let l = c.in-Ok.ensures in
     let v = c.in_err-pushes.ensures in
     let count = (g.Q.Queue.counts c.loop-next.queue).n in
-    let before = rest c.loop-next.feed (g.H.Shelf.stand c.loop-next.shelf) in
-    let after = rest c.take_line.new.feed (g.H.Shelf.stand c.take_line.new.shelf) in
-    let line : LineTaken Queue (count + 1) before after c.in-Some.command =
-    rw inv.number at (rw c.in-Some.is at (l.taken told)) in
+    let line = rw inv.number at (rw c.in-Some.is at (l.taken told)) in
     let more = counted_more Queue _ _ _ count c.in-Some.command (inv.counted told) line in
     let n = counted_left Queue _ _ c.take_line.new.feed (g.H.Shelf.stand c.take_line.new.shelf)
     c.args.feed.now.slot _ more (l.reads.reads.slot ∙ inv.reads.slot) (omega arith) in
@@ -134,6 +140,7 @@ loop-next-preserved g c =
       free = still_serves _ _ _ _ inv.free v.serves.frames v.served.frames v.served.areas;
       within = within_then first mid _ _ _ inv.touches inv.within v.within;
       alone = alone_next _ mid last _ _ inv.alone v.serves v.served;
+      spent = let e = v.serves.spent in omega (arith, e, inv.spent);
       number = omega (arith, inv.number, n);
       few = let m = rw c.in-Some.is at l.number in omega (arith, m, n, inv.number);
       limit = v.limit;

@@ -1,6 +1,7 @@
 use Rattle.std.proofs.Common.{◌≡◌, ◌+◌, ◌-◌, ◌*◌, ◌≤◌, ◌^◌, IsTrue}
 use Rattle.em_io.specs.Feed.{rest}
 use Rattle.em_space.specs.Held.{Within}
+use Rattle.em_space.specs.Numbered.{NumberedTo}
 use Rattle.em_space.specs.Queue.{CanServe, Shares}
 use Rattle.em_space.specs.Rig.{Sound, Touches}
 use Rattle.em_space.specs.Seen.{seen}
@@ -8,7 +9,7 @@ use Rattle.emtool.specs.Answer.{text_for}
 use Rattle.emtool.specs.CommandLine.{first_fault, good_commands, parsed_from}
 use Rattle.emtool.specs.Lines.{lines_of}
 use Rattle.emtool.specs.Reads.{Reads}
-use Rattle.emtool.specs.Serve.{IsAlone, NumberedTo}
+use Rattle.emtool.specs.Serve.{IsAlone}
 use Rattle.emtool.specs.declared.text.FileKind.TheVariants.{Queue}
 use Rattle.emtool.proofs.ReadLaws.{Counted}
 use Rattle.emtool.proofs.Serving.{Serving}
@@ -30,6 +31,7 @@ invariant-loop-next g l =
       free : CanServe now.pool;
       within : Within first held (g.Q.Queue.blocks l.queue now);
       alone : IsAlone now c;
+      spent : now.moves + (g.Q.Queue.counts l.fn.queue).spent ≡ first.moves + c.spent;
       number : l.number ≡ c.n + 1;
       few : c.n ≤ 2 ^ 40;
       limit : c.len ≤ c.n;

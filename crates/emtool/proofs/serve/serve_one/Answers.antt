@@ -1,8 +1,9 @@
 use Rattle.std.proofs.Common.{refl}
 use Rattle.em_io.proofs.Sent.{part-of, sent-nothing}
 use Rattle.em_space.specs.Seen.{seen}
+use Rattle.em_space.proofs.Numbered.{lacks_next, numbered_push}
 use Rattle.emtool.proofs.Printing.{prints_all, prints_part}
-use Rattle.emtool.proofs.QueueModel.{follows_pop, follows_push, lacks_next, numbered_push, pop_text}
+use Rattle.emtool.proofs.QueueModel.{counted_pop, follows_push, pop_text}
 use Rattle.emtool.proofs.serve.serve_one.Goals as goal
 
 pub push-requires-clause-lacks : goal.push-requires-clause-lacks
@@ -18,15 +19,11 @@ returns-in_err-item-in-Pop-clause-prints g c = λ told q f.
 
 pub returns-in_err-print_popped-in-Pop-clause-prints : goal.returns-in_err-print_popped-in-Pop-clause-prints
 returns-in_err-print_popped-in-Pop-clause-prints g c = λ told q f.
-    let s = seen g.D.Device.state c.args.rig.now in
     let pop = c.in_ok-item-in-Pop.ensures in
-    let none = rw (g.met.Q.Queue.len_is c.args.queue.now s c.requires.queue told) at pop.none in
-    let rest = g.Q.Queue.items c.pop.new.self (seen g.D.Device.state c.pop.new.rig) in
-    let popped = follows_pop (g.Q.Queue.items c.args.queue.now s) rest c.args.pushes q
-    c.in_ok-item-in-Pop.item f (pop.items told) none in
-    let text = pop_text rest c.args.pushes q c.in_ok-item-in-Pop.item popped in
+    let popped = counted_pop f (pop.items told) pop.none
+    (g.met.Q.Queue.len_is c.args.queue.now _ c.requires.queue told) in
     prints_part _ c.from_residual-in_err-print_popped-in-Pop.ensures.0
-    (rw (c.in-Pop.is, text) c.in_err-print_popped-in-Pop.ensures.part)
+    (rw (c.in-Pop.is, pop_text _ _ q _ popped) c.in_err-print_popped-in-Pop.ensures.part)
 
 pub returns-in_ok-push-in-Push-clause-numbers : goal.returns-in_ok-push-in-Push-clause-numbers
 returns-in_ok-push-in-Push-clause-numbers g c = λ told.
@@ -43,21 +40,14 @@ returns-in_ok-push-in-Push-clause-follows g c = λ told q f.
 
 pub returns-in_ok-print_popped-in-Pop-clause-follows : goal.returns-in_ok-print_popped-in-Pop-clause-follows
 returns-in_ok-print_popped-in-Pop-clause-follows g c = λ told q f.
-    let s = seen g.D.Device.state c.args.rig.now in
     let pop = c.in_ok-item-in-Pop.ensures in
-    let none = rw (g.met.Q.Queue.len_is c.args.queue.now s c.requires.queue told) at pop.none in
-    let rest = g.Q.Queue.items c.pop.new.self (seen g.D.Device.state c.pop.new.rig) in
-    let popped = follows_pop (g.Q.Queue.items c.args.queue.now s) rest c.args.pushes q
-    c.in_ok-item-in-Pop.item f (pop.items told) none in
+    let popped = counted_pop f (pop.items told) pop.none
+    (g.met.Q.Queue.len_is c.args.queue.now _ c.requires.queue told) in
     rw (c.in-Pop.is) popped.follows
 
 pub returns-in_ok-print_popped-in-Pop-clause-prints : goal.returns-in_ok-print_popped-in-Pop-clause-prints
 returns-in_ok-print_popped-in-Pop-clause-prints g c = λ told q f.
-    let s = seen g.D.Device.state c.args.rig.now in
     let pop = c.in_ok-item-in-Pop.ensures in
-    let none = rw (g.met.Q.Queue.len_is c.args.queue.now s c.requires.queue told) at pop.none in
-    let rest = g.Q.Queue.items c.pop.new.self (seen g.D.Device.state c.pop.new.rig) in
-    let popped = follows_pop (g.Q.Queue.items c.args.queue.now s) rest c.args.pushes q
-    c.in_ok-item-in-Pop.item f (pop.items told) none in
-    let text = pop_text rest c.args.pushes q c.in_ok-item-in-Pop.item popped in
-    rw (c.in-Pop.is, text) (prints_all _ c.in_ok-print_popped-in-Pop.ensures.all)
+    let popped = counted_pop f (pop.items told) pop.none
+    (g.met.Q.Queue.len_is c.args.queue.now _ c.requires.queue told) in
+    rw (c.in-Pop.is, pop_text _ _ q _ popped) (prints_all _ c.in_ok-print_popped-in-Pop.ensures.all)

@@ -1,38 +1,31 @@
-use Rattle.std.proofs.Common.{◌∙◌, ap}
-use Rattle.std.specs.Result.{result_err}
-use Rattle.emtool.specs.Job.{job_of, texts_of}
-use Rattle.emtool.proofs.TopLaws.{for_job, for_both, ended_full, ended_due}
+use Rattle.std.proofs.Common.{rules, sym, ◌∙◌}
+use Rattle.emtool.proofs.RefusalLaws.{text_at}
+use Rattle.emtool.proofs.TopLaws.{full_end, complete_end}
 use Rattle.emtool.proofs.top.emtool.Goals as goal
-
-pub returns-clause-answers : goal.returns-clause-answers
-returns-clause-answers g c =
-    for_job (job_of (texts_of c.args.words.now)) c.run_words-outcome.ensures.ended
-    (λ job e. e.answers)
-
-pub returns-clause-all_read : goal.returns-clause-all_read
-returns-clause-all_read g c =
-    for_job (job_of (texts_of c.args.words.now)) c.run_words-outcome.ensures.ended
-    (λ job e. e.all_read)
-
-pub returns-clause-prefix : goal.returns-clause-prefix
-returns-clause-prefix g c =
-    for_job (job_of (texts_of c.args.words.now)) c.run_words-outcome.ensures.ended
-    (λ job e. e.prefix)
+use Rattle.emtool.proofs.top.emtool.Goals.{in-Ok, in-Err}
 
 pub returns-clause-full : goal.returns-clause-full
-returns-clause-full g c =
-    let w = c.run_words-outcome.ensures in
-    for_both (job_of (texts_of c.args.words.now)) w.ended w.is
-    (λ job ok e is. ended_full _ _ _ _ job _ _ is c.run_words-outcome.result.status e w.none_moved)
-
-pub returns-clause-damaged : goal.returns-clause-damaged
-returns-clause-damaged g c =
-    for_job (job_of (texts_of c.args.words.now)) c.run_words-outcome.ensures.ended
-    (λ job e. e.damaged)
+returns-clause-full g c = elim c.match-read_job.branch [
+  | in-Ok w ↦
+      let e = w.run_job-outcome.ensures in
+      let is = w.in-Ok.ensures.is in
+      let name = text_at c.args.words.now w.in-Ok.job.file w.index-words-job.result is.file
+      w.index-words-job.is ∙ sym w.as_str.ensures.value in
+      rw (w.device-is, w.shelf-is, w.out-is, w.outcome-is, ← w.in-Ok.ensures.job, name)
+      (full_end _ _ _ _ (g.H.Shelf.stand c.args.shelf.now) w.in-Ok.job w.as_str.result.now w.run_job-outcome.result.status is.shape
+      e.runs.ended e.none_moved)
+  | in-Err w ↦ search rules
+]
 
 pub returns-clause-complete : goal.returns-clause-complete
-returns-clause-complete g c =
-    let w = c.run_words-outcome.ensures in
-    for_both (job_of (texts_of c.args.words.now)) w.ended w.is
-    (λ job ok e is. ended_due _ _ _ _ job _ _ is c.run_words-outcome.result.status
-    (w.words ∙ ap result_err ok) e w.caused)
+returns-clause-complete g c = elim c.match-read_job.branch [
+  | in-Ok w ↦
+      let e = w.run_job-outcome.ensures in
+      let is = w.in-Ok.ensures.is in
+      let name = text_at c.args.words.now w.in-Ok.job.file w.index-words-job.result is.file
+      w.index-words-job.is ∙ sym w.as_str.ensures.value in
+      rw (w.device-is, w.shelf-is, w.out-is, w.outcome-is, ← w.in-Ok.ensures.job, name)
+      (complete_end _ _ _ _ (g.H.Shelf.stand c.args.shelf.now) w.in-Ok.job w.as_str.result.now w.run_job-outcome.result.status
+      is.shape e.runs.no_usage e.runs.ended e.runs.caused)
+  | in-Err w ↦ search rules
+]

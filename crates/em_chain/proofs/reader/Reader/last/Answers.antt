@@ -4,8 +4,8 @@ use Rattle.em_record.specs.declared.record.Record.{Record}
 use Rattle.em_space.specs.Free.{header}
 use Rattle.em_space.specs.Seen.{seen}
 use Rattle.em_space.proofs.Held.{in_use_below}
+use Rattle.em_space.proofs.Steps.{untold_by}
 use Rattle.em_chain.specs.Reader.{LeadsOn}
-use Rattle.em_chain.proofs.Keeps.{untold_by}
 use Rattle.em_chain.proofs.Readers.{last_is, leads_is}
 use Rattle.em_chain.proofs.reader.Reader.last.Goals as goal
 
@@ -17,7 +17,7 @@ returns-then-not-leads_on-clause-cause g c =
     let h = ap (λ (xs : List Record). (header xs).a) c.records.ensures in (
       untold_by _ (λ y.
           let d = leads_is s r i.is i.loaded y c.requires.last.last in
-          let d2 : LeadsOn _ r.blocks r.count = rw (← h) at d in
+          let d2 : LeadsOn _ r.blocks r.count r.taking = rw (← h) at d in
           false≢true (c.if-not-leads_on.ensures.complete i.loaded.blocks d2)),
       in_use_below s (r.head - 1) c.requires.sound i.loaded.in_use,
     )
@@ -28,6 +28,7 @@ returns-clause-reads g c =
     let t = seen g.D.Device.state c.let_go.new.rig in
     let i = c.requires.last.ready in
     let h = ap (λ (xs : List Record). (header xs).a) c.records.ensures in
-    last_is s t c.args.self.now _ c.tail_after-self.result i.is i.loaded c.requires.last.last h
-    c.tail_after-self.ensures.none c.tail_after-self.ensures.some c.let_go.ensures.goes.touches
-    (search rules) (c.if-not-leads_on.ensures.none_left refl)
+    last_is s t c.args.self.now _ _ i.is i.loaded c.requires.last.last (rw (← h) (record {
+      some = λ y. (c.if_left-self.ensures.some y, c.if_left-self-2.ensures.some y);
+      none = λ y. (c.if_left-self.ensures.none y, c.if_left-self-2.ensures.none y);
+    })) c.let_go.ensures.goes.touches (search rules) (c.if-not-leads_on.ensures.none_left refl)

@@ -5,29 +5,21 @@ use Rattle.em_space.specs.Seen.{seen}
 use Rattle.em_space.proofs.Steps.{touches_then}
 use Rattle.em_space.proofs.Held.{in_use_kept}
 use Rattle.em_chain.proofs.Keeps.{stored_at}
-use Rattle.em_chain.proofs.Writers.{touches_last, last_used, pos_of}
+use Rattle.em_chain.proofs.Writers.{gives_last, last_used, pos_of}
 use Rattle.em_chain.proofs.Laws.{finish_is}
 use Rattle.em_chain.proofs.writer.Writer.finish.Goals as goal
 
 pub returns-in-Ok-clause-gives : goal.returns-in-Ok-clause-gives
-returns-in-Ok-clause-gives g c =
-    let some = c.requires.is.last.some (pos_of c.args.self.blocks c.if-blocks-eq0.false) in
-    record {
-      sound = c.give-2.ensures.sound;
-      touches = touches_last _ _ c.args.self some
-          (touches_then _ _ _ _ c.store-stored.ensures.goes.touches c.give-2.ensures.touches);
-      frames = search rules;
-    }
+returns-in-Ok-clause-gives g c = gives_last c.args.self
+    (c.requires.is.last.some (pos_of c.args.self.blocks c.if-blocks-eq0.false))
+    c.store-stored.ensures.goes.touches c.give-2.ensures.touches c.give-2.ensures.sound
+    (search rules)
 
 pub returns-in-Err-clause-gives : goal.returns-in-Err-clause-gives
-returns-in-Err-clause-gives g c =
-    let some = c.requires.is.last.some (pos_of c.args.self.blocks c.if-blocks-eq0.false) in
-    record {
-      sound = c.give-2.ensures.sound;
-      touches = touches_last _ _ c.args.self some
-          (touches_then _ _ _ _ c.store-stored.ensures.goes.touches c.give-2.ensures.touches);
-      frames = search rules;
-    }
+returns-in-Err-clause-gives g c = gives_last c.args.self
+    (c.requires.is.last.some (pos_of c.args.self.blocks c.if-blocks-eq0.false))
+    c.store-stored.ensures.goes.touches c.give-2.ensures.touches c.give-2.ensures.sound
+    (search rules)
 
 pub returns-in-Ok-clause-finishes : goal.returns-in-Ok-clause-finishes
 returns-in-Ok-clause-finishes g c =

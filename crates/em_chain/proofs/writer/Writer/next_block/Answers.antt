@@ -2,30 +2,16 @@ use Rattle.std.proofs.Common.{◌-◌, ◌∷◌, [], rules, arith, ◌∙◌}
 use Rattle.em_space.specs.Seen.{seen}
 use Rattle.em_space.proofs.Steps.{touches_after}
 use Rattle.em_chain.proofs.Keeps.{stored_at}
-use Rattle.em_chain.proofs.Writers.{next_is, touches_last, new_in_use, last_in_use}
+use Rattle.em_chain.proofs.Writers.{goes_last, next_is, new_in_use, last_in_use}
 use Rattle.em_chain.proofs.writer.Writer.next_block.Goals as goal
 
 pub returns-in_err-store-clause-goes : goal.returns-in_err-store-clause-goes
-returns-in_err-store-clause-goes g c =
-    let a = c.alloc.ensures.goes in
-    let b = c.store.ensures.goes in
-    let some = c.requires.is.last.some c.requires.some in
-    record {
-      sound = b.sound;
-      touches = touches_last _ _ c.args.self.now some (touches_after _ _ _ _ a.touches b.touches);
-      frames = search rules;
-    }
+returns-in_err-store-clause-goes g c = goes_last c.args.self.now (c.requires.is.last.some c.requires.some)
+    c.alloc.ensures.goes c.store.ensures.goes
 
 pub returns-clause-goes : goal.returns-clause-goes
-returns-clause-goes g c =
-    let a = c.alloc.ensures.goes in
-    let b = c.store.ensures.goes in
-    let some = c.requires.is.last.some c.requires.some in
-    record {
-      sound = b.sound;
-      touches = touches_last _ _ c.args.self.now some (touches_after _ _ _ _ a.touches b.touches);
-      frames = search rules;
-    }
+returns-clause-goes g c = goes_last c.args.self.now (c.requires.is.last.some c.requires.some)
+    c.alloc.ensures.goes c.store.ensures.goes
 
 pub returns-clause-appends : goal.returns-clause-appends
 returns-clause-appends g c =

@@ -13,10 +13,10 @@ open-tells g c = record {
 
 pub read-tells : goal.read-tells
 read-tells g c = record {
-  leaves = c.ensures.leaves;
-  opened = c.ensures.opened;
-  ready = c.ensures.ready;
-  within = c.ensures.within;
+  leaves = c.ensures.stays.leaves;
+  opened = c.ensures.stays.opened;
+  ready = c.ensures.stays.ready;
+  within = c.ensures.stays.within;
   bytes = λ t. cc;
   end = λ t. cc;
   failed = λ t. cc;

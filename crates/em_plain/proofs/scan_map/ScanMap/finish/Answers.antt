@@ -1,107 +1,34 @@
-use Rattle.em_space.specs.Seen.{seen}
-use Rattle.em_chain.proofs.Beside.{chain_kept}
-use Rattle.em_plain.specs.ScanMap.{blocks_of}
-use Rattle.em_plain.proofs.MapFinish.{Answered, answered_by, answered_gives, answered_most, gives_then}
+use Rattle.std.proofs.Common.{arith}
+use Rattle.em_plain.specs.CommandList.{list_len}
+use Rattle.em_plain.proofs.Answered.{list_completes, list_full, list_most, records_most, records_room}
 use Rattle.em_plain.proofs.scan_map.ScanMap.finish.Goals as goal
-
-pub returns-in_err-answers-clause-gives : goal.returns-in_err-answers-clause-gives
-returns-in_err-answers-clause-gives g c =
-    gives_then (blocks_of (seen g.D.Device.state c.args.rig.now) c.args.self) _ _ _
-    c.finish.ensures.gives c.write_answers.ensures.goes
-
-pub discard-requires-clause-is : goal.discard-requires-clause-is
-discard-requires-clause-is g c =
-    let k = chain_kept (seen g.D.Device.state c.finish.new.rig)
-    (seen g.D.Device.state c.write_answers.new.rig) c.in_ok-commands.commands
-    c.write_answers.ensures.goes c.in_ok-commands.ensures.finishes.is in
-    k.is
-
-pub returns-in_err-discard-clause-gives : goal.returns-in_err-discard-clause-gives
-returns-in_err-discard-clause-gives g c =
-    let s = seen g.D.Device.state c.args.rig.now in
-    let t = seen g.D.Device.state c.finish.new.rig in
-    let u = seen g.D.Device.state c.write_answers.new.rig in
-    let answered : Answered s t u c.args.self.list c.in_ok-commands.commands
-    c.in_ok-answers.answers = record {
-      sound = c.requires.sound;
-      is = c.requires.is;
-      gives = c.finish.ensures.gives;
-      finishes = c.in_ok-commands.ensures.finishes;
-      costs = c.in_ok-commands.ensures.costs;
-      goes = c.write_answers.ensures.goes;
-      answers = c.in_ok-answers.ensures.answers;
-    } in
-    answered_gives s t u _ c.args.self.list c.in_ok-commands.commands c.in_ok-answers.answers
-    answered c.discard.ensures.goes
-
-pub returns-in_err-discard-clause-most : goal.returns-in_err-discard-clause-most
-returns-in_err-discard-clause-most g c =
-    let s = seen g.D.Device.state c.args.rig.now in
-    let t = seen g.D.Device.state c.finish.new.rig in
-    let u = seen g.D.Device.state c.write_answers.new.rig in
-    let answered : Answered s t u c.args.self.list c.in_ok-commands.commands
-    c.in_ok-answers.answers = record {
-      sound = c.requires.sound;
-      is = c.requires.is;
-      gives = c.finish.ensures.gives;
-      finishes = c.in_ok-commands.ensures.finishes;
-      costs = c.in_ok-commands.ensures.costs;
-      goes = c.write_answers.ensures.goes;
-      answers = c.in_ok-answers.ensures.answers;
-    } in
-    answered_most s t u _ c.args.self.list c.in_ok-commands.commands c.in_ok-answers.answers
-    answered c.discard.ensures.frees.most
-
-pub returns-clause-gives : goal.returns-clause-gives
-returns-clause-gives g c =
-    let s = seen g.D.Device.state c.args.rig.now in
-    let t = seen g.D.Device.state c.finish.new.rig in
-    let u = seen g.D.Device.state c.write_answers.new.rig in
-    let answered : Answered s t u c.args.self.list c.in_ok-commands.commands
-    c.in_ok-answers.answers = record {
-      sound = c.requires.sound;
-      is = c.requires.is;
-      gives = c.finish.ensures.gives;
-      finishes = c.in_ok-commands.ensures.finishes;
-      costs = c.in_ok-commands.ensures.costs;
-      goes = c.write_answers.ensures.goes;
-      answers = c.in_ok-answers.ensures.answers;
-    } in
-    answered_gives s t u _ c.args.self.list c.in_ok-commands.commands c.in_ok-answers.answers
-    answered c.discard.ensures.goes
-
-pub returns-clause-answers : goal.returns-clause-answers
-returns-clause-answers g c =
-    let s = seen g.D.Device.state c.args.rig.now in
-    let t = seen g.D.Device.state c.finish.new.rig in
-    let u = seen g.D.Device.state c.write_answers.new.rig in
-    let answered : Answered s t u c.args.self.list c.in_ok-commands.commands
-    c.in_ok-answers.answers = record {
-      sound = c.requires.sound;
-      is = c.requires.is;
-      gives = c.finish.ensures.gives;
-      finishes = c.in_ok-commands.ensures.finishes;
-      costs = c.in_ok-commands.ensures.costs;
-      goes = c.write_answers.ensures.goes;
-      answers = c.in_ok-answers.ensures.answers;
-    } in
-    answered_by s t u _ c.args.self.list c.in_ok-commands.commands c.in_ok-answers.answers
-    c.in_ok-discard.field-0 answered c.discard.ensures.goes c.in_ok-discard.ensures.frees
 
 pub returns-clause-most : goal.returns-clause-most
 returns-clause-most g c =
-    let s = seen g.D.Device.state c.args.rig.now in
-    let t = seen g.D.Device.state c.finish.new.rig in
-    let u = seen g.D.Device.state c.write_answers.new.rig in
-    let answered : Answered s t u c.args.self.list c.in_ok-commands.commands
-    c.in_ok-answers.answers = record {
-      sound = c.requires.sound;
-      is = c.requires.is;
-      gives = c.finish.ensures.gives;
-      finishes = c.in_ok-commands.ensures.finishes;
-      costs = c.in_ok-commands.ensures.costs;
-      goes = c.write_answers.ensures.goes;
-      answers = c.in_ok-answers.ensures.answers;
-    } in
-    answered_most s t u _ c.args.self.list c.in_ok-commands.commands c.in_ok-answers.answers
-    answered c.discard.ensures.frees.most
+    let a = c.answer.ensures.done in
+    list_most (list_len c.args.self.list) a c.requires.sound c.requires.is (omega (arith, a.few))
+    (omega arith)
+
+pub returns-clause-full : goal.returns-clause-full
+returns-clause-full g c =
+    let a = c.answer.ensures.done in
+    list_full _ c.answer.result a
+    (records_room a.records (list_len c.args.self.list) c.requires.sound (omega (arith, a.few)))
+
+pub returns-clause-full_if_few : goal.returns-clause-full_if_few
+returns-clause-full_if_few g c = λ z.
+    let a = c.answer.ensures.done in
+    list_full _ c.answer.result a (records_most a.records _ c.requires.sound (a.told z))
+
+pub returns-clause-complete_if_enough : goal.returns-clause-complete_if_enough
+returns-clause-complete_if_enough g c = λ few.
+    let a = c.answer.ensures.done in
+    list_completes _ c.answer.result a
+    (λ z. records_most a.records _ c.requires.sound (a.told z)) few
+
+pub returns-clause-complete : goal.returns-clause-complete
+returns-clause-complete g c = λ few.
+    let a = c.answer.ensures.done in
+    list_completes _ c.answer.result a
+    (λ z. records_room a.records (list_len c.args.self.list) c.requires.sound (omega (arith, a.few)))
+    few

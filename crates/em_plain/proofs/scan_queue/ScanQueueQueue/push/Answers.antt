@@ -54,3 +54,6 @@ returns-clause-within g c =
     let appends = rw c.count_call.ensures at c.append-done.ensures.appends in
     pushed_within s t c.args.self.now.writer c.append-done.new.self c.args.item
     c.append-done.result appends
+
+pub returns-clause-full_exactly : goal.returns-clause-full_exactly
+returns-clause-full_exactly g c = rw c.count_call.ensures at c.append-done.ensures.full

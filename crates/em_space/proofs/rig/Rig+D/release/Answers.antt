@@ -1,7 +1,8 @@
 use Rattle.std.proofs.Common.{rules}
 use Rattle.em_space.specs.Seen.{seen}
 use Rattle.em_space.proofs.Held.{in_use_below}
-use Rattle.em_space.proofs.Rigs.{FreesBlock, goes_freed, releases_freed, none_new_freed, none_used, both_told}
+use Rattle.em_space.proofs.Rigs.{FreesBlock, goes_freed, releases_freed, none_new_freed, none_used}
+use Rattle.em_space.proofs.Steps.{both_told}
 use Rattle.em_space.proofs.rig.Rig+D.release.Goals as goal
 
 pub returns-then-self-eq0-clause-complete : goal.returns-then-self-eq0-clause-complete

@@ -11,7 +11,7 @@ returns-clause-goes g c =
     let stored = seen g.D.Device.state c.write_block-wrote.new.self in
     let goes : Goes (c.args.block ∷ []) (record a { pool = lent a.pool }) stored =
     rw (← c.lend-frame.ensures.pool) c.write_block-wrote.ensures.goes in
-    rw c.give.ensures.pool (goes_with_frame (c.args.block ∷ []) a stored c.requires.free goes)
+    rw c.give.ensures.pool (goes_with_frame (c.args.block ∷ []) a stored c.requires.sound c.requires.free goes)
 
 pub returns-clause-none_new : goal.returns-clause-none_new
 returns-clause-none_new g c = record {

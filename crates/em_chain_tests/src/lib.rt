@@ -1,0 +1,10 @@
+//! Tests of chains, by calls that any user may make; and lists that are written from records and
+//! compared with them, for the tests of the crates above.
+#![tactic(auto)]
+
+mod lists;
+
+pub use lists::{extend, scans, takes, write};
+
+#[cfg(test)]
+mod chains;

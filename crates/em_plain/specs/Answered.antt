@@ -1,0 +1,30 @@
+-- A list of commands is answered by a chain.
+use Rattle.std.specs.Prelude.{ℕ, ◌+◌, ◌<◌, ◌≤◌, length, IsTrue, Result, OnErr, IfOk, IfErr}
+use Rattle.em_space.specs.Queue.{Pays}
+use Rattle.em_space.specs.Rig.{RigState, Cause}
+use Rattle.em_space.specs.declared.fault.EmFault.{EmFault}
+use Rattle.em_chain.specs.Chain.{payload_in}
+use Rattle.em_chain.specs.Counts.{ceiling}
+use Rattle.em_chain.specs.Effects.{GivesFrame, OnFull}
+use Rattle.em_chain.specs.declared.chain.Chain.{Chain}
+use Rattle.em_plain.specs.Asks.{most_in, records_for}
+use Rattle.em_plain.specs.CommandList.{AnsweredBy, held, list_blocks, list_commands, list_len, unstored}
+use Rattle.em_plain.specs.Room.{StaysWithin}
+use Rattle.em_plain.specs.declared.answers.Asks.{Asks}
+use Rattle.em_plain.specs.declared.command_list.CommandList.{CommandList}
+
+-- A list was answered, or the call gave up. It wrote this number of records, or was to write that
+-- many: over a device that tells, no more than the answers. All its blocks are the list's, and those
+-- that these records need.
+pub record AnswersList (asks : Asks) (s t : RigState) (l : CommandList)
+    (result : Result Chain EmFault) : Type 0 where
+  pub gives : GivesFrame (list_blocks s l) s t
+  pub answers : IfOk result (AnsweredBy s t l (records_for asks (list_commands s l)))
+  pub records : ℕ
+  pub told : IsTrue s.device.told → records ≤ length (records_for asks (list_commands s l))
+  pub few : records ≤ most_in asks (list_len l)
+  pub most : StaysWithin (held l) (held l + ceiling records (payload_in s)) s t
+  pub owes : OnErr result (Pays (unstored l) s.pool.shape.frames s t)
+  pub full : IfErr result
+      (λ fault. OnFull fault (s.blocks < s.used + ceiling records (payload_in s)))
+  pub cause : IfErr result (Cause s t)

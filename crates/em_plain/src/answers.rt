@@ -1,0 +1,164 @@
+//! The answers to a list of commands. A reader goes through the list once, and a writer beside it
+//! writes the answers. For each command that asks, a second reader goes through the commands
+//! before it.
+ghost use Rattle.std.specs.Prelude.{◌≡◌, ◌+◌, ◌<◌, ◌^◌, take};
+ghost use Rattle.em_space.specs.Rig.{Sound};
+ghost use Rattle.em_space.specs.Seen.{seen};
+ghost use Rattle.em_chain.specs.Chain.{IsChain, chain_items};
+ghost use Rattle.em_chain.specs.Reader.{ReaderHasFrame};
+ghost use Rattle.em_chain.specs.Writer.{WriterHasFrame};
+ghost use Rattle.em_plain.specs.Adds.{AddsBeside, AddsTo, ReadsAt, ReadsBeside, StepsTo, WrittenTo};
+ghost use Rattle.em_plain.specs.Asks.{answer_for, answer_to, most_for, most_in, records_in, stab_next};
+ghost use Rattle.em_plain.specs.Ready.{ReadyBeside};
+ghost use Rattle.em_plain.specs.StabPairs.{next_stab};
+
+use crate::command_record::to_command;
+use crate::map_answers::answer_get;
+use crate::stab_answers::answer_stab;
+use em_chain::{Chain, Reader, Writer};
+use em_frames::Device;
+use em_model::Command;
+use em_space::{EmFault, Rig};
+
+/// What is answered: the gets of a map, or the stabs of an interval list.
+#[derive(Clone, Copy)]
+pub(crate) enum Asks {
+    Gets,
+    Stabs,
+}
+
+/// The number of the next stab after a command.
+fn stab_after(command: Command, stab: u64) -> u64
+    requires room { stab + 1 < 2 ^ 64 }
+    ensures { result ≡ next_stab stab command }
+{
+    match command {
+        Command::Stab { .. } => stab + 1,
+        _ => stab,
+    }
+}
+
+/// Writes the answer of a command that follows the first `number` ones of a chain. If it is a stab,
+/// it has the number `stab`.
+fn answer_one<D: Device>(
+    rig: &mut Rig<'_, D>,
+    chain: &Chain,
+    number: u64,
+    asks: Asks,
+    command: Command,
+    stab: u64,
+    writer: &mut Writer,
+) -> Result<(), EmFault>
+    requires ready { ReadyBeside number (seen D.state rig.old) chain.now writer.old }
+    ensures done { AddsTo (most_for asks chain.now.count)
+        (seen D.state rig.old) (seen D.state rig.new) writer.old writer.new
+        (answer_to asks number stab
+        (take number (chain_items (seen D.state rig.old) chain.now)) command) result }
+    ensures frame { WriterHasFrame (seen D.state rig.new) writer.new }
+{
+    match asks {
+        Asks::Gets => answer_get(rig, chain, number, command, writer),
+        Asks::Stabs => answer_stab(rig, chain, number, command, stab, writer),
+    }
+}
+
+/// Reads the command that follows the first `number` ones of a chain, and writes its answer. It
+/// gives the number of the next stab.
+fn answer_next<D: Device>(
+    rig: &mut Rig<'_, D>,
+    reader: &mut Reader,
+    chain: &Chain,
+    number: u64,
+    asks: Asks,
+    stab: u64,
+    writer: &mut Writer,
+) -> Result<u64, EmFault>
+    requires sound { Sound (seen D.state rig.old) }
+    requires beside { AddsBeside (seen D.state rig.old) chain.now writer.old }
+    requires reader { ReadsBeside (seen D.state rig.old) reader.old writer.old }
+    requires reads { ReadsAt (seen D.state rig.old) chain.now reader.old number }
+    requires free { 1 < (seen D.state rig.old).pool.free }
+    requires number { number < chain.now.count }
+    requires room { stab + 1 < 2 ^ 64 }
+    ensures done { StepsTo (most_for asks chain.now.count) stab stab_next
+        (answer_for asks number stab (chain_items (seen D.state rig.old) chain.now))
+        (seen D.state rig.old) (seen D.state rig.new)
+        reader.old reader.new writer.old writer.new result }
+    ensures reader_frame { ReaderHasFrame (seen D.state rig.new) reader.new }
+    ensures writer_frame { WriterHasFrame (seen D.state rig.new) writer.new }
+{
+    let Some(item) = reader.next(rig)? else {
+        unreachable!()
+    };
+    let command = to_command(item);
+    answer_one(rig, chain, number, asks, command, stab, writer)?;
+    Ok(stab_after(command, stab))
+}
+
+/// Writes the answers of all commands that a reader of a chain gives.
+fn answer_by<D: Device>(
+    rig: &mut Rig<'_, D>,
+    reader: &mut Reader,
+    chain: &Chain,
+    asks: Asks,
+    writer: &mut Writer,
+) -> Result<(), EmFault>
+    requires ready { ReadyBeside 0 (seen D.state rig.old) chain.now writer.old }
+    requires reader { ReadsBeside (seen D.state rig.old) reader.old writer.old }
+    requires reads { ReadsAt (seen D.state rig.old) chain.now reader.old 0 }
+    ensures done { AddsTo (most_in asks chain.now.count)
+        (seen D.state rig.old) (seen D.state rig.new) writer.old writer.new
+        (records_in asks (chain_items (seen D.state rig.old) chain.now)) result }
+    ensures reader_frame { ReaderHasFrame (seen D.state rig.new) reader.new }
+    ensures writer_frame { WriterHasFrame (seen D.state rig.new) writer.new }
+{
+    let mut stab = 0;
+    for number in 0..chain.len() {
+        stab = answer_next(rig, reader, chain, number, asks, stab, writer)?;
+    }
+    Ok(())
+}
+
+/// Writes the answers of all commands of a chain.
+fn answer_all<D: Device>(
+    rig: &mut Rig<'_, D>,
+    chain: &Chain,
+    asks: Asks,
+    writer: &mut Writer,
+) -> Result<(), EmFault>
+    requires sound { Sound (seen D.state rig.old) }
+    requires beside { AddsBeside (seen D.state rig.old) chain.now writer.old }
+    requires free { 2 < (seen D.state rig.old).pool.free }
+    ensures done { AddsTo (most_in asks chain.now.count)
+        (seen D.state rig.old) (seen D.state rig.new) writer.old writer.new
+        (records_in asks (chain_items (seen D.state rig.old) chain.now)) result }
+    ensures frame { WriterHasFrame (seen D.state rig.new) writer.new }
+{
+    let mut reader = Reader::over(rig, chain);
+    let done = answer_by(rig, &mut reader, chain, asks, writer);
+    reader.abandon(rig);
+    done
+}
+
+/// The answers of a chain of commands, as a chain.
+pub(crate) fn write_answers<D: Device>(
+    rig: &mut Rig<'_, D>,
+    chain: &Chain,
+    asks: Asks,
+) -> Result<Chain, EmFault>
+    requires sound { Sound (seen D.state rig.old) }
+    requires is { IsChain (seen D.state rig.old) chain.now }
+    requires free { 3 < (seen D.state rig.old).pool.free }
+    ensures done { WrittenTo (most_in asks chain.now.count)
+        (seen D.state rig.old) (seen D.state rig.new)
+        (records_in asks (chain_items (seen D.state rig.old) chain.now)) result }
+{
+    let mut writer = Writer::new(rig);
+    match answer_all(rig, chain, asks, &mut writer) {
+        Ok(()) => writer.finish(rig),
+        Err(fault) => {
+            writer.abandon(rig);
+            Err(fault)
+        }
+    }
+}

@@ -1,0 +1,23 @@
+use Rattle.std.proofs.Common.{◌≤◌, [], IsTrue}
+use Rattle.em_io.specs.Sink.{Sent}
+use Rattle.em_space.specs.Rig.{Goes}
+use Rattle.em_space.specs.Seen.{seen}
+use Rattle.em_chain.specs.Reader.{reader_items}
+use Rattle.emtool.specs.Answer.{map_text}
+use Rattle.emtool.specs.Print.{LooksAt, answers_in}
+use Rattle.emtool.proofs.print.print_map.Given as goal
+
+abbrev pub invariant-loop-item : goal.invariant-loop-item
+invariant-loop-item g l = record {
+  goes : Goes [] (seen g.D.Device.state l.fn.rig) (seen g.D.Device.state l.rig);
+  reader : LooksAt (seen g.D.Device.state l.rig) l.reader;
+  sent : IsTrue (seen g.D.Device.state l.fn.rig).device.told → Sent g.W.Sink.took
+      (g.W.Sink.state l.fn.out)
+      (map_text (answers_in (reader_items (seen g.D.Device.state l.fn.rig) l.fn.reader)))
+      (g.W.Sink.state l.out)
+      (map_text (answers_in (reader_items (seen g.D.Device.state l.rig) l.reader)));
+  later : g.W.Sink.faults l.fn.out ≤ g.W.Sink.faults l.out;
+}
+
+abbrev pub decreases-loop-item : goal.decreases-loop-item
+decreases-loop-item g l = l.reader.count

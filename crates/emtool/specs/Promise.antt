@@ -1,0 +1,160 @@
+-- What the top call promises of a run: one definition for each of its clauses, by whether the words
+-- name a job. If they name none, the report has no statistics, and nothing else is said here.
+use Rattle.std.specs.Prelude.{◌≡◌, ℕ, ◌+◌, ◌-◌, ◌*◌, ◌<◌, ◌≤◌, ◌^◌, ◌⊎◌, Bool, true, IsTrue, IsFalse, IsNone, IsSome, IfSome, OnSome, List, Option, None, String, Result, Ok, Err, is_none}
+use Rattle.std.specs.Global.{Global}
+use Rattle.em_record.specs.Count.{Rose}
+use Rattle.em_io.specs.Sink.{SentPart}
+use Rattle.em_io.specs.declared.shelf.Shelf.{Ghosts as ShelfGhosts}
+use Rattle.em_io.specs.declared.shelf.Slot.{Slot}
+use Rattle.em_io.specs.declared.shelf.Slot.TheVariants.{First}
+use Rattle.em_io.specs.declared.sink.Sink.{Ghosts as SinkGhosts}
+use Rattle.em_frames.specs.declared.device.Device.{Ghosts as DeviceGhosts}
+use Rattle.emtool.specs.Bound.{stated_room}
+use Rattle.emtool.specs.Due.{Due, due_of}
+use Rattle.emtool.specs.Job.{texts_of}
+use Rattle.emtool.specs.Outcome.{HasStats, report_text}
+use Rattle.emtool.specs.Run.{CountsBy, HasSizes, IsAllRead, IsQuiet, Outside, outside}
+use Rattle.emtool.specs.Status.{IfEndsDamaged, IfEndsFull, OnBegun, OnDone, OnEnd}
+use Rattle.emtool.specs.declared.outcome.Stats.{Stats}
+use Rattle.emtool.specs.declared.status.Status.{Status}
+use Rattle.emtool.specs.declared.status.Status.TheVariants.{NoMemory}
+use Rattle.emtool.specs.declared.status.Usage.{Usage}
+
+-- A run: what is due, whether the shelf tells its texts, the rule of the output, and the outside
+-- before and after.
+pub record Run : Type 0 where
+  pub due : Due
+  pub tells : Bool
+  pub took : List ℕ → List ℕ → List ℕ
+  pub old : Outside
+  pub new : Outside
+
+-- the run of what is due, if the words name a job
+abbrev pub run_for : Bool → (List ℕ → List ℕ → List ℕ) → Outside → Outside → Result Due Usage
+    → Result Run Usage
+run_for tells took old new (Ok due) =
+    Ok (record { due = due; tells = tells; took = took; old = old; new = new })
+run_for tells took old new (Err usage) = Err usage
+
+-- the run that the words ask for, from device, shelf and output before and after, or the refusal of
+-- the words
+abbrev pub run_of : {D H W : Type 0} → DeviceGhosts D → ShelfGhosts H → SinkGhosts W
+    → List (String Global) → D → H → W → D → H → W → Result Run Usage
+run_of d h w words device shelf out device_after shelf_after out_after = run_for h.tells w.took
+    (outside h w (d.state device) shelf out)
+    (outside h w (d.state device_after) shelf_after out_after)
+    (due_of (texts_of words) (h.stand shelf))
+
+-- shelf and device tell what they hold
+pub record IsTold (run : Run) : Type 0 where
+  pub shelf : IsTrue run.tells
+  pub device : IsTrue run.old.device.told
+
+-- the block moves that were made
+abbrev pub moves_of : Run → ℕ
+moves_of run = run.new.device.moves - run.old.device.moves
+
+-- the blocks that are enough for the run
+abbrev pub room_of : Run → ℕ
+room_of run = stated_room run.due.job (run.due.texts First) (run.new.stand.slot First).left
+
+-- If the input was read to its end or to its first fault, status and output are the ones due.
+abbrev pub GivesDue : Result Run Usage → Status → Type 0
+GivesDue (Ok run) status = IsTold run
+    → OnEnd status ((status ≡ run.due.status)
+    × (run.new.output ≡ run.took run.old.output run.due.output))
+GivesDue (Err usage) status = Unit {0}
+
+-- If the input was read to its end or to its first fault, the status is the one due, whether the
+-- device tells its contents or not.
+abbrev pub EndsAsDue : Result Run Usage → Status → Type 0
+EndsAsDue (Ok run) status = IsTrue run.tells → OnEnd status (status ≡ run.due.status)
+EndsAsDue (Err usage) status = Unit {0}
+
+-- At every status but Usage, DeviceFault and NoMemory the device has the sizes of the job.
+abbrev pub Begins : Result Run Usage → Status → Type 0
+Begins (Ok run) status = OnBegun status (HasSizes run.due.job run.new.device)
+Begins (Err usage) status = Unit {0}
+
+-- At Done the slot of each file of the job was opened, and if the shelf tells, read to its end.
+abbrev pub ReadsFiles : Result Run Usage → Status → Type 0
+ReadsFiles (Ok run) status = (slot : Slot) → OnSome (run.due.names slot)
+    (OnDone status (IsAllRead run.tells (run.new.stand.slot slot)))
+ReadsFiles (Err usage) status = Unit {0}
+
+-- If shelf and device tell, the output took a front of what is due, at every end.
+abbrev pub SendsFront : Result Run Usage → Type 0
+SendsFront (Ok run) = IsTold run
+    → SentPart run.took run.old.output run.due.output run.new.output
+SendsFront (Err usage) = Unit {0}
+
+-- No text changed, and no slot for which the job has no file. If the shelf tells, a slot is lost
+-- only if no file has its name, and at Done and Malformed each name is that of a file.
+pub record OpensFiles (run : Run) (status : Status) : Type 0 where
+  pub texts : run.new.stand.text ≡ run.old.stand.text
+  pub others : (slot : Slot) → IsNone (run.due.names slot)
+      → run.new.stand.slot slot ≡ run.old.stand.slot slot
+  pub lost : (slot : Slot) → IsTrue run.tells → (run.new.stand.slot slot).lost ≡ true
+      → IfSome (run.due.names slot) (λ name. is_none (run.old.stand.text slot name) ≡ true)
+  pub there : (slot : Slot) → IsTrue run.tells → IfSome (run.due.names slot)
+      (λ name. OnEnd status (IsSome (run.old.stand.text slot name)))
+
+-- No slot is touched but those of the job's files.
+abbrev pub Opens : Result Run Usage → Status → Type 0
+Opens (Ok run) status = OpensFiles run status
+Opens (Err usage) status = Unit {0}
+
+-- The device has `used` blocks and no more. They are at most the moves made plus two for each frame,
+-- if the count of moves isn't at its end; and fewer than the stated room, if the shelf tells and, for
+-- stabs, the device.
+pub record IsFull (run : Run) (used : ℕ) : Type 0 where
+  pub all : used ≡ run.due.job.blocks
+  pub moves : run.new.device.moves < 2 ^ 64 - 1 → used + run.old.device.moves
+      ≤ run.new.device.moves + 2 * run.due.job.shape.frames
+  pub room : IsTrue run.tells → CountsBy run.due.job.kind run.old.device.told → used < room_of run
+
+-- If the run ends as full, the device is as small as `IsFull` says.
+abbrev pub FullHasCause : Result Run Usage → Status → Type 0
+FullHasCause (Ok run) status = IfEndsFull status (IsFull run)
+FullHasCause (Err usage) status = Unit {0}
+
+-- Damaged comes only over a device that doesn't tell what it holds, and names a block of it.
+abbrev pub DamageHasCause : Result Run Usage → Status → Type 0
+DamageHasCause (Ok run) status = IfEndsDamaged status
+    (λ block. IsFalse run.old.device.told × (block < run.due.job.blocks))
+DamageHasCause (Err usage) status = Unit {0}
+
+-- If nothing failed and the device has the stated room, the status is the one due, or there was no
+-- memory.
+abbrev pub Completes : Result Run Usage → Status → Type 0
+Completes (Ok run) status = IsTold run → IsQuiet run.old run.new → room_of run ≤ run.due.job.blocks
+    → (status ≡ run.due.status) ⊎ (status ≡ NoMemory)
+Completes (Err usage) status = Unit {0}
+
+-- There are statistics exactly if the job asks for them; of refused words there are none.
+abbrev pub StatsOf : Result Run Usage → Status → Option Stats → Type 0
+StatsOf (Ok run) status stats = HasStats run.due.job status (moves_of run) stats
+StatsOf (Err usage) status stats = stats ≡ None
+
+-- A sink took the message of a status and the line of the statistics.
+pub record ReportsAll (took : List ℕ → List ℕ → List ℕ) (run : Result Run Usage) (status : Status)
+    (old new : List ℕ) : Type 0 where
+  pub stats : Option Stats
+  pub are : StatsOf run status stats
+  pub all : new ≡ took old (report_text status stats)
+
+-- A sink took a front of them.
+pub record ReportsPart (took : List ℕ → List ℕ → List ℕ) (run : Result Run Usage) (status : Status)
+    (old new : List ℕ) : Type 0 where
+  pub stats : Option Stats
+  pub are : StatsOf run status stats
+  pub part : SentPart took old (report_text status stats) new
+
+-- If the error stream didn't fail, it took the status's message and the line of the statistics.
+abbrev pub Reports : {E : Type 0} → SinkGhosts E → E → E → Result Run Usage → Status → Type 0
+Reports e old new run status = (Rose (e.faults old) (e.faults new) → ⊥)
+    → ReportsAll e.took run status (e.state old) (e.state new)
+
+-- At every end the error stream took a front of that.
+abbrev pub ReportsFront : {E : Type 0} → SinkGhosts E → E → E → Result Run Usage → Status → Type 0
+ReportsFront e old new run status = ReportsPart e.took run status (e.state old) (e.state new)
