@@ -1,9 +1,9 @@
-//! Measures chains: appends numbered records to a chain over the device in memory, reads them all
-//! back by taking the chain, and prints what was read and what it cost. It is a program of
-//! `bench/run`.
+//! Measures chains: appends numbered records to a chain over the device in memory or over a file,
+//! reads them all back by taking the chain, and prints what was read and what it cost. It is a
+//! program of `bench/run`.
 #![tactic(auto)]
 
-ghost use Rattle.std.specs.Prelude.{◌≡◌, ◌≤◌, ◌^◌, IfOk, IfSome};
+ghost use Rattle.std.specs.Prelude.{◌≡◌, ◌≤◌, ◌^◌, IfOk, IfSome, IsTrue};
 ghost use Rattle.chain_bench.specs.Numbered.{records_below, sum_from};
 
 mod chains;
@@ -14,7 +14,8 @@ mod tests;
 
 use crate::measure::{Measured, measure};
 use crate::stop::Stop;
-use em_frames::{Grant, MemDevice};
+use em_file::FileDevice;
+use em_frames::{Device, Grant, MemDevice};
 use em_record::Shape;
 use std::alloc::Global;
 use std::process::ExitCode;
@@ -49,10 +50,18 @@ fn number_of(word: &str) -> Option<u64>
     }
 }
 
-/// The number of records that the only word says.
-fn count_of(rt: &HostRuntime) -> Result<u64, Stop>
-    ensures { IfOk result (λ count. count ≤ 2 ^ 40) }
-{
+/// What the words ask for.
+#[derive(Drop)]
+struct Asked {
+    /// The number of records.
+    count: u64,
+    /// The file that the device is, or none for the device in memory.
+    file: Option<String>,
+    ghost few: { count ≤ 2 ^ 40 },
+}
+
+/// The one or two words: the number of records, and a file.
+fn read_words(rt: &HostRuntime) -> Result<Asked, Stop> {
     let mut words = match env::args(rt) {
         Ok(words) => words.skip(1),
         Err(error) if error.kind() == io::ErrorKind::InvalidData => return Err(Stop::Usage),
@@ -61,31 +70,43 @@ fn count_of(rt: &HostRuntime) -> Result<u64, Stop>
     let Some(word) = words.next() else {
         return Err(Stop::Usage);
     };
+    let Some(count) = number_of(word.as_str()) else {
+        return Err(Stop::Usage);
+    };
+    let file = words.next();
     if words.next().is_some() {
         return Err(Stop::Usage);
     }
-    match number_of(word.as_str()) {
-        Some(count) => Ok(count),
-        None => Err(Stop::Usage),
-    }
+    Ok(Asked { count, file })
 }
 
-/// Appends and reads this many records.
-fn run(alloc: Global, count: u64) -> Result<Measured, Stop>
-    requires { count ≤ 2 ^ 40 }
-    ensures sum { IfOk result (λ run. run.sum ≡ sum_from 0 (records_below count)) }
-    ensures used { IfOk result (λ run. run.used ≡ 0) }
+/// Appends and reads this many records over a device that isn't begun yet.
+fn run<D: Device>(alloc: Global, device: &mut D, count: u64) -> Result<Measured, Stop>
+    requires device { (D.state device.old).blocks ≡ 0 }
+    requires count { count ≤ 2 ^ 40 }
+    ensures sum { IsTrue (D.state device.old).told → IfOk result (λ run.
+        run.sum ≡ sum_from 0 (records_below count)) }
+    ensures used { IsTrue (D.state device.old).told → IfOk result (λ run. run.used ≡ 0) }
 {
     let Ok(shape) = Shape::new(BLOCK, FRAMES) else {
         unreachable!()
     };
-    let Ok(mut device) = MemDevice::new(alloc, &[]) else {
-        return Err(Stop::NoMemory);
-    };
     let Ok(pool) = Grant::new(alloc).pool(shape) else {
         return Err(Stop::NoMemory);
     };
-    measure(shape, &mut device, pool, BLOCKS, count)
+    measure(shape, device, pool, BLOCKS, count)
+}
+
+/// Appends and reads this many records in memory.
+fn run_in_memory(alloc: Global, count: u64) -> Result<Measured, Stop>
+    requires { count ≤ 2 ^ 40 }
+    ensures sum { IfOk result (λ run. run.sum ≡ sum_from 0 (records_below count)) }
+    ensures used { IfOk result (λ run. run.used ≡ 0) }
+{
+    let Ok(mut device) = MemDevice::new(alloc, &[]) else {
+        return Err(Stop::NoMemory);
+    };
+    run(alloc, &mut device, count)
 }
 
 /// Prints the line of a run.
@@ -101,11 +122,17 @@ fn print_run(rt: &HostRuntime, count: u64, run: &Measured) -> Result<(), Stop> {
     }
 }
 
-/// Reads the word, runs, and prints the line.
+/// Reads the words, runs, and prints the line.
 fn run_words(rt: &HostRuntime) -> Result<(), Stop> {
-    let count = count_of(rt)?;
-    let measured = run(rt.alloc(), count)?;
-    print_run(rt, count, &measured)
+    let asked = read_words(rt)?;
+    let measured = match &asked.file {
+        None => run_in_memory(rt.alloc(), asked.count)?,
+        Some(path) => {
+            let mut device = FileDevice::new(rt, rt.alloc(), path.as_str());
+            run(rt.alloc(), &mut device, asked.count)?
+        }
+    };
+    print_run(rt, asked.count, &measured)
 }
 
 fn main(rt: HostRuntime) -> ExitCode {

@@ -4,7 +4,7 @@ use em_space::EmFault;
 /// Why there is nothing to print.
 #[derive(Clone, Copy, Debug, PartialEq, Eq, Drop)]
 pub enum Stop {
-    /// The words aren't one number of 1 to 10 digits.
+    /// The words aren't a number of 1 to 10 digits, and a file or none.
     Usage,
     /// The line couldn't be printed.
     Output,
@@ -32,7 +32,7 @@ impl Stop {
     /// The line for the error stream.
     pub fn message(&self) -> &'static str {
         match self {
-            Stop::Usage => "usage: chain_bench N, a number of 1 to 10 digits",
+            Stop::Usage => "usage: chain_bench N [FILE], N a number of 1 to 10 digits",
             Stop::Output => "chain_bench: the line couldn't be printed",
             Stop::Begin(BeginFault::Failed) | Stop::Em(EmFault::DeviceFault) => {
                 "chain_bench: the device failed"

@@ -4,7 +4,7 @@ use em_model::{Command, map_answers_of, queue_answers_of, stab_answers_of};
 use std::test::Fail;
 
 #[test]
-fn each_program_answers_a_worked_row(rt: HostRuntime) -> Result<(), Fail> {
+fn a_map_answers_a_worked_row(rt: HostRuntime) -> Result<(), Fail> {
     let map = [
         Command::Put { key: 5, value: 10 },
         Command::Get { key: 5 },
@@ -13,7 +13,11 @@ fn each_program_answers_a_worked_row(rt: HostRuntime) -> Result<(), Fail> {
     ];
     let answers = map_answers_of(rt.alloc(), &map)?;
     assert_eq!(rt; answers.as_slice(), [Some(10), None].as_slice());
+    Ok(())
+}
 
+#[test]
+fn a_queue_answers_a_worked_row(rt: HostRuntime) -> Result<(), Fail> {
     let queue = [
         Command::Push { key: 9, value: 1 },
         Command::Push { key: 0, value: 2 },
@@ -24,7 +28,11 @@ fn each_program_answers_a_worked_row(rt: HostRuntime) -> Result<(), Fail> {
     let answers = queue_answers_of(rt.alloc(), &queue)?;
     let want = [Some((0, 2)), Some((9, 1)), None];
     assert_eq!(rt; answers.as_slice(), want.as_slice());
+    Ok(())
+}
 
+#[test]
+fn an_interval_list_answers_a_worked_row(rt: HostRuntime) -> Result<(), Fail> {
     let list = [
         Command::Interval { low: 5, high: 9 },
         Command::Stab { point: 9 },

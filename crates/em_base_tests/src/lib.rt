@@ -10,3 +10,5 @@ mod bytes;
 mod machine;
 #[cfg(test)]
 mod memory;
+#[cfg(test)]
+mod numbers;

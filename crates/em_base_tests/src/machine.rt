@@ -28,11 +28,14 @@ fn a_shape_breaks_the_first_of_its_rules(rt: HostRuntime) {
 fn a_shape_has_its_numbers(rt: HostRuntime) -> Result<(), Fail> {
     for (block, frames, fan, wide, payload) in [(128, 64, 16, 8, 127), (1024, 256, 64, 32, 1023)] {
         let shape = Shape::new(block, frames)?;
-        assert_eq!(rt; shape.block(), block);
-        assert_eq!(rt; shape.frames(), frames);
-        assert_eq!(rt; shape.fan(), fan);
-        assert_eq!(rt; shape.wide(), wide);
-        assert_eq!(rt; shape.payload(), payload);
+        let numbers = [
+            shape.block(),
+            shape.frames(),
+            shape.fan(),
+            shape.wide(),
+            shape.payload(),
+        ];
+        assert_eq!(rt; numbers, [block, frames, fan, wide, payload]);
     }
     Ok(())
 }
@@ -54,20 +57,29 @@ fn records_are_in_order_of_their_words(rt: HostRuntime) {
     }
 }
 
+/// Whether the next call fails. It is counted.
+fn next_call(calls: &mut Calls) -> bool {
+    let fails = calls.next_fails();
+    if fails {
+        calls.fail();
+    } else {
+        calls.pass();
+    }
+    fails
+}
+
 #[test]
 fn calls_fail_by_their_numbers(rt: HostRuntime) -> Result<(), Fail> {
     let mut calls = Calls::new(rt.alloc(), &[0, 2])?;
-    for fails in [true, false, true, false] {
-        assert_eq!(rt; calls.next_fails(), fails);
-        if fails {
-            calls.fail();
-        } else {
-            calls.pass();
-        }
-    }
+    let fails = [
+        next_call(&mut calls),
+        next_call(&mut calls),
+        next_call(&mut calls),
+        next_call(&mut calls),
+    ];
     calls.refuse();
-    assert_eq!(rt; calls.faults(), 3);
-    assert_eq!(rt; calls.refused(), 1);
+    assert_eq!(rt; fails, [true, false, true, false]);
+    assert_eq!(rt; (calls.faults(), calls.refused()), (3, 1));
     Ok(())
 }
 
@@ -75,17 +87,20 @@ fn calls_fail_by_their_numbers(rt: HostRuntime) -> Result<(), Fail> {
 #[test]
 fn a_shape_bounds_a_run(rt: HostRuntime) -> Result<(), Fail> {
     let shape = Shape::new(128, 64)?;
-    assert_eq!(rt; (blocks_of(&shape, 20001), lev(&shape, 157)), (157, 2));
-    assert_eq!(rt;
-        (cost(&shape, 20001), room(&shape, 20001)),
-        (970_752, 15_808)
-    );
-    assert_eq!(rt; (blocks_of(&shape, 200_000), lev(&shape, 1563)), (1563, 3));
-    assert_eq!(rt; cost(&shape, 200_000), 12_812_288);
-    assert_eq!(rt;
-        (blocks_of(&shape, 0), lev(&shape, 0), lev(&shape, 1)),
-        (0, 0, 0)
-    );
-    assert_eq!(rt; (cost(&shape, 0), room(&shape, 0)), (2048, 480));
+    for (count, blocks, levels, moves, most) in [
+        (20001, 157, 2, 970_752, 15_808),
+        (200_000, 1563, 3, 12_812_288, 150_912),
+        (0, 0, 0, 2048, 480),
+    ] {
+        let fills = blocks_of(&shape, count);
+        let bounds = (
+            fills,
+            lev(&shape, fills),
+            cost(&shape, count),
+            room(&shape, count),
+        );
+        assert_eq!(rt; bounds, (blocks, levels, moves, most));
+    }
+    assert_eq!(rt; lev(&shape, 1), 0);
     Ok(())
 }

@@ -1,5 +1,7 @@
 //! A device in memory, and a pool with its frames.
-use em_frames::{Device, Grant, MemDevice};
+ghost use Rattle.std.specs.Prelude.{◌≡◌, ◌<◌, length};
+
+use em_frames::{Device, Grant, MemDevice, Pool};
 use em_record::{Failed, Record, Shape};
 use std::test::Fail;
 
@@ -10,77 +12,115 @@ const SEVEN: Record = Record {
     d: 3,
 };
 
+/// A record that is never written.
+const NINE: Record = Record {
+    a: 9,
+    b: 9,
+    c: 9,
+    d: 9,
+};
+
+/// What a device counts: faults, moves, and calls that found no memory.
+fn counted(device: &MemDevice) -> (u64, u64, u64) {
+    (device.faults(), device.moves(), device.refused())
+}
+
 #[test]
 fn the_call_of_a_failing_number_fails(rt: HostRuntime) -> Result<(), Fail> {
     let alloc = rt.alloc();
     let mut device = MemDevice::new(alloc, &[1])?;
     device.begin(128, 3)?;
     let mut block = vec![in alloc; Record::ZERO; 128]?;
-    assert_eq!(rt; device.read(0, &mut block), Err(Failed));
-    let counts = (device.faults(), device.moves(), device.refused());
-    assert_eq!(rt; counts, (1, 1, 0));
+    let failed = device.read(0, &mut block);
+    assert_eq!(rt; (failed, counted(&device)), (Err(Failed), (1, 1, 0)));
     Ok(())
+}
+
+/// The first and the last record of a block of 128 records.
+fn ends_of(device: &mut MemDevice, at: u64) -> Result<(Record, Record), Failed>
+    requires at { at < device.old.blocks }
+    requires block { device.old.block ≡ 128 }
+    ensures blocks { device.new.blocks ≡ device.old.blocks }
+    ensures block { device.new.block ≡ device.old.block }
+{
+    let mut block = [NINE; 128];
+    device.read(at, &mut block)?;
+    Ok((block[0], block[127]))
 }
 
 #[test]
 fn a_block_holds_what_was_written_and_else_zeros(rt: HostRuntime) -> Result<(), Fail> {
-    let alloc = rt.alloc();
-    let mut device = MemDevice::new(alloc, &[])?;
+    let mut device = MemDevice::new(rt.alloc(), &[])?;
     device.begin(128, 3)?;
-    let written = vec![in alloc; SEVEN; 128]?;
-    device.write(1, &written)?;
-    let mut block = vec![in alloc; SEVEN; 128]?;
-    device.read(0, &mut block)?;
-    assert_eq!(rt; (block[0], block[127]), (Record::ZERO, Record::ZERO));
-    device.read(1, &mut block)?;
-    assert_eq!(rt; (block[0], block[127]), (SEVEN, SEVEN));
-    device.read(2, &mut block)?;
-    assert_eq!(rt; (block[0], block[127]), (Record::ZERO, Record::ZERO));
-    let counts = (device.faults(), device.moves(), device.refused());
-    assert_eq!(rt; counts, (0, 4, 0));
+    device.write(1, &[SEVEN; 128])?;
+    let ends = [
+        ends_of(&mut device, 0),
+        ends_of(&mut device, 1),
+        ends_of(&mut device, 2),
+    ];
+    let zeros = Ok((Record::ZERO, Record::ZERO));
+    assert_eq!(rt; ends, [zeros, Ok((SEVEN, SEVEN)), zeros]);
+    assert_eq!(rt; counted(&device), (0, 4, 0));
     Ok(())
+}
+
+/// What a pool has: frames that are free, areas that are free, and the most frames out at once.
+fn left_in(pool: &Pool) -> (u32, u32, u32) {
+    (pool.free(), pool.free_areas(), pool.peak())
 }
 
 /// 1024 records and 256 frames: f is 64, so 192 frames are lent singly, and an area has 32.
 #[test]
 fn a_pool_lends_and_takes_back(rt: HostRuntime) -> Result<(), Fail> {
     let mut pool = Grant::new(rt.alloc()).pool(Shape::new(1024, 256)?)?;
-    assert_eq!(rt; (pool.free(), pool.free_areas(), pool.peak()), (192, 2, 0));
+    let whole = left_in(&pool);
     let mut frame = pool.lend();
     let mut area = pool.lend_area();
-    assert_eq!(rt; (pool.free(), pool.free_areas(), pool.peak()), (191, 1, 33));
+    let lent = left_in(&pool);
     frame.records_mut()[1023] = SEVEN;
     area.records_mut()[32767] = SEVEN;
-    assert_eq!(rt; frame.records()[1023], SEVEN);
-    assert_eq!(rt; area.records()[32767], SEVEN);
+    let kept = (frame.records()[1023], area.records()[32767]);
     pool.give(frame);
     pool.give_area(area);
-    assert_eq!(rt; (pool.free(), pool.free_areas(), pool.peak()), (192, 2, 33));
+    let back = left_in(&pool);
     pool.end();
+    assert_eq!(rt; kept, (SEVEN, SEVEN));
+    assert_eq!(rt;
+        [whole, lent, back],
+        [(192, 2, 0), (191, 1, 33), (192, 2, 33)]
+    );
     Ok(())
 }
 
 /// 128 records and 64 frames: f is 16, so the rack has 32 places.
 #[test]
+fn a_rack_is_lent_empty(rt: HostRuntime) -> Result<(), Fail> {
+    let mut pool = Grant::new(rt.alloc()).pool(Shape::new(128, 64)?)?;
+    let rack = pool.lend_rack();
+    let empty = (rack.places(), rack.holds(0), rack.holds(31));
+    pool.give_rack(rack);
+    pool.end();
+    assert_eq!(rt; empty, (32, false, false));
+    Ok(())
+}
+
+#[test]
 fn a_rack_holds_frames_at_its_places(rt: HostRuntime) -> Result<(), Fail> {
     let mut pool = Grant::new(rt.alloc()).pool(Shape::new(128, 64)?)?;
     let mut rack = pool.lend_rack();
-    assert_eq!(rt;
-        (rack.places(), rack.holds(0), rack.holds(31)),
-        (32, false, false)
-    );
     let mut frame = pool.lend();
     frame.records_mut()[127] = SEVEN;
     rack.put(31, frame);
+    let lent = left_in(&pool);
     assert_eq!(rt; (rack.holds(0), rack.holds(31)), (false, true));
-    assert_eq!(rt; rack.records(31)[127], SEVEN);
-    assert_eq!(rt; (pool.free(), pool.free_areas(), pool.peak()), (47, 2, 1));
+    let held = rack.records(31)[127];
     let frame = rack.take(31);
-    assert_eq!(rt; frame.records()[127], SEVEN);
-    assert_eq!(rt; rack.holds(31), false);
+    let taken = (frame.records()[127], rack.holds(31));
     pool.give(frame);
     pool.give_rack(rack);
-    assert_eq!(rt; (pool.free(), pool.free_areas(), pool.peak()), (48, 2, 1));
+    let back = left_in(&pool);
     pool.end();
+    assert_eq!(rt; (held, taken), (SEVEN, (SEVEN, false)));
+    assert_eq!(rt; [lent, back], [(47, 2, 1), (48, 2, 1)]);
     Ok(())
 }

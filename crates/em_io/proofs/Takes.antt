@@ -31,6 +31,19 @@ takes-then {tells} {xs} {ys} {f} {g} {h} {a} {b} {c} p q =
       left = λ t. p.left t ∙ ap (λ z. xs ++ z) (q.left t) ∙ sym (append_assoc xs ys (rest h c));
     }
 
+-- nothing was taken
+pub takes-nothing : (tells : Bool) (feed : Fed) (stand : Stand)
+    → Takes tells [] feed stand feed stand
+takes-nothing tells feed stand = record {
+  slot = refl;
+  place = omega arith;
+  leaves = leaves-nothing feed.slot stand;
+  opened = refl;
+  ready = refl;
+  lost = λ t. refl;
+  left = λ t. refl;
+}
+
 -- a byte that was ahead
 pub takes-one : (tells : Bool) (stand : Stand) {f g : Fed} (byte : ℕ)
     → f.ahead ≡ byte ∷ g.ahead → g.slot ≡ f.slot → g.place ≡ f.place + 1

@@ -1,5 +1,7 @@
+pub mod Digits
 pub mod DiskShelf
 pub mod Feed
+pub mod Look
 pub mod MemShelf
 pub mod MemSink
 pub mod MemTexts

@@ -1,6 +1,7 @@
 //! Bytes in and bytes out: where texts are read from, and what lines are written to.
 #![tactic(auto)]
 
+mod digits;
 mod disk_shelf;
 mod feed;
 mod mem_shelf;
@@ -11,6 +12,7 @@ mod shelf;
 mod sink;
 mod std_sink;
 
+pub use digits::Digits;
 pub use disk_shelf::DiskShelf;
 pub use feed::Feed;
 pub use mem_shelf::MemShelf;

@@ -19,19 +19,14 @@ enum Script {
     Beside,
     BesideTwice,
     BesideThrice,
-    /// Two cells are made, and the second is read.
     ReadSecond,
-    /// Two cells are made, the second is ended, and a block is taken.
     TakeAgain,
-    /// A cell is made and ended, and then a number waits for a block.
     WaitAgain,
-    /// A cell is made in two steps, and is read.
     InSteps,
-    /// A cell is made, ended and made again, and is read.
     Renew,
 }
 
-/// The number that was read, the block that was taken, or the blocks in use while a number waits.
+/// What a script answers.
 fn follow<D: Device>(rig: &mut Rig<'_, D>, script: Script) -> Result<u64, EmFault>
     requires sound { Sound (seen D.state rig.old) }
     requires free { 0 < (seen D.state rig.old).pool.free }
@@ -40,46 +35,17 @@ fn follow<D: Device>(rig: &mut Rig<'_, D>, script: Script) -> Result<u64, EmFaul
 {
     match script {
         Script::Beside => read_beside(rig, 1),
-        Script::BesideTwice => {
-            read_beside(rig, 1)?;
-            read_beside(rig, 2)
-        }
-        Script::BesideThrice => {
-            read_beside(rig, 1)?;
-            read_beside(rig, 2)?;
-            read_beside(rig, 3)
-        }
-        Script::ReadSecond => {
-            let _first = Cell::new(rig, 5)?;
-            let second = Cell::new(rig, 6)?;
-            second.get(rig)
-        }
-        Script::TakeAgain => {
-            let _first = Cell::new(rig, 5)?;
-            let second = Cell::new(rig, 6)?;
-            second.end(rig)?;
-            rig.alloc()
-        }
-        Script::WaitAgain => {
-            let first = Cell::new(rig, 5)?;
-            first.end(rig)?;
-            let pending = Pending::new(rig, 6)?;
-            let used = rig.used();
-            pending.abandon(rig);
-            Ok(used)
-        }
-        Script::InSteps => {
-            let cell = make_in_steps(rig, 5)?;
-            cell.get(rig)
-        }
-        Script::Renew => {
-            let cell = Cell::new(rig, 5)?;
-            let cell = renew(rig, cell, 6)?;
-            cell.get(rig)
-        }
+        Script::BesideTwice => beside_twice(rig),
+        Script::BesideThrice => beside_thrice(rig),
+        Script::ReadSecond => read_second(rig),
+        Script::TakeAgain => take_again(rig),
+        Script::WaitAgain => wait_again(rig),
+        Script::InSteps => read_in_steps(rig),
+        Script::Renew => read_renewed(rig),
     }
 }
 
+/// The number that a cell kept beside another.
 fn read_beside<D: Device>(rig: &mut Rig<'_, D>, number: u64) -> Result<u64, EmFault>
     requires sound { Sound (seen D.state rig.old) }
     requires free { 0 < (seen D.state rig.old).pool.free }
@@ -90,12 +56,96 @@ fn read_beside<D: Device>(rig: &mut Rig<'_, D>, number: u64) -> Result<u64, EmFa
     Ok(read)
 }
 
+/// The second number, after `beside` twice.
+fn beside_twice<D: Device>(rig: &mut Rig<'_, D>) -> Result<u64, EmFault>
+    requires sound { Sound (seen D.state rig.old) }
+    requires free { 0 < (seen D.state rig.old).pool.free }
+    ensures sound { Sound (seen D.state rig.new) }
+    ensures frames { SameFrames (seen D.state rig.old).pool (seen D.state rig.new).pool }
+{
+    read_beside(rig, 1)?;
+    read_beside(rig, 2)
+}
+
+/// The third number, after `beside` three times.
+fn beside_thrice<D: Device>(rig: &mut Rig<'_, D>) -> Result<u64, EmFault>
+    requires sound { Sound (seen D.state rig.old) }
+    requires free { 0 < (seen D.state rig.old).pool.free }
+    ensures sound { Sound (seen D.state rig.new) }
+    ensures frames { SameFrames (seen D.state rig.old).pool (seen D.state rig.new).pool }
+{
+    beside_twice(rig)?;
+    read_beside(rig, 3)
+}
+
+/// Two cells are made: the number of the second.
+fn read_second<D: Device>(rig: &mut Rig<'_, D>) -> Result<u64, EmFault>
+    requires sound { Sound (seen D.state rig.old) }
+    requires free { 0 < (seen D.state rig.old).pool.free }
+    ensures sound { Sound (seen D.state rig.new) }
+    ensures frames { SameFrames (seen D.state rig.old).pool (seen D.state rig.new).pool }
+{
+    let _first = Cell::new(rig, 5)?;
+    let second = Cell::new(rig, 6)?;
+    second.get(rig)
+}
+
+/// Two cells are made, and the second is ended: the block that is taken then.
+fn take_again<D: Device>(rig: &mut Rig<'_, D>) -> Result<u64, EmFault>
+    requires sound { Sound (seen D.state rig.old) }
+    requires free { 0 < (seen D.state rig.old).pool.free }
+    ensures sound { Sound (seen D.state rig.new) }
+    ensures frames { SameFrames (seen D.state rig.old).pool (seen D.state rig.new).pool }
+{
+    let _first = Cell::new(rig, 5)?;
+    let second = Cell::new(rig, 6)?;
+    second.end(rig)?;
+    rig.alloc()
+}
+
+/// A cell is made and ended: the blocks in use while a number waits for a block then.
+fn wait_again<D: Device>(rig: &mut Rig<'_, D>) -> Result<u64, EmFault>
+    requires sound { Sound (seen D.state rig.old) }
+    requires free { 0 < (seen D.state rig.old).pool.free }
+    ensures sound { Sound (seen D.state rig.new) }
+    ensures frames { SameFrames (seen D.state rig.old).pool (seen D.state rig.new).pool }
+{
+    let first = Cell::new(rig, 5)?;
+    first.end(rig)?;
+    let pending = Pending::new(rig, 6)?;
+    let used = rig.used();
+    pending.abandon(rig);
+    Ok(used)
+}
+
+/// A cell is made in two steps: its number.
+fn read_in_steps<D: Device>(rig: &mut Rig<'_, D>) -> Result<u64, EmFault>
+    requires sound { Sound (seen D.state rig.old) }
+    requires free { 0 < (seen D.state rig.old).pool.free }
+    ensures sound { Sound (seen D.state rig.new) }
+    ensures frames { SameFrames (seen D.state rig.old).pool (seen D.state rig.new).pool }
+{
+    let cell = make_in_steps(rig, 5)?;
+    cell.get(rig)
+}
+
+/// A cell is made, ended and made again: its number.
+fn read_renewed<D: Device>(rig: &mut Rig<'_, D>) -> Result<u64, EmFault>
+    requires sound { Sound (seen D.state rig.old) }
+    requires free { 0 < (seen D.state rig.old).pool.free }
+    ensures sound { Sound (seen D.state rig.new) }
+    ensures frames { SameFrames (seen D.state rig.old).pool (seen D.state rig.new).pool }
+{
+    let cell = Cell::new(rig, 5)?;
+    let cell = renew(rig, cell, 6)?;
+    cell.get(rig)
+}
+
+/// What was answered, and what it cost.
+type Ended = (Result<u64, EmFault>, Cost);
+
 /// What a script answers on a new rig of three blocks over a device, and what it costs.
-fn run<D: Device>(
-    alloc: Global,
-    device: &mut D,
-    script: Script,
-) -> Result<(Result<u64, EmFault>, Cost), Fail>
+fn run<D: Device>(alloc: Global, device: &mut D, script: Script) -> Result<Ended, Fail>
     requires { (D.state device.old).blocks ≡ 0 }
 {
     let mut rig = opened(alloc, 3, device)?;
@@ -103,25 +153,41 @@ fn run<D: Device>(
     Ok((answer, ended(rig)))
 }
 
+/// The same over a device in memory of which these calls fail, with the moves and the faults that
+/// the device counted.
+fn run_kept(alloc: Global, failing: &[u64], script: Script) -> Result<(Ended, u64, u64), Fail> {
+    let mut device = MemDevice::new(alloc, failing)?;
+    let ended = run(alloc, &mut device, script)?;
+    Ok((ended, device.moves(), device.faults()))
+}
+
 /// A freed block is used again by one more move, and the greatest number in use doesn't rise: the
 /// second run of `beside` makes six moves in place of five. Its third run needs a fourth block.
 #[test]
-fn blocks_and_moves_are_as_worked_by_hand(rt: HostRuntime) -> Result<(), Fail> {
+fn beside_costs_as_worked_by_hand(rt: HostRuntime) -> Result<(), Fail> {
     let full = Err(EmFault::Full { used: 3 });
     for (script, answer, cost) in [
         (Script::Beside, Ok(1), (1, 2, 5, 1)),
         (Script::BesideTwice, Ok(2), (2, 3, 11, 1)),
         (Script::BesideThrice, full, (3, 3, 13, 1)),
-        (Script::ReadSecond, Ok(6), (2, 2, 3, 1)),
-        (Script::TakeAgain, Ok(1), (2, 2, 4, 1)),
-        (Script::WaitAgain, Ok(1), (1, 1, 3, 1)),
-        (Script::InSteps, Ok(5), (1, 1, 2, 1)),
-        (Script::Renew, Ok(6), (1, 1, 5, 1)),
     ] {
-        let mut device = MemDevice::new(rt.alloc(), &[])?;
-        let ended = run(rt.alloc(), &mut device, script)?;
-        assert_eq!(rt; ended, (answer, cost), "{script:?}");
-        assert_eq!(rt; (device.moves(), device.faults()), (cost.2, 0));
+        let ended = run_kept(rt.alloc(), &[], script)?;
+        assert_eq!(rt; ended, ((answer, cost), cost.2, 0), "{script:?}");
+    }
+    Ok(())
+}
+
+#[test]
+fn blocks_and_moves_are_as_worked_by_hand(rt: HostRuntime) -> Result<(), Fail> {
+    for (script, number, cost) in [
+        (Script::ReadSecond, 6, (2, 2, 3, 1)),
+        (Script::TakeAgain, 1, (2, 2, 4, 1)),
+        (Script::WaitAgain, 1, (1, 1, 3, 1)),
+        (Script::InSteps, 5, (1, 1, 2, 1)),
+        (Script::Renew, 6, (1, 1, 5, 1)),
+    ] {
+        let ended = run_kept(rt.alloc(), &[], script)?;
+        assert_eq!(rt; ended, ((Ok(number), cost), cost.2, 0), "{script:?}");
     }
     Ok(())
 }
@@ -143,55 +209,59 @@ fn each_call_of_the_device_fails_in_turn(rt: HostRuntime) -> Result<(), Fail> {
         (10, 3, 3),
         (11, 2, 3),
     ] {
-        let mut device = MemDevice::new(rt.alloc(), &[failing])?;
-        let (answer, cost) = run(rt.alloc(), &mut device, Script::BesideTwice)?;
-        assert_eq!(rt; answer, Err(EmFault::DeviceFault), "call {failing}");
-        assert_eq!(rt; cost, (used, most, failing, 1), "call {failing}");
-        assert_eq!(rt; device.faults(), 1);
+        let ended = run_kept(rt.alloc(), &[failing], Script::BesideTwice)?;
+        let failed = Err(EmFault::DeviceFault);
+        let cost = (used, most, failing, 1);
+        assert_eq!(rt; ended, ((failed, cost), failing, 1), "call {failing}");
     }
     Ok(())
 }
 
-/// Each word that is read is 2^64 - 1. Block 1 is the second cell's, and the one that was freed. After
-/// the fault of `alloc` one block is in use, as before it.
+/// A record of which each word is 2^64 - 1.
+const ONES: Record = Record {
+    a: u64::MAX,
+    b: u64::MAX,
+    c: u64::MAX,
+    d: u64::MAX,
+};
+
+/// Each word that is read is 2^64 - 1. Block 1 is the second cell's, and the one that was freed.
+/// After the fault of `alloc` one block is in use, as before it.
 #[test]
 fn a_block_that_is_not_laid_out_is_damaged(rt: HostRuntime) -> Result<(), Fail> {
-    let word = u64::MAX;
     for (script, block, cost) in [
         (Script::Beside, 0, (1, 2, 5, 1)),
         (Script::ReadSecond, 1, (2, 2, 3, 1)),
         (Script::TakeAgain, 1, (1, 2, 4, 1)),
         (Script::WaitAgain, 0, (0, 1, 3, 1)),
     ] {
-        let mut device = Untold::giving(Record {
-            a: word,
-            b: word,
-            c: word,
-            d: word,
-        });
-        let ended = run(rt.alloc(), &mut device, script)?;
+        let ended = run(rt.alloc(), &mut Untold::giving(ONES), script)?;
         let fault = Err(EmFault::Damaged { block });
         assert_eq!(rt; ended, (fault, cost), "{script:?}");
     }
     Ok(())
 }
 
-/// If the record that was written last is read, the freed block comes again. A cell that was
-/// stored before it isn't read any more.
+/// If the record that was written last is read, the freed block comes again.
 #[test]
 fn a_device_that_tells_nothing_serves_while_it_keeps(rt: HostRuntime) -> Result<(), Fail> {
-    for (script, answer, cost) in [
-        (Script::ReadSecond, Ok(6), (2, 2, 3, 1)),
-        (Script::TakeAgain, Ok(1), (2, 2, 4, 1)),
-        (Script::WaitAgain, Ok(1), (1, 1, 3, 1)),
-        (
-            Script::Beside,
-            Err(EmFault::Damaged { block: 0 }),
-            (1, 2, 5, 1),
-        ),
+    for (script, number, cost) in [
+        (Script::ReadSecond, 6, (2, 2, 3, 1)),
+        (Script::TakeAgain, 1, (2, 2, 4, 1)),
+        (Script::WaitAgain, 1, (1, 1, 3, 1)),
     ] {
         let ended = run(rt.alloc(), &mut Untold::echo(), script)?;
-        assert_eq!(rt; ended, (answer, cost), "{script:?}");
+        assert_eq!(rt; ended, (Ok(number), cost), "{script:?}");
     }
+    Ok(())
+}
+
+/// If the record that was written last is read, a cell that was stored before it isn't read any
+/// more.
+#[test]
+fn a_device_that_keeps_one_record_damages_another_cell(rt: HostRuntime) -> Result<(), Fail> {
+    let ended = run(rt.alloc(), &mut Untold::echo(), Script::Beside)?;
+    let fault = Err(EmFault::Damaged { block: 0 });
+    assert_eq!(rt; ended, (fault, (1, 2, 5, 1)));
     Ok(())
 }

@@ -4,14 +4,15 @@ ghost use Rattle.em_frames.specs.Pool.{SameFrames};
 ghost use Rattle.em_space.specs.Rig.{Sound};
 ghost use Rattle.em_space.specs.Seen.{seen};
 
-use em_devices::{Untold, ended, opened};
+use em_devices::{Cost, Untold, ended, opened};
 use em_frames::{BeginFault, Device, Frame, Grant, MemDevice};
 use em_record::{Record, Shape};
 use em_space::{EmFault, Rig};
+use std::alloc::Global;
 use std::test::Fail;
 
-/// Fills two blocks with records of word a 1 and 2, and answers that of the last record of the first,
-/// by three moves.
+/// Fills two blocks with records of word a 1 and 2, and answers that of the last record of the
+/// first, by three moves.
 fn two_blocks<D: Device>(rig: &mut Rig<'_, D>) -> Result<u64, EmFault>
     requires sound { Sound (seen D.state rig.old) }
     requires free { 1 < (seen D.state rig.old).pool.free }
@@ -25,6 +26,7 @@ fn two_blocks<D: Device>(rig: &mut Rig<'_, D>) -> Result<u64, EmFault>
     word
 }
 
+#[tactic(auto, using(em_space::proofs::Held::in_use_kept))]
 fn two_blocks_by<D: Device>(rig: &mut Rig<'_, D>, frame: &mut Frame) -> Result<u64, EmFault>
     requires sound { Sound (seen D.state rig.old) }
     requires free { 0 < (seen D.state rig.old).pool.free }
@@ -78,33 +80,49 @@ fn free_both<D: Device>(rig: &mut Rig<'_, D>) -> Result<[u64; 3], EmFault>
     Ok([third, fourth, fifth])
 }
 
+/// What `two_blocks` answers over a device in memory of which this call fails, and what it costs;
+/// and the moves and the faults that the device counted.
+fn run_two(alloc: Global, failing: u64) -> Result<((Result<u64, EmFault>, Cost), u64, u64), Fail> {
+    let mut device = MemDevice::new(alloc, &[failing])?;
+    let mut rig = opened(alloc, 3, &mut device)?;
+    let answer = two_blocks(&mut rig);
+    let cost = ended(rig);
+    Ok(((answer, cost), device.moves(), device.faults()))
+}
+
 /// The device begins by its call 0, and the first store is its call 1.
 #[test]
 fn a_block_is_loaded_as_it_was_stored(rt: HostRuntime) -> Result<(), Fail> {
-    for (failing, answer, cost, faults) in [
-        (9, Ok(1), (2, 2, 3, 1), 0),
-        (1, Err(EmFault::DeviceFault), (2, 2, 1, 1), 1),
-    ] {
-        let mut device = MemDevice::new(rt.alloc(), &[failing])?;
-        let mut rig = opened(rt.alloc(), 3, &mut device)?;
-        assert_eq!(rt; two_blocks(&mut rig), answer);
-        assert_eq!(rt; ended(rig), cost);
-        assert_eq!(rt; (device.moves(), device.faults()), (cost.2, faults));
-    }
+    let stored = run_two(rt.alloc(), 9)?;
+    assert_eq!(rt; stored, ((Ok(1), (2, 2, 3, 1)), 3, 0));
+    let failed = run_two(rt.alloc(), 1)?;
+    assert_eq!(rt; failed, ((Err(EmFault::DeviceFault), (2, 2, 1, 1)), 1, 1));
     Ok(())
+}
+
+/// What four calls for a block answer.
+fn take_four<D: Device>(rig: &mut Rig<'_, D>) -> [Result<u64, EmFault>; 4]
+    requires sound { Sound (seen D.state rig.old) }
+    requires free { 0 < (seen D.state rig.old).pool.free }
+    ensures sound { Sound (seen D.state rig.new) }
+    ensures frames { SameFrames (seen D.state rig.old).pool (seen D.state rig.new).pool }
+{
+    [rig.alloc(), rig.alloc(), rig.alloc(), rig.alloc()]
 }
 
 #[test]
 fn the_fourth_block_of_three_is_refused(rt: HostRuntime) -> Result<(), Fail> {
-    let shape = Shape::new(128, 64)?;
     let mut device = MemDevice::new(rt.alloc(), &[])?;
     let mut rig = opened(rt.alloc(), 3, &mut device)?;
-    assert_eq!(rt; (rig.shape(), rig.blocks()), (shape, 3));
-    assert_eq!(rt; rig.alloc(), Ok(0));
-    assert_eq!(rt; rig.alloc(), Ok(1));
-    assert_eq!(rt; rig.alloc(), Ok(2));
-    assert_eq!(rt; rig.alloc(), Err(EmFault::Full { used: 3 }));
-    assert_eq!(rt; ended(rig), (3, 3, 0, 0));
+    let given = (rig.shape(), rig.blocks());
+    let answers = take_four(&mut rig);
+    let cost = ended(rig);
+    let full = Err(EmFault::Full { used: 3 });
+    assert_eq!(rt; given, (Shape::new(128, 64)?, 3));
+    assert_eq!(rt;
+        (answers, cost),
+        ([Ok(0), Ok(1), Ok(2), full], (3, 3, 0, 0))
+    );
     Ok(())
 }
 
@@ -144,75 +162,118 @@ fn a_rig_lends_areas_and_the_rack(rt: HostRuntime) -> Result<(), Fail> {
     Ok(())
 }
 
-/// The first block comes again. The device begins by its call 0, the release is its call 1, and the
-/// reading of the freed block its call 2.
+/// What `free_first` answers on a new rig of three blocks over a device, and what it costs.
+fn run_first<D: Device>(
+    alloc: Global,
+    device: &mut D,
+) -> Result<(Result<[u64; 4], EmFault>, Cost), Fail>
+    requires { (D.state device.old).blocks ≡ 0 }
+{
+    let mut rig = opened(alloc, 3, device)?;
+    let answer = free_first(&mut rig);
+    Ok((answer, ended(rig)))
+}
+
+/// The same over a device in memory of which this call fails.
+fn run_first_kept(alloc: Global, failing: u64) -> Result<(Result<[u64; 4], EmFault>, Cost), Fail> {
+    let mut device = MemDevice::new(alloc, &[failing])?;
+    run_first(alloc, &mut device)
+}
+
+/// The first block comes again.
 #[test]
 fn a_freed_block_comes_again(rt: HostRuntime) -> Result<(), Fail> {
-    for (failing, answer, cost) in [
-        (9, Ok([0, 1, 0, 2]), (3, 3, 2, 1)),
-        (1, Err(EmFault::DeviceFault), (2, 2, 1, 1)),
-        (2, Err(EmFault::DeviceFault), (1, 2, 2, 1)),
-    ] {
-        let mut device = MemDevice::new(rt.alloc(), &[failing])?;
-        let mut rig = opened(rt.alloc(), 3, &mut device)?;
-        assert_eq!(rt; free_first(&mut rig), answer, "call {failing}");
-        assert_eq!(rt; ended(rig), cost, "call {failing}");
+    let ended = run_first_kept(rt.alloc(), 9)?;
+    assert_eq!(rt; ended, (Ok([0, 1, 0, 2]), (3, 3, 2, 1)));
+    Ok(())
+}
+
+/// The device begins by its call 0, the release is its call 1, and the reading of the freed block
+/// its call 2.
+#[test]
+fn a_release_and_a_freed_block_fail(rt: HostRuntime) -> Result<(), Fail> {
+    for (failing, used) in [(1, 2), (2, 1)] {
+        let ended = run_first_kept(rt.alloc(), failing)?;
+        let failed = Err(EmFault::DeviceFault);
+        assert_eq!(rt; ended, (failed, (used, 2, failing, 1)), "call {failing}");
     }
     Ok(())
+}
+
+/// What `free_both` answers on a new rig of four blocks over a device, and what it costs.
+fn run_both<D: Device>(
+    alloc: Global,
+    device: &mut D,
+) -> Result<(Result<[u64; 3], EmFault>, Cost), Fail>
+    requires { (D.state device.old).blocks ≡ 0 }
+{
+    let mut rig = opened(alloc, 4, device)?;
+    let answer = free_both(&mut rig);
+    Ok((answer, ended(rig)))
 }
 
 /// The block that was freed last comes first.
 #[test]
 fn freed_blocks_come_again_before_new_ones(rt: HostRuntime) -> Result<(), Fail> {
     let mut device = MemDevice::new(rt.alloc(), &[])?;
-    let mut rig = opened(rt.alloc(), 4, &mut device)?;
-    assert_eq!(rt; free_both(&mut rig), Ok([1, 0, 2]));
-    assert_eq!(rt; ended(rig), (3, 3, 4, 1));
+    let ended = run_both(rt.alloc(), &mut device)?;
+    assert_eq!(rt; ended, (Ok([1, 0, 2]), (3, 3, 4, 1)));
     Ok(())
 }
 
 /// What a device gives in place of the header of the one freed block: other words, another kind, a
-/// number of records, a word d, links though there is no other freed block, and the right header.
+/// number of records, a word d, and links though there is no other freed block.
 #[test]
 fn a_damaged_header_is_refused(rt: HostRuntime) -> Result<(), Fail> {
     let fault = Err(EmFault::Damaged { block: 0 });
-    let damaged = (1, 2, 2, 1);
-    for (a, b, c, d, answer, cost) in [
-        (u64::MAX, u64::MAX, u64::MAX, u64::MAX, fault, damaged),
-        (0, 0, 1, 0, fault, damaged),
-        (0, 1, 3, 0, fault, damaged),
-        (0, 0, 3, 1, fault, damaged),
-        (1, 0, 3, 0, fault, damaged),
-        (3, 0, 3, 0, fault, damaged),
-        (0, 0, 3, 0, Ok([0, 1, 0, 2]), (3, 3, 2, 1)),
+    for (a, b, c, d) in [
+        (u64::MAX, u64::MAX, u64::MAX, u64::MAX),
+        (0, 0, 1, 0),
+        (0, 1, 3, 0),
+        (0, 0, 3, 1),
+        (1, 0, 3, 0),
+        (3, 0, 3, 0),
     ] {
-        let mut device = Untold::giving(Record { a, b, c, d });
-        let mut rig = opened(rt.alloc(), 3, &mut device)?;
-        assert_eq!(rt; free_first(&mut rig), answer);
-        assert_eq!(rt; ended(rig), cost);
+        let ended = run_first(rt.alloc(), &mut Untold::giving(Record { a, b, c, d }))?;
+        assert_eq!(rt; ended, (fault, (1, 2, 2, 1)));
     }
     Ok(())
 }
 
-/// Two blocks are freed, block 1 after block 0. With no link, or one past the four blocks, its header
-/// is refused. With a link to block 0 it comes, and then the same header is refused for block 0, which
-/// is the last one.
+/// The right header of a freed block that is the only one.
+#[test]
+fn the_right_header_is_taken(rt: HostRuntime) -> Result<(), Fail> {
+    let ended = run_first(rt.alloc(), &mut Untold::giving(linked(0)))?;
+    assert_eq!(rt; ended, (Ok([0, 1, 0, 2]), (3, 3, 2, 1)));
+    Ok(())
+}
+
+/// The header of a freed block with this link.
+fn linked(link: u64) -> Record {
+    Record {
+        a: link,
+        b: 0,
+        c: 3,
+        d: 0,
+    }
+}
+
+/// Two blocks are freed, block 1 after block 0. With no link, or one past the four blocks, its
+/// header is refused. With a link to block 0 it comes, and then the same header is refused for
+/// block 0, which is the last one.
 #[test]
 fn a_link_is_tested_by_the_blocks_that_are_freed(rt: HostRuntime) -> Result<(), Fail> {
-    for (a, block, cost) in [
+    for (link, block, cost) in [
         (0, 1, (0, 2, 3, 1)),
         (5, 1, (0, 2, 3, 1)),
         (1, 0, (1, 2, 4, 1)),
     ] {
-        let mut device = Untold::giving(Record {
-            a,
-            b: 0,
-            c: 3,
-            d: 0,
-        });
-        let mut rig = opened(rt.alloc(), 4, &mut device)?;
-        assert_eq!(rt; free_both(&mut rig), Err(EmFault::Damaged { block }));
-        assert_eq!(rt; ended(rig), cost);
+        let ended = run_both(rt.alloc(), &mut Untold::giving(linked(link)))?;
+        assert_eq!(rt;
+            ended,
+            (Err(EmFault::Damaged { block }), cost),
+            "link {link}"
+        );
     }
     Ok(())
 }

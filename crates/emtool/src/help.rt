@@ -33,6 +33,12 @@ Options, before FILE:
                 number of frames in use at once; not with exit code 1 or 7
                 example: emtool map --stats prices.txt
 
+The scratch device is the file `emtool.scratch` in the current folder. Before it reads FILE a run
+makes that file, or empties the one that is there. At its end it removes the file, also after a
+fault. The file has 32 times --block bytes for each block that was in use at once, and there are at
+most --blocks of them. Two runs at the same time want two folders, or the answers may be wrong.
+Neither FILE nor the output may be that file.
+
 Numbers are decimal, from 0 to 18446744073709551615, with at most 20 digits.
 
 Exit codes:
@@ -41,8 +47,11 @@ Exit codes:
   2  malformed: a line of the file is faulty  (a map file with the line `put 1`)
   3  an input could not be read               (emtool map no-such-file)
   4  the output could not be written          (emtool map prices.txt > /dev/full)
-  5  the scratch device failed                (more commands than memory holds, where it is kept)
+  5  the scratch device failed                (a full disk, a folder that takes no new file, or
+                                              something else of the name `emtool.scratch`)
   6  the scratch device is full               (--blocks=1 under a long file)
   7  no memory for the frames                 (--block=65536 --frames=1024 where 2 GiB can't be had)
-  8  a block of the scratch device is damaged (never today, while the device is kept in memory)
+  8  a block of the scratch device is damaged (as after another program wrote to `emtool.scratch`;
+                                              not every such change is found: other answers with
+                                              code 0 are possible too)
 ";

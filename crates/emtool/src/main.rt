@@ -34,17 +34,21 @@ use crate::help::{HELP, VERSION};
 use crate::outcome::Outcome;
 use crate::report::report;
 use crate::status::Status;
-use em_frames::{Grant, MemDevice};
+use em_file::FileDevice;
+use em_frames::Grant;
 use em_io::{DiskShelf, Sink, StdSink, send};
 use std::alloc::Global;
 use std::process::ExitCode;
-use std::{env, io};
+use std::{env, fs, io};
 
 /// The exit code if there is no memory.
 const NO_MEMORY: u8 = 7;
 
 /// The exit code where a word isn't UTF-8.
 const USAGE: u8 = 1;
+
+/// The file of the scratch device, in the current folder. It means nothing after a run.
+const SCRATCH: &str = "emtool.scratch";
 
 /// The words after the program's name, or the exit code of why they can't be had.
 fn words_of(rt: &HostRuntime, alloc: Global) -> Result<Vec<String>, u8> {
@@ -85,9 +89,7 @@ fn main(rt: HostRuntime) -> ExitCode {
     if let Some(text) = asked_text(&words) {
         return ExitCode::from(print_text(text, &mut out, &mut err).code());
     }
-    let Ok(mut device) = MemDevice::new(alloc, &[]) else {
-        return ExitCode::from(NO_MEMORY);
-    };
+    let mut device = FileDevice::new(&rt, alloc, SCRATCH);
     let mut shelf = DiskShelf::new(&rt);
     let status = top::emtool(
         &words,
@@ -97,6 +99,10 @@ fn main(rt: HostRuntime) -> ExitCode {
         &mut out,
         &mut err,
     );
+    // Only a file that the run made or emptied is removed. A removal that fails changes no status.
+    if device.is_begun() {
+        let _gone = fs::remove_file(&rt, SCRATCH);
+    }
     ExitCode::from(status.code())
 }
 

@@ -1,0 +1,310 @@
+-- Each row of the order takes pieces of the text, and a whole text that was read ends there.
+use Rattle.std.proofs.Common.{◌≡◌, ◌+◌, ◌-◌, ◌*◌, Bool, true, false, cond, List, [], ℕ, sym, ap, ◌∙◌, refl, arith, length, ◌++◌, drop}
+use Rattle.std.specs.Prelude.{codes, nat_eq}
+use Rattle.std.specs.List.{starts_with}
+use Rattle.std.proofs.lemmas.Slice.Eq.{starts_is}
+use Rattle.std.proofs.lemmas.Bool.Decides.{Decides-eqb}
+use Rattle.aig_defs.specs.declared.fault.AigKind.{AigKind}
+use Rattle.aig_defs.specs.declared.fault.AigKind.TheVariants.{BadMagic, BadSeparator, Extension}
+use Rattle.aig_defs.specs.declared.circuit.Header.{Header}
+use Rattle.aig_defs.specs.declared.circuit.Latch.{Latch}
+use Rattle.aig_defs.specs.declared.circuit.Gate.{Gate}
+use Rattle.aig_defs.specs.declared.form.Form.{Form}
+use Rattle.aig_defs.specs.declared.form.Form.TheVariants.{Ascii, Binary}
+use Rattle.aig_defs.specs.declared.form.Limit.{Limit}
+use Rattle.aig_defs.specs.declared.form.Limit.TheVariants.{Count, Defining, Used}
+use Rattle.aig_defs.specs.Circuit.{Circuit}
+use Rattle.aig_defs.specs.Items.{Reading, Reads, Fails, Item, fails, and_then, ◌>>=◌, ◌>>◌, times, line_end, last_end, number, delta}
+use Rattle.aig_defs.specs.Order.{magic, header_number, header_line, literal_line, latch_line, next_line, gate_line, gate_deltas, input_row, latch_row, output_row, gate_row, tail_at, tail, sections, after_magic, circuit_text}
+use Rattle.aig_defs.proofs.Items.{through, Piece, TakesPieces, TakesBytes, pieces_of, bytes_then, piece_none, piece_then, piece_as, value_takes, takes_then, look_cases, space_takes, end_takes, number_takes, delta_reads, times_take}
+
+-- the header
+pub header_number_takes : TakesPieces header_number
+header_number_takes = takes_then space_takes (λ _. pieces_of (number_takes Count))
+
+pub counted_takes : (fit : Bool) (h : Header) (kind : AigKind) (place : ℕ)
+    → TakesPieces (cond fit (Reads h) (fails kind place))
+counted_takes true h kind place p x a q y e = value_takes h p x a q y e
+counted_takes false h kind place p x a q y e = cc
+
+pub last_end_takes : TakesPieces last_end
+last_end_takes = end_takes (λ byte. cond (nat_eq byte 32) Extension BadSeparator)
+
+pub line_end_takes : TakesPieces line_end
+line_end_takes = end_takes (λ _. BadSeparator)
+
+pub header_takes : (form : Form) → TakesPieces (header_line form)
+header_takes form =
+    takes_then header_number_takes (λ m.
+    takes_then header_number_takes (λ i.
+    takes_then header_number_takes (λ l.
+    takes_then header_number_takes (λ o.
+    takes_then header_number_takes (λ a.
+    takes_then (counted_takes _ _ _ _) (λ h.
+    takes_then last_end_takes (λ _. value_takes h)))))))
+
+-- the lines of the ASCII form
+pub literal_line_takes : (limit : Limit) → TakesBytes (literal_line limit)
+literal_line_takes limit =
+    bytes_then (number_takes limit) (λ literal.
+    takes_then line_end_takes (λ _. value_takes literal))
+
+pub used_takes : (h : Header) → TakesPieces (number (Used h.max))
+used_takes h = pieces_of (number_takes (Used h.max))
+
+pub latch_line_takes : (h : Header) → TakesBytes (latch_line h)
+latch_line_takes h =
+    bytes_then (number_takes (Defining h.max)) (λ current.
+    takes_then space_takes (λ _.
+    takes_then (used_takes h) (λ next.
+    takes_then last_end_takes (λ _.
+    value_takes (record { current = current; next = next })))))
+
+pub gate_line_takes : (h : Header) → TakesBytes (gate_line h)
+gate_line_takes h =
+    bytes_then (number_takes (Defining h.max)) (λ lhs.
+    takes_then space_takes (λ _.
+    takes_then (used_takes h) (λ rhs0.
+    takes_then space_takes (λ _.
+    takes_then (used_takes h) (λ rhs1.
+    takes_then line_end_takes (λ _.
+    value_takes (record { lhs = lhs; rhs0 = rhs0; rhs1 = rhs1 })))))))
+
+-- the rows of the binary form
+next_line_takes : (h : Header) (j : ℕ) → TakesBytes (next_line h j)
+next_line_takes h j =
+    bytes_then (number_takes (Used h.max)) (λ next.
+    takes_then last_end_takes (λ _.
+    value_takes (record { current = 2 * (h.inputs + 1 + j); next = next })))
+
+pub delta_takes : (low high : ℕ) → TakesBytes (delta low high)
+delta_takes low high p x v q y e = let d = delta_reads low high p x v q y e in (d.piece, d.some)
+
+gate_deltas_take : (h : Header) (i : ℕ) → TakesBytes (gate_deltas h i)
+gate_deltas_take h i =
+    let lhs = 2 * (h.inputs + h.latches + 1 + i) in
+    bytes_then (delta_takes 1 lhs) (λ delta0.
+    takes_then (pieces_of (delta_takes 0 (lhs - delta0))) (λ delta1.
+    value_takes (record { lhs = lhs; rhs0 = lhs - delta0; rhs1 = lhs - delta0 - delta1 })))
+
+-- the rows of sections: each takes bytes, but for an input of the binary form, which takes none
+pub ascii_input_takes : (h : Header) (i : ℕ) → TakesBytes (input_row Ascii h i)
+ascii_input_takes h i = literal_line_takes (Defining h.max)
+
+pub input_row_takes : (form : Form) (h : Header) (i : ℕ) → TakesPieces (input_row form h i)
+input_row_takes Ascii h i = pieces_of (ascii_input_takes h i)
+input_row_takes Binary h i = value_takes (2 * (i + 1))
+
+pub latch_row_takes : (form : Form) (h : Header) (j : ℕ) → TakesBytes (latch_row form h j)
+latch_row_takes Ascii h j = latch_line_takes h
+latch_row_takes Binary h j = next_line_takes h j
+
+pub output_row_takes : (h : Header) (j : ℕ) → TakesBytes (output_row h j)
+output_row_takes h j = literal_line_takes (Used h.max)
+
+pub gate_row_takes : (form : Form) (h : Header) (i : ℕ) → TakesBytes (gate_row form h i)
+gate_row_takes Ascii h i = gate_line_takes h
+gate_row_takes Binary h i = gate_deltas_take h i
+
+-- the sections
+pub inputs_take : (form : Form) (h : Header) → TakesPieces (times h.inputs 0 (input_row form h))
+inputs_take form h = times_take h.inputs 0 _ (input_row_takes form h)
+
+pub latches_take : (form : Form) (h : Header) → TakesPieces (times h.latches 0 (latch_row form h))
+latches_take form h = times_take h.latches 0 _ (λ j. pieces_of (latch_row_takes form h j))
+
+pub outputs_take : (h : Header) → TakesPieces (times h.outputs 0 (output_row h))
+outputs_take h = times_take h.outputs 0 _ (λ j. pieces_of (output_row_takes h j))
+
+pub gates_take : (form : Form) (h : Header) → TakesPieces (times h.gates 0 (gate_row form h))
+gates_take form h = times_take h.gates 0 _ (λ i. pieces_of (gate_row_takes form h i))
+
+-- the tail leaves nothing
+pub tail_ends : (p : ℕ) (x : List ℕ) (a : Unit {0}) (q : ℕ) (y : List ℕ) → tail p x ≡ Reads a q y
+    → (x ≡ []) × (p ≡ q) × (y ≡ [])
+tail_ends p x a q y e = look_cases (λ x. (x ≡ []) × (p ≡ q) × (y ≡ [])) tail_at p x a q y e
+    (λ e. (refl, cc, cc)) (λ byte t low e. cc)
+
+pub tail_takes : TakesPieces tail
+tail_takes p x a q y e =
+    let none = tail_ends p x a q y e in
+    rw (none.0, sym (none.1), none.2) (piece_none p [])
+
+-- the circuit of these sections
+abbrev pub circuit_of : Header → List ℕ → List Latch → List ℕ → List Gate → Circuit
+circuit_of h is ls os gs =
+    record { header = h; inputs = is; latches = ls; outputs = os; gates = gs }
+
+pub sections_take : (form : Form) (h : Header) → TakesPieces (sections form h)
+sections_take form h =
+    takes_then (inputs_take form h) (λ inputs.
+    takes_then (latches_take form h) (λ latches.
+    takes_then (outputs_take h) (λ outputs.
+    takes_then (gates_take form h) (λ gates.
+    takes_then tail_takes (λ _. value_takes (circuit_of h inputs latches outputs gates))))))
+
+pub after_magic_takes : (form : Form) → TakesPieces (after_magic form)
+after_magic_takes form = takes_then (header_takes form) (sections_take form)
+
+-- the magic is three bytes
+three_bytes : (x bytes : List ℕ) → x ≡ bytes ++ drop 3 x → length bytes ≡ 3 → Piece 0 x 3 (drop 3 x)
+three_bytes x bytes text three = record {
+  bytes = bytes;
+  text = text;
+  place = omega (arith, three);
+  within = λ low. omega arith;
+}
+
+magic_by : (ascii binary : Bool) (x : List ℕ) (form : Form) (q : ℕ) (y : List ℕ)
+    → starts_with nat_eq x (codes "aag") ≡ ascii → starts_with nat_eq x (codes "aig") ≡ binary
+    → cond ascii (Reads Ascii (0 + 3) (drop 3 x))
+    (cond binary (Reads Binary (0 + 3) (drop 3 x)) (Fails BadMagic 0)) ≡ Reads form q y
+    → Piece 0 x q y
+magic_by true binary x form q y a b e =
+    let place : 3 ≡ q = cc in
+    let left : drop 3 x ≡ y = cc in
+    let is = starts_is Decides-eqb x (codes "aag") true (sym a) in
+    piece_as (three_bytes x (codes "aag") (is.0 refl) refl) place left
+magic_by false true x form q y a b e =
+    let place : 3 ≡ q = cc in
+    let left : drop 3 x ≡ y = cc in
+    let is = starts_is Decides-eqb x (codes "aig") true (sym b) in
+    piece_as (three_bytes x (codes "aig") (is.0 refl) refl) place left
+magic_by false false x form q y a b e = cc
+
+pub magic_piece : (x : List ℕ) (form : Form) (q : ℕ) (y : List ℕ) → magic 0 x ≡ Reads form q y
+    → Piece 0 x q y
+magic_piece x form q y e = magic_by _ _ x form q y refl refl e
+
+-- what was read after the magic leaves nothing
+abbrev pub EndsText : {A : Type 0} → Item A → Type 0
+EndsText {A} item = (p : ℕ) (x : List ℕ) (a : A) (q : ℕ) (y : List ℕ) → item p x ≡ Reads a q y
+    → y ≡ []
+
+ends_then : {A B : Type 0} (item : Item A) {next : A → Item B} → ((a : A) → EndsText (next a))
+    → EndsText (item >>= next)
+ends_then {A} {B} item {next} f p x b q y e =
+    let t = through (item p x) next b q y e in f t.value t.place t.left b q y t.after
+
+tail_then : (c : Circuit) → EndsText (tail >> Reads c)
+tail_then c p x d q y e =
+    let t = through (tail p x) _ d q y e in
+    let none = tail_ends p x t.value t.place t.left t.first in
+    let same : t.left ≡ y = cc (t.after) in
+    sym same ∙ none.2
+
+pub sections_end : (form : Form) (h : Header) → EndsText (sections form h)
+sections_end form h =
+    ends_then (times h.inputs 0 (input_row form h)) (λ inputs.
+    ends_then (times h.latches 0 (latch_row form h)) (λ latches.
+    ends_then (times h.outputs 0 (output_row h)) (λ outputs.
+    ends_then (times h.gates 0 (gate_row form h)) (λ gates.
+    tail_then (circuit_of h inputs latches outputs gates)))))
+
+-- the sections of a circuit that was read, with the places and what is left after each
+pub record ReadsSections (form : Form) (h : Header) (p : ℕ) (x : List ℕ) (c : Circuit) (q : ℕ)
+    (y : List ℕ) : Type 0 where
+  pub after_inputs : ℕ
+  pub left_inputs : List ℕ
+  pub inputs : times h.inputs 0 (input_row form h) p x ≡ Reads c.inputs after_inputs left_inputs
+  pub after_latches : ℕ
+  pub left_latches : List ℕ
+  pub latches :
+      times h.latches 0 (latch_row form h) after_inputs left_inputs
+      ≡ Reads c.latches after_latches left_latches
+  pub after_outputs : ℕ
+  pub left_outputs : List ℕ
+  pub outputs :
+      times h.outputs 0 (output_row h) after_latches left_latches
+      ≡ Reads c.outputs after_outputs left_outputs
+  pub after_gates : ℕ
+  pub left_gates : List ℕ
+  pub gates :
+      times h.gates 0 (gate_row form h) after_outputs left_outputs
+      ≡ Reads c.gates after_gates left_gates
+  pub tail : tail after_gates left_gates ≡ Reads tt q y
+  pub header : h ≡ c.header
+
+tail_by : (r : Reading (Unit {0})) (d c : Circuit) (q : ℕ) (y : List ℕ)
+    → and_then r (λ _. Reads d) ≡ Reads c q y → (r ≡ Reads tt q y) × (d ≡ c)
+tail_by (Reads u p x) d c q y e =
+    let place : p ≡ q = cc in
+    let left : x ≡ y = cc in
+    (ap (λ p. Reads tt p x) place ∙ ap (λ x. Reads tt q x) left, cc)
+tail_by (Fails kind place) d c q y e = cc
+
+-- a part of one circuit that was read, as the part of another that is the same
+part_as : {A : Type 0} (r : Reading A) (part : Circuit → A) (d c : Circuit) (p : ℕ) (x : List ℕ)
+    → r ≡ Reads (part d) p x → d ≡ c → r ≡ Reads (part c) p x
+part_as r part d c p x e same = e ∙ ap (λ c. Reads (part c) p x) same
+
+same_header : (d c : Circuit) → d ≡ c → d.header ≡ c.header
+same_header d c same = ap (λ (c : Circuit). c.header) same
+
+pub sections_read : (form : Form) (h : Header) (p : ℕ) (x : List ℕ) (c : Circuit) (q : ℕ)
+    (y : List ℕ)
+    → sections form h p x ≡ Reads c q y → ReadsSections form h p x c q y
+sections_read form h p x c q y e =
+    let i = through (times h.inputs 0 (input_row form h) p x) _ c q y e in
+    let l = through (times h.latches 0 (latch_row form h) i.place i.left) _ c q y i.after in
+    let o = through (times h.outputs 0 (output_row h) l.place l.left) _ c q y l.after in
+    let a = through (times h.gates 0 (gate_row form h) o.place o.left) _ c q y o.after in
+    let d = circuit_of h i.value l.value o.value a.value in
+    let t = tail_by (tail a.place a.left) d c q y a.after in
+    record {
+      after_inputs = i.place;
+      left_inputs = i.left;
+      inputs = part_as _ (λ (c : Circuit). c.inputs) d c i.place i.left i.first t.1;
+      after_latches = l.place;
+      left_latches = l.left;
+      latches = part_as _ (λ (c : Circuit). c.latches) d c l.place l.left l.first t.1;
+      after_outputs = o.place;
+      left_outputs = o.left;
+      outputs = part_as _ (λ (c : Circuit). c.outputs) d c o.place o.left o.first t.1;
+      after_gates = a.place;
+      left_gates = a.left;
+      gates = part_as _ (λ (c : Circuit). c.gates) d c a.place a.left a.first t.1;
+      tail = t.0;
+      header = same_header d c t.1;
+    }
+
+-- a whole text that was read
+pub record ReadsText (x : List ℕ) (f : Form) (c : Circuit) (q : ℕ) (y : List ℕ) : Type 0 where
+  pub place : ℕ
+  pub left : List ℕ
+  pub magic : magic 0 x ≡ Reads f place left
+  pub circuit : after_magic f place left ≡ Reads c q y
+
+circuit_by : (f : Form) (r : Reading Circuit) (form : Form) (c : Circuit) (q : ℕ) (y : List ℕ)
+    → and_then {B = Form × Circuit} r (λ circuit. Reads (f, circuit)) ≡ Reads (form, c) q y
+    → (f ≡ form) × (r ≡ Reads c q y)
+circuit_by f (Reads d p x) form c q y e =
+    let both : ◌≡◌ {A = Form × Circuit} (f, d) (form, c) = cc in
+    let circuit : d ≡ c = ap (λ (z : Form × Circuit). z.1) both in
+    (ap (λ (z : Form × Circuit). z.0) both, cc)
+circuit_by f (Fails kind place) form c q y e = cc
+
+pub text_reads : (x : List ℕ) (f : Form) (c : Circuit) (q : ℕ) (y : List ℕ)
+    → circuit_text 0 x ≡ Reads (f, c) q y → ReadsText x f c q y
+text_reads x f c q y e =
+    let t = through (magic 0 x) _ (f, c) q y e in
+    let rest = circuit_by t.value (after_magic t.value t.place t.left) f c q y t.after in
+    record {
+      place = t.place;
+      left = t.left;
+      magic = t.first ∙ ap (λ form. Reads form t.place t.left) rest.0;
+      circuit = ap (λ form. after_magic form t.place t.left) (sym rest.0) ∙ rest.1;
+    }
+
+pub text_piece : (x : List ℕ) (f : Form) (c : Circuit) (q : ℕ) (y : List ℕ) → ReadsText x f c q y
+    → Piece 0 x q y
+text_piece x f c q y t =
+    let rest = after_magic_takes f t.place t.left c q y t.circuit in
+    piece_then (magic_piece x f t.place t.left t.magic) rest
+
+after_magic_ends : (f : Form) → EndsText (after_magic f)
+after_magic_ends f = ends_then (header_line f) (sections_end f)
+
+pub text_ends : (x : List ℕ) (f : Form) (c : Circuit) (q : ℕ) (y : List ℕ) → ReadsText x f c q y
+    → y ≡ []
+text_ends x f c q y t = after_magic_ends f t.place t.left c q y t.circuit

@@ -1,0 +1,59 @@
+-- The first fault of a text that is computed is the one that the words say.
+use Rattle.std.proofs.Common.{◌≡◌, List, ℕ, ap, ◌∙◌, refl, Option, Some, None}
+use Rattle.aig_defs.specs.declared.fault.AigKind.{AigKind}
+use Rattle.aig_defs.specs.declared.form.Form.{Form}
+use Rattle.aig_defs.specs.Circuit.{Circuit}
+use Rattle.aig_defs.specs.Items.{Reading, Reads, Fails}
+use Rattle.aig_defs.specs.Order.{circuit_text}
+use Rattle.aig_defs.specs.TextFault.{IsFaultOfText, broken, spelled, IsFaultlessText, reading_fault, text_fault}
+use Rattle.aig_defs.proofs.Order.{text_reads}
+use Rattle.aig_defs.proofs.Laws.{spells_by}
+use Rattle.aig_defs.proofs.Faults.{fault_found, finds_fault, faultless_found, finds_faultless}
+
+same_fault : (kind kind2 : AigKind) (place place2 : ℕ)
+    → ◌≡◌ {A = Option (AigKind × ℕ)} (Some (kind, place)) (Some (kind2, place2))
+    → (kind ≡ kind2) × (place ≡ place2)
+same_fault kind kind2 place place2 e =
+    let same : ◌≡◌ {A = AigKind × ℕ} (kind, place) (kind2, place2) = cc in
+    (ap (λ (z : AigKind × ℕ). z.0) same, ap (λ (z : AigKind × ℕ). z.1) same)
+
+found_by : (x : List ℕ) (r : Reading (Form × Circuit)) (kind : AigKind) (place : ℕ)
+    → circuit_text 0 x ≡ r → reading_fault r ≡ Some (kind, place) → IsFaultOfText x kind place
+found_by x (Reads (form, c) q y) kind place e f =
+    spelled form c (spells_by x form c q y (text_reads x form c q y e)) (fault_found c kind place f)
+found_by x (Fails kind2 place2) kind place e f =
+    let same = same_fault kind2 kind place2 place f in
+    broken (record {
+      fails = e ∙ ap (λ k. Fails k place2) same.0 ∙ ap (λ p. Fails kind p) same.1;
+    })
+
+-- What it finds is the text's first fault.
+pub text_fault_found : (x : List ℕ) (kind : AigKind) (place : ℕ)
+    → text_fault x ≡ Some (kind, place) → IsFaultOfText x kind place
+text_fault_found x kind place f = found_by x (circuit_text 0 x) kind place refl f
+
+-- It finds the text's first fault.
+pub finds_text_fault : (x : List ℕ) (kind : AigKind) (place : ℕ) → IsFaultOfText x kind place
+    → text_fault x ≡ Some (kind, place)
+finds_text_fault x kind place (broken b) = ap reading_fault b.fails
+finds_text_fault x kind place (spelled form c s f) =
+    ap reading_fault s.reads ∙ finds_fault c kind place f
+
+faultless_by : (x : List ℕ) (r : Reading (Form × Circuit)) → circuit_text 0 x ≡ r
+    → reading_fault r ≡ None → IsFaultlessText x
+faultless_by x (Reads (form, c) q y) e f = record {
+  form = form;
+  circuit = c;
+  spelled = spells_by x form c q y (text_reads x form c q y e);
+  faultless = faultless_found c f;
+}
+faultless_by x (Fails kind place) e f = cc
+
+-- If it finds none, the text has none.
+pub faultless_text_found : (x : List ℕ) → text_fault x ≡ None → IsFaultlessText x
+faultless_text_found x f = faultless_by x (circuit_text 0 x) refl f
+
+-- It finds none in a text that has none.
+pub finds_faultless_text : (x : List ℕ) → IsFaultlessText x → text_fault x ≡ None
+finds_faultless_text x t =
+    ap reading_fault t.spelled.reads ∙ finds_faultless t.circuit t.faultless

@@ -1,0 +1,9 @@
+pub mod Begun
+pub mod Chains
+pub mod Circuit
+pub mod Faults
+pub mod Founded
+pub mod Items
+pub mod Order
+pub mod TextFault
+pub mod Value

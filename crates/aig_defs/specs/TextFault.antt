@@ -1,0 +1,31 @@
+-- The first fault of a circuit's text: in words, and computed.
+use Rattle.std.specs.Prelude.{ℕ, List, Option, Some}
+use Rattle.aig_defs.specs.declared.fault.AigKind.{AigKind}
+use Rattle.aig_defs.specs.declared.form.Form.{Form}
+use Rattle.aig_defs.specs.Circuit.{Circuit}
+use Rattle.aig_defs.specs.Items.{Reading, Reads, Fails}
+use Rattle.aig_defs.specs.Order.{circuit_text, Spells, Breaks}
+use Rattle.aig_defs.specs.Faults.{IsFaultOf, IsFaultless, circuit_fault}
+
+-- the first fault of a text: it breaks so, or it spells a circuit whose first fault this is
+pub data IsFaultOfText (x : List ℕ) (kind : AigKind) (place : ℕ) : Type 0 where
+  broken : Breaks x kind place → IsFaultOfText x kind place
+  spelled :
+      (form : Form) (c : Circuit) → Spells form x c → IsFaultOf c kind place
+      → IsFaultOfText x kind place
+
+-- a text with no fault: it spells a circuit that has none
+pub record IsFaultlessText (x : List ℕ) : Type 0 where
+  pub form : Form
+  pub circuit : Circuit
+  pub spelled : Spells form x circuit
+  pub faultless : IsFaultless circuit
+
+-- the fault of a reading, else the first fault of the circuit that was read
+abbrev pub reading_fault : Reading (Form × Circuit) → Option (AigKind × ℕ)
+reading_fault (Reads (form, c) p x) = circuit_fault c
+reading_fault (Fails kind place) = Some (kind, place)
+
+-- the first fault of a text, or none
+abbrev pub text_fault : List ℕ → Option (AigKind × ℕ)
+text_fault x = reading_fault (circuit_text 0 x)

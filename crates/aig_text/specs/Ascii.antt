@@ -1,0 +1,112 @@
+-- What the reader of the ASCII form gives, and what it takes.
+use Rattle.std.specs.Prelude.{◌≡◌, ◌≤◌, ◌<◌, ◌+◌, ◌*◌, ℕ, max, [], Result, Ok, Err, IsTrue, IsOk}
+use Rattle.em_record.specs.Count.{Rose}
+use Rattle.em_space.specs.Ledger.{Session}
+use Rattle.em_space.specs.Rig.{RigState, IfFull, Owes}
+use Rattle.em_space.specs.declared.fault.EmFault.{EmFault}
+use Rattle.em_chain.specs.Chain.{IsChain, IsPacked, chain_items, payload_in}
+use Rattle.em_chain.specs.Counts.{ceiling}
+use Rattle.em_chain.specs.declared.chain.Chain.{Chain}
+use Rattle.aig_defs.specs.declared.form.Form.TheVariants.{Ascii}
+use Rattle.aig_defs.specs.Begun.{circuit_size, size_read}
+use Rattle.aig_defs.specs.Chains.{defs_of, gates_of, uses_of}
+use Rattle.aig_defs.specs.Circuit.{Circuit, IsCircuit, IsHeader}
+use Rattle.aig_defs.specs.Items.{Reads}
+use Rattle.aig_defs.specs.Order.{after_magic}
+use Rattle.aig_text.specs.Draft.{chains_blocks}
+use Rattle.aig_text.specs.Reads.{StopsAs}
+use Rattle.aig_text.specs.Source.{Source, left}
+use Rattle.aig_text.specs.declared.parts.Parts.{Parts}
+use Rattle.aig_text.specs.declared.stop.AigStop.{AigStop}
+use Rattle.aig_text.specs.declared.stop.AigStop.TheVariants as stop
+
+-- P of the fault, if a call on the rig gave up
+abbrev pub IfEmStop : AigStop → (EmFault → Type 0) → Type 0
+IfEmStop (stop.Fault kind place) P = Unit {0}
+IfEmStop stop.Read P = Unit {0}
+IfEmStop (stop.Em fault) P = P fault
+
+abbrev pub IfEm : {A : Type 0} → Result A AigStop → (EmFault → Type 0) → Type 0
+IfEm (Ok value) P = Unit {0}
+IfEm (Err e) P = IfEmStop e P
+
+-- A packed chain of n records.
+pub record IsPackedOf (s : RigState) (n : ℕ) (c : Chain) : Type 0 where
+  pub is : IsChain s c
+  pub packed : IsTrue s.device.told → IsPacked s c
+  pub count_is : c.count ≡ n
+  pub blocks_is : c.blocks ≡ ceiling n (payload_in s)
+
+-- The chains are those of this circuit.
+pub record ArePartsOf (s : RigState) (p : Parts) (c : Circuit) : Type 0 where
+  pub header : c.header ≡ p.header
+  pub is : IsCircuit c
+  pub defs : chain_items s p.defs ≡ defs_of c
+  pub gates : chain_items s p.gates ≡ gates_of c
+  pub uses : chain_items s p.uses ≡ uses_of c
+
+-- They are those of some circuit.
+pub record OfSomeCircuit (s : RigState) (p : Parts) : Type 0 where
+  pub circuit : Circuit
+  pub are : ArePartsOf s p circuit
+
+-- Three packed chains, as long as the header says, whose blocks weren't in use and are apart. If
+-- the device tells, they are those of a circuit, even if the shelf doesn't tell.
+pub record GivesParts (old new : RigState) (p : Parts) : Type 0 where
+  pub header : IsHeader p.header
+  pub defs : IsPackedOf new (p.header.inputs + p.header.latches + p.header.gates) p.defs
+  pub gates : IsPackedOf new p.header.gates p.gates
+  pub uses : IsPackedOf new (p.header.latches + p.header.outputs) p.uses
+  pub blocks : Session [] old new (chains_blocks new p.defs p.gates p.uses)
+  pub used : new.used ≡ old.used + (p.defs.blocks + p.gates.blocks + p.uses.blocks)
+  pub stands : IsTrue new.device.told → OfSomeCircuit new p
+
+-- the size of what was read after the magic, if `given` bytes of the text were given
+abbrev pub size_given : Source → ℕ → ℕ
+size_given text given = size_read Ascii given text.feed.place (left text)
+
+-- The text spells a circuit. The parts have its header, their chains its records, and these are as
+-- many as its size says.
+pub record StandsFor (old new : Source) (s : RigState) (p : Parts) : Type 0 where
+  pub circuit : Circuit
+  pub reads : after_magic Ascii old.feed.place (left old)
+      ≡ Reads circuit new.feed.place (left new)
+  pub header : circuit.header ≡ p.header
+  pub defs : IsTrue s.device.told → chain_items s p.defs ≡ defs_of circuit
+  pub gates : IsTrue s.device.told → chain_items s p.gates ≡ gates_of circuit
+  pub uses : IsTrue s.device.told → chain_items s p.uses ≡ uses_of circuit
+  pub counted : (given : ℕ) → new.feed.place ≤ given
+      → size_given old given ≡ p.defs.count + p.gates.count + p.uses.count
+
+-- the answer is a circuit's parts, or the fault of the text
+abbrev pub GivesCircuit : Source → Source → RigState → Result Parts AigStop → Type 0
+GivesCircuit old new s (Ok p) = StandsFor old new s p
+GivesCircuit old new s (Err e) = StopsAs e (after_magic Ascii old.feed.place (left old))
+
+-- What reading a circuit of this size takes at most.
+pub record TakesAtMost (size : ℕ) (old new : RigState) : Type 0 where
+  pub moves : new.moves ≤ old.moves + 4 * (ceiling size (payload_in old) + 6)
+  pub used : new.used ≤ old.used + (ceiling size (payload_in old) + 2)
+  pub most : new.most ≤ max old.most (old.used + (ceiling size (payload_in old) + 2))
+
+-- free blocks that are enough for a circuit of this size
+abbrev pub enough_for : RigState → ℕ → ℕ
+enough_for s size = ceiling (2 * size) (payload_in s) + 6
+
+-- it was full only if fewer blocks were free than are enough for a circuit of this size
+abbrev pub FullOnlyIf : {A : Type 0} → ℕ → RigState → Result A AigStop → Type 0
+FullOnlyIf size s result = IfEm result
+    (λ fault. IfFull fault (λ _. s.blocks < s.used + enough_for s size))
+
+-- a text that spells a circuit is read if there is room, and nothing fails
+abbrev pub CompletesReading : Source → Source → RigState → RigState → Result Parts AigStop → Type 0
+CompletesReading old new s t result = IsTrue s.device.told
+    → (Rose s.device.faults t.device.faults → ⊥) → (Rose old.faults new.faults → ⊥)
+    → (c : Circuit) (q : ℕ) → after_magic Ascii old.feed.place (left old) ≡ Reads c q []
+    → s.used + enough_for s (circuit_size c.header) ≤ s.blocks → IsOk result
+
+-- The blocks in use rose by at most the moves made, after a stop by at most three more. Or the
+-- count of moves stands at its end.
+abbrev pub OwesAfter : {A : Type 0} → RigState → RigState → Result A AigStop → Type 0
+OwesAfter old new (Ok value) = Owes 0 old new
+OwesAfter old new (Err e) = Owes 3 old new

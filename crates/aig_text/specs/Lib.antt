@@ -1,0 +1,10 @@
+pub mod Ascii
+pub mod Draft
+pub mod Limits
+pub mod Listed
+pub mod Listing
+pub mod Magic
+pub mod Moment
+pub mod Reads
+pub mod Sections
+pub mod Source

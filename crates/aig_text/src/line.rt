@@ -1,0 +1,117 @@
+// The lines that a circuit's text is made of.
+ghost use Rattle.std.specs.Prelude.{◌≡◌, ◌+◌, ◌^◌, ◌<◌, ◌≤◌, [], IfOk, IsTrue, None, OnOk};
+ghost use Rattle.aig_defs.specs.Circuit.{IsGate, IsHeader, IsLatch};
+ghost use Rattle.aig_defs.specs.Items.{number_fault};
+ghost use Rattle.aig_defs.specs.Order.{header_number, header_line, counts_fit, literal_line, latch_line, gate_line, tail};
+ghost use Rattle.aig_defs.specs.declared.form.Form.TheVariants.{Ascii};
+ghost use Rattle.aig_text.specs.Limits.{IsLimit};
+ghost use Rattle.aig_text.specs.Reads.{ReadsItem};
+ghost use Rattle.aig_text.specs.Source.{CanRead, source, left};
+
+use crate::item::{last_end, line_end, look, number, space};
+use crate::stop::{AigStop, fault};
+use aig_defs::{AigKind, Gate, Header, Latch, Limit};
+use em_io::{Feed, Shelf};
+
+/// A space and a number of the header.
+#[tactic(auto, using(crate::proofs::Steadies::steadies))]
+fn header_number<H: Shelf>(feed: &mut Feed, shelf: &mut H) -> Result<u64, AigStop>
+    requires { CanRead (source H.Shelf feed.old shelf.old) }
+    ensures reads { ReadsItem H.tells header_number (source H.Shelf feed.old shelf.old)
+        (source H.Shelf feed.new shelf.new) result }
+    ensures most { IfOk result (λ number. number ≤ 2 ^ 40) }
+{
+    space(feed, shelf)?;
+    number(feed, shelf, Limit::Count)
+}
+
+/// The line of the header, after the magic.
+#[tactic(auto, using(crate::proofs::Steadies::steadies))]
+pub fn header_line<H: Shelf>(feed: &mut Feed, shelf: &mut H) -> Result<Header, AigStop>
+    requires { CanRead (source H.Shelf feed.old shelf.old) }
+    ensures reads { ReadsItem H.tells (header_line Ascii) (source H.Shelf feed.old shelf.old)
+        (source H.Shelf feed.new shelf.new) result }
+    ensures is { IfOk result (λ header. IsHeader header) }
+{
+    let header = Header {
+        max: header_number(feed, shelf)?,
+        inputs: header_number(feed, shelf)?,
+        latches: header_number(feed, shelf)?,
+        outputs: header_number(feed, shelf)?,
+        gates: header_number(feed, shelf)?,
+    };
+    if header.inputs + header.latches + header.gates > header.max {
+        return fault(AigKind::BadCounts, 4);
+    }
+    last_end(feed, shelf)?;
+    Ok(header)
+}
+
+/// A literal alone on its line.
+#[tactic(auto, using(crate::proofs::Steadies::steadies))]
+pub fn literal_line<H: Shelf>(feed: &mut Feed, shelf: &mut H, limit: Limit) -> Result<u64, AigStop>
+    requires open { CanRead (source H.Shelf feed.old shelf.old) }
+    requires limit { IsLimit limit }
+    ensures reads { ReadsItem H.tells (literal_line limit) (source H.Shelf feed.old shelf.old)
+        (source H.Shelf feed.new shelf.new) result }
+    ensures allowed { IfOk result (λ literal. number_fault limit literal ≡ None) }
+    ensures forward { OnOk result (feed.old.place < feed.new.place) }
+{
+    let literal = number(feed, shelf, limit)?;
+    line_end(feed, shelf)?;
+    Ok(literal)
+}
+
+/// The line of a latch.
+#[tactic(auto, using(crate::proofs::Steadies::steadies, crate::proofs::Rows::ranges))]
+pub fn latch_line<H: Shelf>(
+    feed: &mut Feed,
+    shelf: &mut H,
+    header: &Header,
+) -> Result<Latch, AigStop>
+    requires open { CanRead (source H.Shelf feed.old shelf.old) }
+    requires header { IsHeader header.now }
+    ensures reads { ReadsItem H.tells (latch_line header.now) (source H.Shelf feed.old shelf.old)
+        (source H.Shelf feed.new shelf.new) result }
+    ensures is { IfOk result (λ latch. IsLatch header.now latch) }
+    ensures forward { OnOk result (feed.old.place < feed.new.place) }
+{
+    let current = number(feed, shelf, Limit::Defining(header.max))?;
+    space(feed, shelf)?;
+    let next = number(feed, shelf, Limit::Used(header.max))?;
+    last_end(feed, shelf)?;
+    Ok(Latch { current, next })
+}
+
+/// The line of a gate.
+#[tactic(auto, using(crate::proofs::Steadies::steadies))]
+pub fn gate_line<H: Shelf>(feed: &mut Feed, shelf: &mut H, header: &Header) -> Result<Gate, AigStop>
+    requires open { CanRead (source H.Shelf feed.old shelf.old) }
+    requires header { IsHeader header.now }
+    ensures reads { ReadsItem H.tells (gate_line header.now) (source H.Shelf feed.old shelf.old)
+        (source H.Shelf feed.new shelf.new) result }
+    ensures is { IfOk result (λ gate. IsGate header.now gate) }
+    ensures forward { OnOk result (feed.old.place < feed.new.place) }
+{
+    let lhs = number(feed, shelf, Limit::Defining(header.max))?;
+    space(feed, shelf)?;
+    let rhs0 = number(feed, shelf, Limit::Used(header.max))?;
+    space(feed, shelf)?;
+    let rhs1 = number(feed, shelf, Limit::Used(header.max))?;
+    line_end(feed, shelf)?;
+    Ok(Gate { lhs, rhs0, rhs1 })
+}
+
+/// The end of the text, after the gates.
+#[tactic(auto, using(crate::proofs::Steadies::steadies))]
+pub fn tail<H: Shelf>(feed: &mut Feed, shelf: &mut H) -> Result<(), AigStop>
+    requires { CanRead (source H.Shelf feed.old shelf.old) }
+    ensures reads { ReadsItem H.tells tail (source H.Shelf feed.old shelf.old)
+        (source H.Shelf feed.new shelf.new) result }
+    ensures end { IsTrue H.tells → OnOk result (left (source H.Shelf feed.new shelf.new) ≡ []) }
+{
+    match look(feed, shelf)? {
+        None => Ok(()),
+        Some(_) => fault(AigKind::Extra, feed.place()),
+    }
+}

@@ -1,0 +1,16 @@
+use aig_defs::Header;
+use em_chain::Chain;
+
+/// A circuit as three chains of records: docs/FORMATS.md, "Records of circuits". The chains hold
+/// their blocks, and no frame.
+#[derive(Drop)]
+pub struct Parts {
+    /// The numbers of the header.
+    pub header: Header,
+    /// A record for each definition (inputs, latches, gates), in the order of the text.
+    pub defs: Chain,
+    /// A record for each gate, in the order of the text.
+    pub gates: Chain,
+    /// A record for each literal that a latch has next, and then for each output.
+    pub uses: Chain,
+}

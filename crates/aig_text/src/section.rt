@@ -1,0 +1,271 @@
+// The sections of a circuit's text, read line by line into the three lists.
+ghost use Rattle.std.specs.Prelude.{◌≡◌, ◌*◌, ◌^◌};
+ghost use Rattle.em_space.specs.Seen.{seen};
+ghost use Rattle.aig_defs.specs.Circuit.{IsHeader};
+ghost use Rattle.aig_text.specs.Moment.{CanFill, ReadsInto, moment};
+ghost use Rattle.aig_text.specs.Sections.{HasSections, HasLines, listed, listed_size, order, section_line, section_lines, line_size, lines_size, lines_in};
+ghost use Rattle.aig_text.specs.declared.section.Section.TheVariants.{Inputs, Latches, Outputs, Gates};
+
+use crate::draft::Draft;
+use crate::line::{gate_line, latch_line, literal_line, tail};
+use crate::stop::AigStop;
+use aig_defs::{Header, Limit};
+use em_frames::Device;
+use em_io::{Feed, Shelf};
+use em_record::Record;
+use em_space::Rig;
+
+/// The word b of a definition's record: by what the variable is defined.
+const BY_INPUT: u64 = 0;
+
+const BY_LATCH: u64 = 1;
+
+const BY_GATE: u64 = 2;
+
+/// The word b of a use's record: what uses the literal.
+const AS_NEXT: u64 = 0;
+
+const AS_OUTPUT: u64 = 1;
+
+/// A section of a circuit's text: lines of one kind.
+#[derive(Clone, Copy, Debug, PartialEq, Eq, Drop)]
+pub(crate) enum Section {
+    Inputs,
+    Latches,
+    Outputs,
+    Gates,
+}
+
+/// The sections as they stand in the text.
+const ORDER: [Section; 4] = [
+    Section::Inputs,
+    Section::Latches,
+    Section::Outputs,
+    Section::Gates,
+];
+
+impl Section {
+    /// How many lines it has.
+    fn lines(self, header: &Header) -> u64
+        ensures { result ≡ lines_in self header.now }
+    {
+        match self {
+            Section::Inputs => header.inputs,
+            Section::Latches => header.latches,
+            Section::Outputs => header.outputs,
+            Section::Gates => header.gates,
+        }
+    }
+}
+
+/// The line of an input, of which this many stand before it.
+fn read_input<D: Device, H: Shelf>(
+    header: &Header,
+    before: u64,
+    rig: &mut Rig<'_, D>,
+    feed: &mut Feed,
+    shelf: &mut H,
+    draft: &mut Draft,
+) -> Result<(), AigStop>
+    requires header { IsHeader header.now }
+    requires fill { CanFill 2 (moment H.Shelf feed.old shelf.old (seen D.state rig.old) draft.old) }
+    ensures { ReadsInto H.tells (section_line Inputs header.now before) (line_size Inputs)
+        (HasLines Inputs header.now before 1)
+        (moment H.Shelf feed.old shelf.old (seen D.state rig.old) draft.old)
+        (moment H.Shelf feed.new shelf.new (seen D.state rig.new) draft.new) result }
+{
+    let literal = literal_line(feed, shelf, Limit::Defining(header.max))?;
+    draft.add_def(
+        rig,
+        Record {
+            a: literal / 2,
+            b: BY_INPUT,
+            c: before,
+            d: 0,
+        },
+    )?;
+    Ok(())
+}
+
+/// The line of a latch, of which this many stand before it.
+fn read_latch<D: Device, H: Shelf>(
+    header: &Header,
+    before: u64,
+    rig: &mut Rig<'_, D>,
+    feed: &mut Feed,
+    shelf: &mut H,
+    draft: &mut Draft,
+) -> Result<(), AigStop>
+    requires header { IsHeader header.now }
+    requires fill { CanFill 2 (moment H.Shelf feed.old shelf.old (seen D.state rig.old) draft.old) }
+    ensures { ReadsInto H.tells (section_line Latches header.now before) (line_size Latches)
+        (HasLines Latches header.now before 1)
+        (moment H.Shelf feed.old shelf.old (seen D.state rig.old) draft.old)
+        (moment H.Shelf feed.new shelf.new (seen D.state rig.new) draft.new) result }
+{
+    let latch = latch_line(feed, shelf, header)?;
+    draft.add_def(
+        rig,
+        Record {
+            a: latch.current / 2,
+            b: BY_LATCH,
+            c: before,
+            d: 0,
+        },
+    )?;
+    draft.add_use(
+        rig,
+        Record {
+            a: latch.next,
+            b: AS_NEXT,
+            c: before,
+            d: 0,
+        },
+    )?;
+    Ok(())
+}
+
+/// The line of an output, of which this many stand before it.
+fn read_output<D: Device, H: Shelf>(
+    header: &Header,
+    before: u64,
+    rig: &mut Rig<'_, D>,
+    feed: &mut Feed,
+    shelf: &mut H,
+    draft: &mut Draft,
+) -> Result<(), AigStop>
+    requires header { IsHeader header.now }
+    requires fill { CanFill 2 (moment H.Shelf feed.old shelf.old (seen D.state rig.old) draft.old) }
+    ensures { ReadsInto H.tells (section_line Outputs header.now before) (line_size Outputs)
+        (HasLines Outputs header.now before 1)
+        (moment H.Shelf feed.old shelf.old (seen D.state rig.old) draft.old)
+        (moment H.Shelf feed.new shelf.new (seen D.state rig.new) draft.new) result }
+{
+    let literal = literal_line(feed, shelf, Limit::Used(header.max))?;
+    draft.add_use(
+        rig,
+        Record {
+            a: literal,
+            b: AS_OUTPUT,
+            c: before,
+            d: 0,
+        },
+    )?;
+    Ok(())
+}
+
+/// The line of a gate, of which this many stand before it.
+fn read_gate<D: Device, H: Shelf>(
+    header: &Header,
+    before: u64,
+    rig: &mut Rig<'_, D>,
+    feed: &mut Feed,
+    shelf: &mut H,
+    draft: &mut Draft,
+) -> Result<(), AigStop>
+    requires header { IsHeader header.now }
+    requires fill { CanFill 2 (moment H.Shelf feed.old shelf.old (seen D.state rig.old) draft.old) }
+    ensures { ReadsInto H.tells (section_line Gates header.now before) (line_size Gates)
+        (HasLines Gates header.now before 1)
+        (moment H.Shelf feed.old shelf.old (seen D.state rig.old) draft.old)
+        (moment H.Shelf feed.new shelf.new (seen D.state rig.new) draft.new) result }
+{
+    let gate = gate_line(feed, shelf, header)?;
+    let variable = gate.lhs / 2;
+    draft.add_def(
+        rig,
+        Record {
+            a: variable,
+            b: BY_GATE,
+            c: before,
+            d: 0,
+        },
+    )?;
+    draft.add_gate(
+        rig,
+        Record {
+            a: variable,
+            b: gate.rhs0,
+            c: gate.rhs1,
+            d: 0,
+        },
+    )?;
+    Ok(())
+}
+
+/// A line of a section, of which this many stand before it.
+fn read_row<D: Device, H: Shelf>(
+    section: Section,
+    header: &Header,
+    before: u64,
+    rig: &mut Rig<'_, D>,
+    feed: &mut Feed,
+    shelf: &mut H,
+    draft: &mut Draft,
+) -> Result<(), AigStop>
+    requires header { IsHeader header.now }
+    requires fill { CanFill 2 (moment H.Shelf feed.old shelf.old (seen D.state rig.old) draft.old) }
+    ensures { ReadsInto H.tells (section_line section header.now before) (line_size section)
+        (HasLines section header.now before 1)
+        (moment H.Shelf feed.old shelf.old (seen D.state rig.old) draft.old)
+        (moment H.Shelf feed.new shelf.new (seen D.state rig.new) draft.new) result }
+{
+    match section {
+        Section::Inputs => read_input(header, before, rig, feed, shelf, draft),
+        Section::Latches => read_latch(header, before, rig, feed, shelf, draft),
+        Section::Outputs => read_output(header, before, rig, feed, shelf, draft),
+        Section::Gates => read_gate(header, before, rig, feed, shelf, draft),
+    }
+}
+
+/// All lines of a section.
+fn read_rows<D: Device, H: Shelf>(
+    section: Section,
+    header: &Header,
+    rig: &mut Rig<'_, D>,
+    feed: &mut Feed,
+    shelf: &mut H,
+    draft: &mut Draft,
+) -> Result<(), AigStop>
+    requires header { IsHeader header.now }
+    requires fill { CanFill (2 * lines_in section header.now)
+        (moment H.Shelf feed.old shelf.old (seen D.state rig.old) draft.old) }
+    ensures { ReadsInto H.tells (section_lines section header.now (lines_in section header.now) 0)
+        (lines_size section header.now (lines_in section header.now) 0)
+        (HasLines section header.now 0 (lines_in section header.now))
+        (moment H.Shelf feed.old shelf.old (seen D.state rig.old) draft.old)
+        (moment H.Shelf feed.new shelf.new (seen D.state rig.new) draft.new) result }
+{
+    for before in 0..section.lines(header) {
+        match read_row(section, header, before, rig, feed, shelf, draft) {
+            Ok(()) => {}
+            Err(stop) => return Err(stop),
+        }
+    }
+    Ok(())
+}
+
+/// All sections, and the text's end.
+pub(crate) fn read_sections<D: Device, H: Shelf>(
+    header: &Header,
+    rig: &mut Rig<'_, D>,
+    feed: &mut Feed,
+    shelf: &mut H,
+    draft: &mut Draft,
+) -> Result<(), AigStop>
+    requires header { IsHeader header.now }
+    requires fill { CanFill (2 ^ 43)
+        (moment H.Shelf feed.old shelf.old (seen D.state rig.old) draft.old) }
+    ensures { ReadsInto H.tells (listed order header.now) (listed_size order header.now)
+        (HasSections order header.now)
+        (moment H.Shelf feed.old shelf.old (seen D.state rig.old) draft.old)
+        (moment H.Shelf feed.new shelf.new (seen D.state rig.new) draft.new) result }
+{
+    for section in ORDER {
+        match read_rows(section, header, rig, feed, shelf, draft) {
+            Ok(()) => {}
+            Err(stop) => return Err(stop),
+        }
+    }
+    tail(feed, shelf)
+}

@@ -1,0 +1,3 @@
+pub mod Bytes
+pub mod File
+pub mod Padded

@@ -1,0 +1,143 @@
+//! A device that gives at each read another block than the one that was asked for.
+ghost use Rattle.std.specs.Prelude.{◌≡◌, false, []};
+ghost use Rattle.em_frames.specs.Device.{DeviceState};
+
+use crate::status::{Malform, Status};
+use crate::tests::{Part, failing, repeated, run_over};
+use crate::text::TextKind;
+use em_frames::{BeginFault, Device, MemDevice};
+use em_record::{Failed, Record};
+use std::test::Fail;
+
+/// A device that tells nothing, and keeps what is written. At a read it gives the block after the one
+/// that was asked for, and the first one after the last.
+#[derive(Drop)]
+struct NextBlock {
+    kept: MemDevice,
+    blocks: u64,
+    ghost same: { blocks ≡ kept.blocks },
+}
+
+impl Device for NextBlock {
+    ghost state = { λ d. record {
+      told = false;
+      contents = [];
+      blocks = d.kept.blocks;
+      block = d.kept.block;
+      faults = d.kept.counts.faults;
+      moves = d.kept.moves;
+    } };
+
+    fn begin(&mut self, block: u32, blocks: u64) -> Result<(), BeginFault> {
+        self.kept.begin(block, blocks)?;
+        self.blocks = blocks;
+        Ok(())
+    }
+
+    fn read(&mut self, at: u64, into: &mut [Record]) -> Result<(), Failed> {
+        let blocks = self.blocks;
+        self.kept.read((at + 1) % blocks, into)
+    }
+
+    fn write(&mut self, at: u64, from: &[Record]) -> Result<(), Failed> {
+        self.kept.write(at, from)
+    }
+}
+
+/// Whether a run over such a device, of this many blocks, ends with this status and these lines after so
+/// many moves, of which none failed.
+fn ends_so(
+    rt: &HostRuntime,
+    words: (&str, &str),
+    text: &[u8],
+    status: Status,
+    lines: &[u8],
+    moves: u64,
+) -> Result<bool, Fail> {
+    let (command, blocks) = words;
+    let words = [command, "--block=128", "--frames=64", blocks, "a"];
+    let kept = MemDevice::new(rt.alloc(), &[])?;
+    let mut device = NextBlock { kept, blocks: 0 };
+    let none = failing(Part::Device, &[]);
+    let (ended, out, _) = run_over(&mut device, rt, &words, text, none)?;
+    let unfailed = device.kept.faults() == 0 && device.kept.moves() == moves;
+    Ok(unfailed && ended == status && out.bytes() == lines)
+}
+
+/// The commands take blocks 0, 1 and 2. A reader of 0 gets block 1, which leads to 2; there it gets
+/// block 0, which leads to 1; there it gets block 2, which is the last. So on three blocks the whole
+/// list is read, in another order: 3 moves write it and 3 read it, and 3 read it for the first get,
+/// whose answer finds the device full. On more blocks, block 3 is read for 2, and nothing was written
+/// there. Where no get is, block 0 is released by two moves, and then read as a free one for 2.
+#[test]
+fn a_map_over_other_blocks_is_full_or_damaged(rt: HostRuntime) -> Result<(), Fail> {
+    let gets = repeated(rt.alloc(), b"put 1 2\n", 297, b"get 1\nget 1\nget 1\n")?;
+    let puts = repeated(rt.alloc(), b"put 1 2\n", 300, b"")?;
+    let few = ("map", "--blocks=3");
+    let many = ("map", "--blocks=100");
+    let full = Status::Full { used: 3 };
+    let damaged = Status::Damaged { block: 2 };
+    assert!(rt; ends_so(&rt, few, &gets, full, b"", 9)?);
+    assert!(rt; ends_so(&rt, many, &gets, damaged, b"", 5)?);
+    assert!(rt; ends_so(&rt, few, &puts, damaged, b"", 9)?);
+    Ok(())
+}
+
+/// Two blocks are written before the last line, and none is read.
+#[test]
+fn a_faulty_line_is_found_over_other_blocks(rt: HostRuntime) -> Result<(), Fail> {
+    let text = repeated(rt.alloc(), b"put 1 2\n", 299, b"bogus\n")?;
+    let kind = Malform::Text(TextKind::Unknown);
+    let malformed = Status::Malformed { kind, place: 300 };
+    assert!(rt; ends_so(&rt, ("map", "--blocks=3"), &text, malformed, b"", 2)?);
+    Ok(())
+}
+
+/// The items take blocks 0, 1 and 2. The first pop writes the last of them and reads block 1 for 0. On
+/// three blocks the second item that it reads finds the device full. On more, block 0 is released, and
+/// block 3 is read for 2, where nothing was written.
+#[test]
+fn a_queue_over_other_blocks_is_full_or_damaged(rt: HostRuntime) -> Result<(), Fail> {
+    let text = repeated(rt.alloc(), b"push 1 2\n", 297, b"pop\npop\npop\n")?;
+    let full = Status::Full { used: 3 };
+    let damaged = Status::Damaged { block: 2 };
+    assert!(rt; ends_so(&rt, ("queue", "--blocks=3"), &text, full, b"", 4)?);
+    assert!(rt; ends_so(&rt, ("queue", "--blocks=100"), &text, damaged, b"", 6)?);
+    Ok(())
+}
+
+/// The block after the only one is that one. Each pop writes, reads and releases it, and each push but
+/// the first reads it again as a free one.
+#[test]
+fn a_queue_over_one_block_gets_that_block(rt: HostRuntime) -> Result<(), Fail> {
+    let text = repeated(rt.alloc(), b"push 1 2\npop\n", 150, b"")?;
+    let lines = repeated(rt.alloc(), b"1 2\n", 150, b"")?;
+    assert!(rt;
+        ends_so(
+            &rt,
+            ("queue", "--blocks=1"),
+            &text,
+            Status::Done,
+            &lines,
+            599
+        )?
+    );
+    Ok(())
+}
+
+/// As for a map: 3 moves write the commands and 3 read them. The first stab that an interval holds
+/// finds the device full of three blocks with the first interval that it reads. Three stabs that none
+/// holds read 3 blocks each, and the release fails as that of a map.
+#[test]
+fn an_interval_list_over_other_blocks_is_full_or_damaged(rt: HostRuntime) -> Result<(), Fail> {
+    let held = repeated(rt.alloc(), b"iv 1 2\n", 297, b"stab 1\nstab 1\nstab 1\n")?;
+    let none = repeated(rt.alloc(), b"iv 1 2\n", 297, b"stab 3\nstab 3\nstab 3\n")?;
+    let few = ("stab", "--blocks=3");
+    let many = ("stab", "--blocks=100");
+    let full = Status::Full { used: 3 };
+    let damaged = Status::Damaged { block: 2 };
+    assert!(rt; ends_so(&rt, few, &held, full, b"", 7)?);
+    assert!(rt; ends_so(&rt, few, &none, damaged, b"", 18)?);
+    assert!(rt; ends_so(&rt, many, &held, damaged, b"", 5)?);
+    Ok(())
+}
