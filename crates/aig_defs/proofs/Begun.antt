@@ -159,13 +159,13 @@ sections_all form given h p x c q y r low =
     ∙ omega (arith, of_latches, of_outputs, of_gates)
 
 -- If more was given, no less was begun.
-after_rises : {A : Type 0} (r : Reading A) (f g : A → ℕ → List ℕ → ℕ)
+pub after_rises : {A : Type 0} (r : Reading A) (f g : A → ℕ → List ℕ → ℕ)
     → ((a : A) (p : ℕ) (x : List ℕ) → f a p x ≤ g a p x)
     → counts_after r f ≤ counts_after r g
 after_rises (Reads a p x) f g h = h a p x
 after_rises (Fails kind place) f g h = omega arith
 
-test_rises : (t u : Bool) (m n : ℕ) → (t ≡ true → u ≡ true) → m ≤ n → cond t m 0 ≤ cond u n 0
+pub test_rises : (t u : Bool) (m n : ℕ) → (t ≡ true → u ≡ true) → m ≤ n → cond t m 0 ≤ cond u n 0
 test_rises true true m n f h = h
 test_rises true false m n f h = cc (f refl)
 test_rises false u m n f h = omega arith

@@ -65,7 +65,7 @@ gate_variable c single s i f g j =
     ∙ ap (λ o. unwrap_or (option_map f o) false) (single.once g j)
 
 -- a literal that is even has its variable's value
-even_value : (c : Circuit) (s i : List Bool) (f : Gate → Bool) (l : ℕ) → l % 2 ≡ 0
+pub even_value : (c : Circuit) (s i : List Bool) (f : Gate → Bool) (l : ℕ) → l % 2 ≡ 0
     → literal_by f c s i l ≡ variable_by f c s i (l / 2)
 even_value c s i f l e =
     let value = variable_by f c s i (l / 2) in

@@ -1,9 +1,14 @@
 pub mod Begun
 pub mod Chains
 pub mod Circuit
+pub mod Edges
 pub mod Faults
 pub mod Founded
+pub mod Graph
 pub mod Items
 pub mod Order
+pub mod Ranks
+pub mod Stimulus
+pub mod Straight
 pub mod TextFault
 pub mod Value

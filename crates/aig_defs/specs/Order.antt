@@ -1,5 +1,5 @@
 -- The order of a circuit's items, in the ASCII and in the binary form: docs/FORMATS.md, "Circuits".
-use Rattle.std.specs.Prelude.{◌≡◌, ℕ, ◌+◌, ◌-◌, ◌*◌, ◌==◌, nat_eq, nat_le, Bool, if◌then◌else◌, List, [], length, drop, codes, Option, Some, None}
+use Rattle.std.specs.Prelude.{◌≡◌, ℕ, ◌+◌, ◌-◌, ◌*◌, ◌==◌, nat_eq, nat_le, Bool, true, if◌then◌else◌, List, [], length, drop, codes, Option, Some, None}
 use Rattle.std.specs.List.{starts_with}
 use Rattle.aig_defs.specs.declared.fault.AigKind.{AigKind}
 use Rattle.aig_defs.specs.declared.fault.AigKind.TheVariants.{BadMagic, BadCounts, Extra}
@@ -19,6 +19,15 @@ magic p x =
     if starts_with nat_eq x (codes "aag") then Reads Ascii (p + 3) (drop 3 x)
     else if starts_with nat_eq x (codes "aig") then Reads Binary (p + 3) (drop 3 x)
     else Fails BadMagic 0
+
+-- a magic that can be read on: that of the ASCII form
+abbrev pub readable : Form → Item Bool
+readable Ascii = Reads true
+readable Binary = fails BadMagic 0
+
+-- whether the text is in ASCII; one in the binary form is refused, as long as none can be read
+abbrev pub ascii_magic : Item Bool
+ascii_magic = magic >>= readable
 
 -- a space and a number of the header
 abbrev pub header_number : Item ℕ

@@ -37,8 +37,11 @@ pub enum AigKind {
     Cyclic,
     /// A line of the stimulus has more or fewer bytes than the circuit has inputs.
     StimLength,
-    /// A byte of the stimulus is neither `0` nor `1`.
+    /// In place of a bit of the stimulus stands another byte than `0`, `1` or a newline.
     StimChar,
     /// A byte at offset 2^50 is looked at, in a circuit or a stimulus. The place is 2^50.
     TooLong,
+    /// The circuit isn't in straight order: its gates and definitions don't stand in the order of
+    /// their variables, or M isn't I + L + A. The place is 0.
+    Unordered,
 }

@@ -1,7 +1,6 @@
 -- Sections that were read, from before their draft was made until it is gone.
-use Rattle.std.proofs.Common.{◌≡◌, ◌≤◌, Bool, ℕ, [], arith, subst, Result, Ok, Err}
+use Rattle.std.proofs.Common.{◌≡◌, ◌≤◌, Bool, ℕ, [], arith, Result, Ok, Err}
 use Rattle.std.specs.Prelude.{IsErrAnd}
-use Rattle.em_record.specs.Shape.{ShapeNumbers}
 use Rattle.em_space.specs.Rig.{RigState, Sound, DeviceCause}
 use Rattle.em_space.specs.declared.fault.EmFault.{EmFault}
 use Rattle.em_chain.specs.Effects.{OnlyMoves, Unmoved}

@@ -3,13 +3,9 @@ use Rattle.std.proofs.Common.{◌≡◌, ◌+◌, ◌≤◌, Bool, true, List, �
 use Rattle.std.proofs.lemmas.List.{append-nil, length-append}
 use Rattle.em_record.specs.declared.record.Record.{Record}
 use Rattle.em_space.specs.Rig.{RigState}
-use Rattle.em_space.specs.declared.fault.EmFault.{EmFault}
-use Rattle.em_space.proofs.Runs.{stops_wider}
-use Rattle.em_chain.specs.Chain.{payload_in}
 use Rattle.em_chain.specs.Writer.{CanGrow}
-use Rattle.em_chain.proofs.Sessions.{ceiling_rises}
 use Rattle.aig_defs.specs.Items.{Reading, Reads, Fails, Item, and_then}
-use Rattle.aig_text.specs.Draft.{Drafted, IsDraft, StopsDraft, draft_len}
+use Rattle.aig_text.specs.Draft.{Drafted, IsDraft}
 use Rattle.aig_text.specs.Listing.{Listing, no_records, appended, record_count}
 use Rattle.aig_text.specs.Moment.{Moment, AddsListing, AddsSome, CanFill, Fills, FailsFilling, FillsSome, StopsFilling, onto, place_in, read_at}
 use Rattle.aig_text.specs.Reads.{Advances, StopsAs}

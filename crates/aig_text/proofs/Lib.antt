@@ -11,6 +11,7 @@ pub mod Lines
 pub mod Listings
 pub mod Magics
 pub mod Numbers
+pub mod PartsLaws
 pub mod Rows
 pub mod SectionLines
 pub mod Steadies

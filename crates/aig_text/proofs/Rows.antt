@@ -1,5 +1,5 @@
 -- The lines of sections by what they spell, and the circuit that they are of.
-use Rattle.std.proofs.Common.{◌≡◌, ◌+◌, ◌*◌, ◌%◌, ◌^◌, ◌≤◌, Bool, true, false, cond, ltb, eqb, ◌||◌, List, [], ◌∷◌, ◌++◌, ℕ, zero, suc, sym, ap, ap₂, ◌∙◌, refl, subst, arith, length, Some, None, All}
+use Rattle.std.proofs.Common.{◌≡◌, ◌+◌, ◌*◌, ◌%◌, ◌≤◌, Bool, true, false, cond, ltb, eqb, ◌||◌, List, [], ◌∷◌, ◌++◌, ℕ, sym, ap, ap₂, ◌∙◌, refl, arith, length, Some, None}
 use Rattle.std.proofs.lemmas.Bool.{ltb-false, eqb-false, or_parts}
 use Rattle.std.proofs.lemmas.List.{append-nil, length-append}
 use Rattle.std.proofs.lemmas.List.Elements.{All-nil, All-cons, All-append}
@@ -8,7 +8,7 @@ use Rattle.aig_defs.specs.declared.circuit.Header.{Header}
 use Rattle.aig_defs.specs.declared.circuit.Latch.{Latch}
 use Rattle.aig_defs.specs.declared.fault.AigKind.TheVariants.{LiteralRange, OddDefinition}
 use Rattle.aig_defs.specs.declared.form.Limit.TheVariants.{Defining, Used}
-use Rattle.aig_defs.specs.Chains.{numbered, input_def, latch_def, gate_def, gate_record, latch_use, output_use}
+use Rattle.aig_defs.specs.Chains.{numbered, gate_def, gate_record, output_use}
 use Rattle.aig_defs.specs.Circuit.{Circuit, IsCircuit, IsDefining, IsGate, IsHeader, IsLatch, IsUsed}
 use Rattle.aig_defs.specs.Items.{number_fault}
 use Rattle.aig_text.specs.Listing.{HasCounts, Listing, no_records, appended, listing_of}

@@ -1,5 +1,5 @@
 -- A whole text, by what is read of it after its magic.
-use Rattle.std.proofs.Common.{◌≡◌, ◌+◌, ◌≤◌, Bool, true, false, cond, drop, arith, List, [], ℕ, length, refl, sym, ap, ◌∙◌, Result, Ok, Err}
+use Rattle.std.proofs.Common.{◌≡◌, ◌≤◌, Bool, true, false, cond, drop, arith, List, [], ℕ, length, refl, sym, ap, ◌∙◌, Result, Ok, Err}
 use Rattle.em_space.specs.Rig.{RigState}
 use Rattle.aig_defs.specs.Begun.{circuit_size}
 use Rattle.aig_defs.specs.declared.fault.AigKind.{AigKind}
@@ -8,10 +8,9 @@ use Rattle.aig_defs.specs.declared.form.Form.{Form}
 use Rattle.aig_defs.specs.declared.form.Form.TheVariants.{Ascii, Binary}
 use Rattle.aig_defs.specs.Circuit.{Circuit}
 use Rattle.aig_defs.specs.Items.{Reading, Reads, Fails, and_then}
-use Rattle.aig_defs.specs.Order.{Breaks, Spells, after_magic, circuit_text, magic}
+use Rattle.aig_defs.specs.Order.{Breaks, Spells, after_magic, ascii_magic, circuit_text, magic, readable}
 use Rattle.aig_defs.proofs.Laws.{Decided, breaks_by, decided, spelled, broken}
 use Rattle.aig_text.specs.Ascii.{GivesCircuit, GivesParts, StandsFor, size_given}
-use Rattle.aig_text.specs.Magic.{ascii_magic, readable}
 use Rattle.aig_text.specs.Source.{Source, left}
 use Rattle.aig_text.specs.declared.parts.Parts.{Parts}
 use Rattle.aig_text.specs.declared.stop.AigStop.{AigStop}

@@ -5,6 +5,7 @@ pub mod Listed
 pub mod Listing
 pub mod Magic
 pub mod Moment
+pub mod Parts
 pub mod Reads
 pub mod Sections
 pub mod Source

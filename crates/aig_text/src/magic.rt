@@ -1,7 +1,8 @@
 // The first bytes of a circuit's text.
 ghost use Rattle.std.specs.Prelude.{◌≡◌, ◌+◌, ◌^◌, ◌<◌, true, IfOk, OnOk};
 ghost use Rattle.aig_defs.specs.declared.fault.AigKind.TheVariants.{BadMagic};
-ghost use Rattle.aig_text.specs.Magic.{ascii_magic, letter};
+ghost use Rattle.aig_defs.specs.Order.{ascii_magic};
+ghost use Rattle.aig_text.specs.Magic.{letter};
 ghost use Rattle.aig_text.specs.Reads.{IfFault, ReadsItem};
 ghost use Rattle.aig_text.specs.Source.{CanRead, source};
 

@@ -1,0 +1,15 @@
+pub mod AllPushed
+pub mod Builds
+pub mod Checks
+pub mod Cuts
+pub mod Listed
+pub mod Looks
+pub mod Paid
+pub mod Pushed
+pub mod Pushes
+pub mod Ranked
+pub mod Releases
+pub mod Select
+pub mod Straights
+pub mod Tells
+pub mod Words

@@ -1,0 +1,9 @@
+pub mod Build
+pub mod Cutting
+pub mod Graph
+pub mod Looks
+pub mod Pushes
+pub mod Ranking
+pub mod Rules
+pub mod Select
+pub mod Writing

@@ -1,0 +1,137 @@
+-- An evaluator as it stands on a rig, and what making and ending it do.
+use Rattle.std.specs.Prelude.{◌≡◌, ◌<◌, ◌≤◌, ℕ, ◌+◌, ◌*◌, Bool, false, List, [], ◌++◌, All, IsTrue, IfSome, replicate, max, Result, Ok, Err}
+use Rattle.em_record.specs.declared.record.Record.{Record}
+use Rattle.em_space.specs.Held.{Holds}
+use Rattle.em_space.specs.Queue.{Pays, QueueCounts, Shares}
+use Rattle.em_space.specs.Rig.{RigState, Sound, Touches, Cause}
+use Rattle.em_space.specs.declared.fault.EmFault.{EmFault}
+use Rattle.em_space.specs.declared.queue.Queue.{Ghosts}
+use Rattle.em_chain.specs.Chain.{IsChain, chain_items}
+use Rattle.em_space.specs.Ledger.{Account}
+use Rattle.em_queued.specs.Queued.{Called, RunsBeside}
+use Rattle.aig_defs.specs.Circuit.{Circuit, IsHeader}
+use Rattle.aig_defs.specs.Ranks.{IsOrder, ordered_edges}
+use Rattle.aig_defs.specs.declared.circuit.Gate.{Gate}
+use Rattle.aig_text.specs.Draft.{chains_blocks}
+use Rattle.aig_edges.specs.Graph.{IsOrderedOf, edge_count, ordered_blocks}
+use Rattle.aig_edges.specs.declared.graph.Ordered.{Ordered}
+use Rattle.aig_forward.specs.Bits.{bits_of}
+use Rattle.aig_forward.specs.Lists.{begin_moves, begin_room, latch_room, lists_account, sizes}
+use Rattle.aig_forward.specs.declared.evaluator.Evaluator.{Evaluator}
+
+-- the blocks of an evaluator's three chains: its state, the edges from ranks whose bits are given,
+-- and those from gates
+abbrev pub lists_blocks : {Q : Type 0} → RigState → Evaluator Q → List ℕ
+lists_blocks s e = chains_blocks s e.state e.given e.gates
+
+-- how many they are
+abbrev pub lists_size : {Q : Type 0} → Evaluator Q → ℕ
+lists_size e = sizes e.state e.given e.gates
+
+-- the blocks of an evaluator: those of its queue and of its chains
+abbrev pub evaluator_blocks : {Q : Type 0} → Ghosts Q → RigState → Evaluator Q → List ℕ
+evaluator_blocks queue s e = queue.blocks e.queue s ++ lists_blocks s e
+
+-- An evaluator between two steps. Its queue has no item. Its chains have as many records as the
+-- header says, and all blocks are apart. Of a device that doesn't tell, the numbers alone.
+pub record IsEvaluator {Q : Type 0} (queue : Ghosts Q) (s : RigState) (e : Evaluator Q)
+    : Type 0 where
+  pub header : IsHeader e.header
+  pub given : IsChain s e.given
+  pub gates : IsChain s e.gates
+  pub edges : e.given.count + e.gates.count ≡ edge_count e.header
+  pub state : IsChain s e.state
+  pub latches : e.state.count ≡ e.header.latches
+  pub state_blocks : e.state.blocks ≡ latch_room e.header s
+  pub is : queue.IsQueue e.queue s
+  pub empty : (queue.counts e.queue).len ≡ 0
+  pub holds : IsTrue s.device.told → Holds s (evaluator_blocks queue s e)
+
+-- The frames of an evaluator are the pool's: what is left to ask after a stop. Its chains have
+-- none.
+pub record HasEvaluatorFrames {Q : Type 0} (queue : Ghosts Q) (s : RigState) (e : Evaluator Q)
+    : Type 0 where
+  pub is : queue.HasItsFrames e.queue s
+
+-- It evaluates this circuit, with its gates in this order, and its latches have these bits. The
+-- edges are cut before the first one that comes from a gate.
+pub record Evaluates {Q : Type 0} (queue : Ghosts Q) (s : RigState) (e : Evaluator Q)
+    (c : Circuit) (order : List Gate) (state : List Bool) : Type 0 where
+  pub header : c.header ≡ e.header
+  pub order_is : IsOrder c order
+  pub edges : chain_items s e.given ++ chain_items s e.gates ≡ ordered_edges c order
+  pub low : All (λ (x : Record). x.a ≤ e.header.inputs + e.header.latches) (chain_items s e.given)
+  pub high : All (λ (x : Record). e.header.inputs + e.header.latches < x.a) (chain_items s e.gates)
+  pub bits : bits_of (chain_items s e.state) ≡ state
+  pub none : queue.items e.queue s ≡ []
+
+-- the numbers of a queue whose frames are back
+abbrev pub without_frames : QueueCounts → QueueCounts
+without_frames c = record c { frames = 0; areas = 0 }
+
+-- Calls of a queue and beside it stopped, for whatever reason: at most this many calls, with at
+-- most `peak` blocks at once beside the queue's, and `unstored` blocks more that aren't stored.
+pub record Halted (calls peak unstored : ℕ) (held : List ℕ) (a : Account) (c d : QueueCounts)
+    (first now : RigState) : Type 0 where
+  pub sound : Sound now
+  pub touches : Touches held first now
+  pub frames : Shares c d first.pool now.pool
+  pub called : Called calls c d
+  pub most : now.most + (c.blocks + a.blocks)
+      ≤ max (first.most + (c.blocks + a.blocks)) (first.used + (d.most + peak))
+  pub moves : now.moves + (c.spent + a.paid) ≤ first.moves + (a.owed + d.spent)
+  pub pays : Pays (c.unstored + a.unstored) (first.pool.shape.frames + unstored) first now
+
+-- An evaluator was made over a queue, of which no call came.
+pub record BeginsEvaluator {Q : Type 0} (queue : Ghosts Q) (s t : RigState) (o : Ordered) (q : Q)
+    (e : Evaluator Q) : Type 0 where
+  pub is : IsEvaluator queue t e
+  pub header : e.header ≡ o.header
+  pub queue_is : e.queue ≡ q
+  pub runs : RunsBeside 0 (begin_room s o) (queue.blocks q s ++ ordered_blocks s o)
+      (evaluator_blocks queue t e) (lists_account o.edges.blocks (begin_moves s o))
+      (lists_account (lists_size e) 0) (queue.counts q) (queue.counts q) s t
+
+-- It wasn't made: the queue's frames are back, and blocks stay in use.
+pub record FailsToBegin {Q : Type 0} (queue : Ghosts Q) (s t : RigState) (o : Ordered) (q : Q)
+    (fault : EmFault) : Type 0 where
+  pub halted : Halted 0 (begin_room s o) 1 (queue.blocks q s ++ ordered_blocks s o)
+      (lists_account o.edges.blocks (begin_moves s o)) (queue.counts q)
+      (without_frames (queue.counts q)) s t
+  pub cause : Cause s t fault
+
+abbrev pub BeginsTo : {Q : Type 0} → Ghosts Q → RigState → RigState → Ordered → Q
+    → Result (Evaluator Q) EmFault → Type 0
+BeginsTo queue s t o q (Ok e) = BeginsEvaluator queue s t o q e
+BeginsTo queue s t o q (Err fault) = FailsToBegin queue s t o q fault
+
+-- All latches are false at first, in each circuit that the edges stand for.
+abbrev pub BeginsFor : {Q : Type 0} → Ghosts Q → RigState → RigState → Ordered → Evaluator Q
+    → Type 0
+BeginsFor queue s t o e = (c : Circuit) (order : List Gate) → IsOrderedOf s o c order
+    → Evaluates queue t e c order (replicate e.header.latches false)
+
+-- An evaluator was used up, whether its end gave up or not: the queue's frames are back, and only
+-- its own blocks may have changed. Its moves are two a block of its chains beside what the queue is
+-- allowed.
+pub record EndsEvaluator {Q : Type 0} (queue : Ghosts Q) (s t : RigState) (e : Evaluator Q) :
+    Type 0 where
+  pub sound : Sound t
+  pub touches : Touches (evaluator_blocks queue s e) s t
+  pub frames : Shares (queue.counts e.queue) (without_frames (queue.counts e.queue)) s.pool t.pool
+  pub spent : IfSome queue.allowance (λ f. (queue.counts e.queue).spent + t.moves
+      ≤ s.moves + f s.pool.shape (queue.counts e.queue).n (queue.counts e.queue).k
+      + 2 * lists_size e)
+  pub most : IfSome queue.room (λ f. t.most + (queue.counts e.queue).blocks
+      ≤ max (s.most + (queue.counts e.queue).blocks)
+      (s.used + f s.pool.shape (queue.counts e.queue).k))
+
+-- what its end did to blocks in use: all of its own are released, and after a fault as many blocks
+-- as there are frames may not be stored
+abbrev pub EndsTo : {Q : Type 0} → Ghosts Q → RigState → RigState → Evaluator Q
+    → Result (Unit {0}) EmFault → Type 0
+EndsTo queue s t e (Ok x) =
+    (t.used + ((queue.counts e.queue).blocks + lists_size e) ≡ s.used)
+    × Pays (queue.counts e.queue).unstored 0 s t
+EndsTo queue s t e (Err fault) =
+    Pays (queue.counts e.queue).unstored s.pool.shape.frames s t × Cause s t fault

@@ -1,0 +1,176 @@
+-- What a step of an evaluator does, and what it costs.
+use Rattle.std.specs.Prelude.{◌≡◌, ◌<◌, ℕ, ◌+◌, ◌*◌, ◌^◌, Bool, List, [], ◌++◌, Result, Ok, Err}
+use Rattle.em_record.specs.Count.{Rose}
+use Rattle.em_io.specs.Sink.{Sent, SentPart}
+use Rattle.em_frames.specs.Pool.{PoolCounts}
+use Rattle.em_space.specs.Ledger.{Account}
+use Rattle.em_space.specs.Rig.{RigState, Cause}
+use Rattle.em_space.specs.declared.queue.Queue.{Ghosts}
+use Rattle.em_chain.specs.Chain.{payload_in}
+use Rattle.em_chain.specs.Counts.{ceiling}
+use Rattle.em_queued.specs.Queued.{RunsBeside}
+use Rattle.aig_defs.specs.Circuit.{Circuit}
+use Rattle.aig_defs.specs.Items.{Reading, Reads, Fails}
+use Rattle.aig_defs.specs.Stimulus.{output_line, stimulus_line}
+use Rattle.aig_defs.specs.Value.{step_of}
+use Rattle.aig_defs.specs.declared.circuit.Gate.{Gate}
+use Rattle.aig_defs.specs.declared.circuit.Header.{Header}
+use Rattle.aig_defs.specs.declared.fault.AigKind.{AigKind}
+use Rattle.aig_text.specs.Source.{Source, left}
+use Rattle.aig_edges.specs.Graph.{CanBuild, edge_count}
+use Rattle.aig_edges.specs.declared.stop.StepStop.{StepStop}
+use Rattle.aig_edges.specs.declared.stop.StepStop.TheVariants as stop
+use Rattle.aig_forward.specs.Evaluator.{Evaluates, Halted, HasEvaluatorFrames, evaluator_blocks, lists_size}
+use Rattle.aig_forward.specs.Lists.{latch_room, lists_account}
+use Rattle.aig_forward.specs.declared.evaluator.Evaluator.{Evaluator}
+use Rattle.aig_forward.specs.declared.step_end.StepEnd.{StepEnd}
+use Rattle.aig_forward.specs.declared.step_end.StepEnd.TheVariants.{Printed, End}
+
+-- The frames of a step are free, and few calls of the queue came.
+pub record CanStep {Q : Type 0} (queue : Ghosts Q) (p : PoolCounts) (e : Evaluator Q) : Type 0 where
+  pub free : CanBuild p
+  pub few : (queue.counts e.queue).n + 2 * edge_count e.header < 2 ^ 98
+
+-- A step at one moment: the rig, the evaluator, the stimulus, what the sink has taken, and what the
+-- printer holds back.
+pub record Scene (Q : Type 0) : Type 0 where
+  pub rig : RigState
+  pub evaluator : Evaluator Q
+  pub text : Source
+  pub taken : List ℕ
+  pub pending : List ℕ
+
+abbrev pub scene : {Q : Type 0} → RigState → Evaluator Q → Source → List ℕ → List ℕ → Scene Q
+scene rig evaluator text taken pending = record {
+  rig = rig;
+  evaluator = evaluator;
+  text = text;
+  taken = taken;
+  pending = pending;
+}
+
+-- The edges and the header are what they were, and the queue's frames are the pool's.
+pub record Keeps {Q : Type 0} (queue : Ghosts Q) (t : RigState) (e f : Evaluator Q) : Type 0 where
+  pub header : f.header ≡ e.header
+  pub given : f.given ≡ e.given
+  pub gates : f.gates ≡ e.gates
+  pub frames : HasEvaluatorFrames queue t f
+
+-- the line of a stimulus that begins here
+abbrev pub line_at : ℕ → Source → Reading (List Bool)
+line_at inputs s = stimulus_line inputs s.feed.place (left s)
+
+-- Something was left of the stimulus, and a whole line was taken.
+pub record TakesLine (inputs : ℕ) (old new : Source) (bits : List Bool) : Type 0 where
+  pub some : left old ≡ [] → ⊥
+  pub reads : line_at inputs old ≡ Reads bits new.feed.place (left new)
+
+-- Nothing was left, and nothing was taken.
+pub record EndsText (old new : Source) : Type 0 where
+  pub none_left : left old ≡ []
+  pub left_is : left new ≡ []
+  pub place : new.feed.place ≡ old.feed.place
+
+-- A line begins here, and has this fault.
+pub record FaultsLine (inputs : ℕ) (old : Source) (kind : AigKind) (place : ℕ) : Type 0 where
+  pub some : left old ≡ [] → ⊥
+  pub fails : line_at inputs old ≡ Fails kind place
+
+-- The answer is as the stimulus says, unless the shelf, the sink or the rig failed first.
+abbrev pub FollowsText : ℕ → Source → Source → Result StepEnd StepStop → Type 0
+FollowsText inputs old new (Ok Printed) = (bits : List Bool) × TakesLine inputs old new bits
+FollowsText inputs old new (Ok End) = EndsText old new
+FollowsText inputs old new (Err (stop.Fault kind place)) = FaultsLine inputs old kind place
+FollowsText inputs old new (Err stop.Read) = Unit {0}
+FollowsText inputs old new (Err stop.Write) = (bits : List Bool) × TakesLine inputs old new bits
+FollowsText inputs old new (Err (stop.Em fault)) = Unit {0}
+
+-- the line that a step prints
+abbrev pub line_of : Circuit → List Bool → List Bool → List ℕ
+line_of c state bits = output_line (step_of c state bits).0
+
+-- A line was read, the outputs for its bits went out or are pending, and the latches changed.
+pub record PrintsStep {Q : Type 0} (queue : Ghosts Q) (took : List ℕ → List ℕ → List ℕ)
+    (c : Circuit) (order : List Gate) (state : List Bool) (old new : Scene Q) : Type 0 where
+  pub bits : List Bool
+  pub line : TakesLine c.header.inputs old.text new.text bits
+  pub sent : Sent took old.taken (old.pending ++ line_of c state bits) new.taken new.pending
+  pub next : Evaluates queue new.rig new.evaluator c order (step_of c state bits).1
+
+-- Nothing was printed.
+pub record IsQuiet {Q : Type 0} (old new : Scene Q) : Type 0 where
+  pub taken : new.taken ≡ old.taken
+  pub pending : new.pending ≡ old.pending
+
+-- Nothing was left of the stimulus, and nothing was done.
+pub record EndsStep {Q : Type 0} (queue : Ghosts Q) (c : Circuit) (order : List Gate)
+    (state : List Bool) (old new : Scene Q) : Type 0 where
+  pub quiet : IsQuiet old new
+  pub same : Evaluates queue new.rig new.evaluator c order state
+
+-- The sink or the rig stopped it: of the line's outputs a front went out, and nothing if the line has a
+-- fault, or if nothing is left of the stimulus.
+pub record StopsStep {Q : Type 0} (took : List ℕ → List ℕ → List ℕ) (c : Circuit)
+    (state : List Bool) (old new : Scene Q) : Type 0 where
+  pub part : (left old.text ≡ [] → ⊥) → (bits : List Bool) (place : ℕ) (rest : List ℕ)
+      → line_at c.header.inputs old.text ≡ Reads bits place rest
+      → SentPart took old.taken (old.pending ++ line_of c state bits) new.taken
+  pub none : (kind : AigKind) (place : ℕ) → line_at c.header.inputs old.text ≡ Fails kind place
+      → new.taken ≡ old.taken
+  pub ended : left old.text ≡ [] → new.taken ≡ old.taken
+
+-- what a step of this circuit, from this state, did
+abbrev pub AnswersStep : {Q : Type 0} → Ghosts Q → (List ℕ → List ℕ → List ℕ) → Circuit → List Gate
+    → List Bool → Scene Q → Scene Q → Result StepEnd StepStop → Type 0
+AnswersStep queue took c order state old new (Ok Printed) =
+    PrintsStep queue took c order state old new
+AnswersStep queue took c order state old new (Ok End) = EndsStep queue c order state old new
+AnswersStep queue took c order state old new (Err (stop.Fault kind place)) = IsQuiet old new
+AnswersStep queue took c order state old new (Err stop.Read) = IsQuiet old new
+AnswersStep queue took c order state old new (Err stop.Write) = StopsStep took c state old new
+AnswersStep queue took c order state old new (Err (stop.Em fault)) = StopsStep took c state old new
+
+-- the blocks of a list of the bits of inputs
+abbrev pub input_room : Header → RigState → ℕ
+input_room h s = ceiling h.inputs (payload_in s)
+
+-- the most blocks of an evaluator's chains during a step: the edges, the bits of inputs and
+-- latches, and the latches' next bits
+abbrev pub step_room : {Q : Type 0} → RigState → Evaluator Q → ℕ
+step_room s e =
+    input_room e.header s + 2 * latch_room e.header s + (e.given.blocks + e.gates.blocks)
+
+-- the moves of a step beside those of the queue: the edges are read, and lists of bits are written,
+-- joined and taken
+abbrev pub step_moves : {Q : Type 0} → RigState → Evaluator Q → ℕ
+step_moves s e =
+    e.given.blocks + e.gates.blocks + 4 * input_room e.header s + 4 * latch_room e.header s + 6
+
+-- the account of an evaluator's chains before a step
+abbrev pub step_account : {Q : Type 0} → RigState → Evaluator Q → Account
+step_account s e = lists_account (lists_size e) (step_moves s e)
+
+-- the calls of the queue in a step, at most: two for each edge, and one for each output
+abbrev pub step_calls : Header → ℕ
+step_calls h = 2 * edge_count h + h.outputs
+
+-- What a step cost. After a line all blocks of the chains are stored, and they are as many as before. At
+-- the stimulus's end nothing was done. After a stop as many blocks as there are frames, and one more, may
+-- not be stored.
+abbrev pub StepCosts : {Q : Type 0} → Ghosts Q → RigState → RigState → Evaluator Q → Evaluator Q
+    → Result StepEnd StepStop → Type 0
+StepCosts queue s t e f (Ok Printed) =
+    RunsBeside (step_calls e.header) (step_room s e) (evaluator_blocks queue s e)
+    (evaluator_blocks queue t f) (step_account s e) (lists_account (lists_size e) 0)
+    (queue.counts e.queue) (queue.counts f.queue) s t
+StepCosts queue s t e f (Ok End) = (t ≡ s) × (f ≡ e)
+StepCosts queue s t e f (Err stopped) =
+    Halted (step_calls e.header) (step_room s e) 1 (evaluator_blocks queue s e)
+    (step_account s e) (queue.counts e.queue) (queue.counts f.queue) s t
+
+-- Why a step stopped: the shelf's or the sink's count of faults rose, or a call on the rig gave up.
+abbrev pub StepCause : ℕ → ℕ → ℕ → ℕ → RigState → RigState → StepStop → Type 0
+StepCause shelf shelf_after sink sink_after s t (stop.Fault kind place) = Unit {0}
+StepCause shelf shelf_after sink sink_after s t stop.Read = Rose shelf shelf_after
+StepCause shelf shelf_after sink sink_after s t stop.Write = Rose sink sink_after
+StepCause shelf shelf_after sink sink_after s t (stop.Em fault) = Cause s t fault

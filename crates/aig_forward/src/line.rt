@@ -1,0 +1,197 @@
+//! A line of the stimulus: a byte `0` or `1` for each input, and a newline or the text's end.
+ghost use Rattle.std.specs.Prelude.{◌≡◌, ◌+◌, ◌^◌, ◌<◌, ◌≤◌, [], length, IfErr, IfOk, OnSome};
+ghost use Rattle.em_space.specs.Rig.{Goes, Sound};
+ghost use Rattle.em_space.specs.Seen.{seen};
+ghost use Rattle.aig_defs.specs.Items.{look};
+ghost use Rattle.aig_defs.specs.Stimulus.{stimulus_bit, stimulus_end, stimulus_line};
+ghost use Rattle.aig_text.specs.Reads.{Advances, ReadsItem};
+ghost use Rattle.aig_text.specs.Source.{CanRead, source};
+ghost use Rattle.aig_forward.specs.BitList.{CanAdd, ReadsToList, list_moment, one_bit};
+ghost use Rattle.aig_forward.specs.Line.{AnswersLine, LineCause, LineCosts, TakesBits, step_stop};
+
+use aig_defs::AigKind;
+use aig_edges::StepStop;
+use aig_text::AigStop;
+use em_chain::{Chain, Writer};
+use em_frames::Device;
+use em_io::{Feed, Shelf};
+use em_record::Record;
+use em_space::Rig;
+
+/// No byte of a stimulus is looked at from this offset on.
+const END: u64 = 1 << 50;
+
+/// The byte that stands here, without taking it; none at the text's end.
+#[tactic(auto, using(aig_text::proofs::Steadies::steadies))]
+fn look<H: Shelf>(feed: &mut Feed, shelf: &mut H) -> Result<Option<u8>, AigStop>
+    requires { CanRead (source H.Shelf feed.old shelf.old) }
+    ensures reads { ReadsItem H.tells look (source H.Shelf feed.old shelf.old)
+        (source H.Shelf feed.new shelf.new) result }
+    ensures ahead { IfOk result (λ next. OnSome next (0 < length feed.new.ahead)) }
+    ensures below { IfOk result (λ next. OnSome next (feed.new.place < 2 ^ 50)) }
+    ensures place { feed.new.place ≡ feed.old.place }
+{
+    let next = feed.peek(shelf)?;
+    if next.is_some() && feed.place() >= END {
+        return Err(AigStop::Fault {
+            kind: AigKind::TooLong,
+            place: END,
+        });
+    }
+    Ok(next)
+}
+
+/// Reads the bit of one input.
+#[tactic(auto, using(aig_text::proofs::Steadies::steadies))]
+fn read_bit<H: Shelf>(feed: &mut Feed, shelf: &mut H) -> Result<bool, AigStop>
+    requires { CanRead (source H.Shelf feed.old shelf.old) }
+    ensures reads { ReadsItem H.tells stimulus_bit (source H.Shelf feed.old shelf.old)
+        (source H.Shelf feed.new shelf.new) result }
+{
+    let kind = match look(feed, shelf)? {
+        Some(b'0') => {
+            feed.take();
+            return Ok(false);
+        }
+        Some(b'1') => {
+            feed.take();
+            return Ok(true);
+        }
+        None | Some(b'\n') => AigKind::StimLength,
+        Some(_) => AigKind::StimChar,
+    };
+    Err(AigStop::Fault {
+        kind,
+        place: feed.place(),
+    })
+}
+
+/// Reads the end of a line: a newline, or the text's end.
+#[tactic(auto, using(aig_text::proofs::Steadies::steadies))]
+fn read_end<H: Shelf>(feed: &mut Feed, shelf: &mut H) -> Result<(), AigStop>
+    requires { CanRead (source H.Shelf feed.old shelf.old) }
+    ensures reads { ReadsItem H.tells stimulus_end (source H.Shelf feed.old shelf.old)
+        (source H.Shelf feed.new shelf.new) result }
+{
+    match look(feed, shelf)? {
+        None => Ok(()),
+        Some(b'\n') => {
+            feed.take();
+            Ok(())
+        }
+        Some(_) => Err(AigStop::Fault {
+            kind: AigKind::StimLength,
+            place: feed.place(),
+        }),
+    }
+}
+
+/// A reader's stop, as one of a step.
+fn step_stop(stop: AigStop) -> StepStop
+    ensures { result ≡ step_stop stop }
+{
+    match stop {
+        AigStop::Fault { kind, place } => StepStop::Fault { kind, place },
+        AigStop::Read => StepStop::Read,
+        AigStop::Em(fault) => StepStop::Em(fault),
+    }
+}
+
+/// Reads a bit and adds it to the list.
+fn add_bit<D: Device, H: Shelf>(
+    rig: &mut Rig<'_, D>,
+    feed: &mut Feed,
+    shelf: &mut H,
+    list: &mut Writer,
+) -> Result<(), StepStop>
+    requires { CanAdd 1 (list_moment H.Shelf feed.old shelf.old (seen D.state rig.old) list.old) }
+    ensures { ReadsToList H.tells 1 one_bit
+        (list_moment H.Shelf feed.old shelf.old (seen D.state rig.old) list.old)
+        (list_moment H.Shelf feed.new shelf.new (seen D.state rig.new) list.new) result }
+{
+    let bit = match read_bit(feed, shelf) {
+        Ok(bit) => bit,
+        Err(stop) => return Err(step_stop(stop)),
+    };
+    let item = Record {
+        a: 0,
+        b: 0,
+        c: bit as u64,
+        d: 0,
+    };
+    match list.append(rig, item) {
+        Ok(()) => Ok(()),
+        Err(fault) => Err(StepStop::Em(fault)),
+    }
+}
+
+/// Reads a line and adds its bits to the list.
+fn read_bits<D: Device, H: Shelf>(
+    rig: &mut Rig<'_, D>,
+    feed: &mut Feed,
+    shelf: &mut H,
+    list: &mut Writer,
+    inputs: u64,
+) -> Result<(), StepStop>
+    requires { CanAdd inputs
+        (list_moment H.Shelf feed.old shelf.old (seen D.state rig.old) list.old) }
+    ensures { ReadsToList H.tells inputs (stimulus_line inputs)
+        (list_moment H.Shelf feed.old shelf.old (seen D.state rig.old) list.old)
+        (list_moment H.Shelf feed.new shelf.new (seen D.state rig.new) list.new) result }
+{
+    for _ in 0..inputs {
+        match add_bit(rig, feed, shelf, list) {
+            Ok(()) => {}
+            Err(stop) => return Err(stop),
+        }
+    }
+    match read_end(feed, shelf) {
+        Ok(()) => Ok(()),
+        Err(stop) => Err(step_stop(stop)),
+    }
+}
+
+/// Reads a line of the stimulus into a list of its bits, or answers None if nothing is left. A bit
+/// is a record (0, 0, bit, 0), and the list holds its blocks and no frame.
+///
+/// `Fault` is the line's first fault: `StimLength` if a byte is missing or one too many stands
+/// there, `StimChar` at another byte than `0` and `1`, `TooLong` at the offset 2^50. `Read` comes
+/// only if the shelf's count of faults rose, `Em` if the rig gave up, and never `Write`. The blocks
+/// of a list that wasn't finished stay in use.
+pub(crate) fn read_line<D: Device, H: Shelf>(
+    rig: &mut Rig<'_, D>,
+    feed: &mut Feed,
+    shelf: &mut H,
+    inputs: u64,
+) -> Result<Option<Chain>, StepStop>
+    requires sound { Sound (seen D.state rig.old) }
+    requires ready { CanRead (source H.Shelf feed.old shelf.old) }
+    requires free { 2 < (seen D.state rig.old).pool.free }
+    requires few { inputs ≤ 2 ^ 40 }
+    ensures goes { Goes [] (seen D.state rig.old) (seen D.state rig.new) }
+    ensures feed { Advances H.tells (source H.Shelf feed.old shelf.old)
+        (source H.Shelf feed.new shelf.new) }
+    ensures line { AnswersLine H.tells inputs (source H.Shelf feed.old shelf.old)
+        (source H.Shelf feed.new shelf.new) (seen D.state rig.new) result }
+    ensures costs { LineCosts inputs (seen D.state rig.old) (seen D.state rig.new) result }
+    ensures takes { TakesBits inputs (seen D.state rig.old) (seen D.state rig.new) }
+    ensures cause { IfErr result (LineCause (source H.Shelf feed.old shelf.old)
+        (source H.Shelf feed.new shelf.new) (seen D.state rig.old) (seen D.state rig.new)) }
+{
+    match feed.peek(shelf) {
+        Ok(Some(_)) => {}
+        Ok(None) => return Ok(None),
+        Err(_) => return Err(StepStop::Read),
+    }
+    let mut bits = Writer::new(rig);
+    match read_bits(rig, feed, shelf, &mut bits, inputs) {
+        Ok(()) => match bits.finish(rig) {
+            Ok(chain) => Ok(Some(chain)),
+            Err(fault) => Err(StepStop::Em(fault)),
+        },
+        Err(stop) => {
+            bits.abandon(rig);
+            Err(stop)
+        }
+    }
+}

@@ -1,0 +1,8 @@
+/// How a step ended that didn't stop.
+#[derive(Clone, Copy, Debug, PartialEq, Eq, Drop)]
+pub enum StepEnd {
+    /// A line of the stimulus was read, and the line of its outputs was printed.
+    Printed,
+    /// Nothing is left of the stimulus.
+    End,
+}

@@ -1,0 +1,4 @@
+pub mod Beside
+pub mod Popped
+mod PoppedRows
+pub mod Queued
