@@ -3,14 +3,14 @@ use Rattle.std.proofs.Common.{◌≡◌, ℕ, ◌+◌, ◌*◌, ◌≤◌, max, 
 use Rattle.em_record.specs.Shape.{ShapeNumbers}
 use Rattle.em_space.specs.Held.{Apart, Holds}
 use Rattle.em_space.specs.Ledger.{Session}
-use Rattle.em_space.specs.Queue.{Ends, IsRising, IsRisingRoom, Leaves, QueueCounts, Shares}
+use Rattle.em_space.specs.Queue.{Ends, ending_most, IsRising, IsRisingRoom, Leaves, QueueCounts, Shares}
 use Rattle.em_space.specs.Rig.{RigState, Touches}
 use Rattle.em_space.specs.declared.fault.EmFault.{EmFault}
 use Rattle.em_space.specs.declared.queue.Queue.{Ghosts as QueueGhosts}
 use Rattle.em_space.proofs.Held.{apart_none, holds_kept}
 use Rattle.em_space.proofs.Lists.{apart_left, apart_right, apart_sym, distinct_apart}
 use Rattle.em_space.proofs.Sessions.{session_as, session_still, session_then, session_trans}
-use Rattle.em_space.proofs.Queues.{shares_same, shares_then}
+use Rattle.em_space.proofs.Queues.{most_at_end, shares_same, shares_then}
 use Rattle.em_space.proofs.Steps.{touches_wider}
 use Rattle.em_space.proofs.Within.{touches_within}
 use Rattle.em_chain.specs.Chain.{ChainStays, chain_blocks}
@@ -212,15 +212,23 @@ ended_roomy : (o : Option (ShapeNumbers → ℕ → ℕ)) (s u v : RigState) (c 
     → u.most + (c.blocks + held) ≤ max (s.most + (c.blocks + held)) (s.used + (d.most + peak))
     → u.used + (c.blocks + held) ≡ s.used + (d.blocks + left) → left ≤ peak
     → IfSome o IsRisingRoom → IfSome o (λ f. d.most ≤ f u.pool.shape d.k)
-    → IfSome o (λ f. v.most + d.blocks
-    ≤ max (u.most + d.blocks) (u.used + f u.pool.shape d.k))
+    → v.most + d.blocks ≤ max (u.most + d.blocks) (u.used + ending_most o u.pool.shape d)
     → IfSome o (λ f. v.most + (c.blocks + held) ≤ max (s.most + (c.blocks + held))
     (s.used + (f s.pool.shape (max c.k (c.since + calls)) + peak)))
 ended_roomy None s u v c d calls held peak left e h m n l r x w = tt
 ended_roomy (Some f) s u v c d calls held peak left e h m n l r x w =
     let y = r s.pool.shape d.k (max c.k (c.since + calls)) h.k in
     let z = ap (λ (a : ShapeNumbers). f a d.k) e in
-    omega (arith, m, n, l, x, y, z, w)
+    let b : v.most + d.blocks ≤ max (u.most + d.blocks) (u.used + f u.pool.shape d.k) = w in
+    omega (arith, m, n, l, x, y, z, b)
+
+-- The same of a bound on what it holds while it ends.
+ended_within : (top : ℕ) {end : ℕ} (s u v : RigState) (c d : QueueCounts) (held peak left : ℕ)
+    → u.most + (c.blocks + held) ≤ max (s.most + (c.blocks + held)) (s.used + (d.most + peak))
+    → u.used + (c.blocks + held) ≡ s.used + (d.blocks + left) → left ≤ peak → d.most ≤ top
+    → top ≡ end → v.most + d.blocks ≤ max (u.most + d.blocks) (u.used + top)
+    → v.most + (c.blocks + held) ≤ max (s.most + (c.blocks + held)) (s.used + (end + peak))
+ended_within top s u v c d held peak left m n l x e w = omega (arith, m, n, l, x, e, w)
 
 pub costs_left : {Q : Type 0} (q : QueueGhosts Q) (x y : Q) {s u v : RigState} (p : Parts)
     → DoneUntil q x y s u p → q.HasItsFrames y u → Leaves (q.counts y) u v
@@ -241,7 +249,10 @@ costs_left q x y {s} {u} {v} p h has l rising spends rising_room fits =
       frames = has;
       shape = e;
       called = h.called;
-      most = h.most;
+      most =
+          let top = most_at_end q.room u.pool.shape (q.counts y) fits in
+          let same = ap (λ (z : ShapeNumbers). ending_most q.room z (q.counts y)) e in
+          omega (arith, h.most, m, top, same);
       moves = h.moves;
       all_moves = allowed q.allowance s u v (q.counts x) (q.counts y) calls (build_moves s p) e
           h.called h.moves rising (still_allowed q.allowance u v (q.counts y) n spends);
@@ -363,7 +374,13 @@ costs_ended q x y {s} {t} {u} {v} {m} p w b h has l rising rising_room fits =
       frames = has;
       shape = e;
       called = h.called;
-      most = h.most;
+      most =
+          let top = most_at_end q.room u.pool.shape (q.counts y) fits in
+          let same = ap (λ (z : ShapeNumbers). ending_most q.room z (q.counts y)) e in
+          ended_within (ending_most q.room u.pool.shape (q.counts y)) s u v (q.counts x)
+          (q.counts y) (parts_size p) (build_peak s p) (graph_size m) h.most
+          (omega (arith, used, old)) (omega (arith, r, b.edges, b.gates, b.sources)) top same
+          l.most;
       moves = h.moves;
       all_moves = allowed q.allowance s u v (q.counts x) (q.counts y) calls (build_moves s p) e
           h.called h.moves rising l.spent;

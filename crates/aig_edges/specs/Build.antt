@@ -1,7 +1,7 @@
 -- What making a circuit's graph by a queue gives, and what it costs.
 use Rattle.std.specs.Prelude.{◌≡◌, ℕ, ◌+◌, ◌*◌, ◌<◌, ◌≤◌, ◌^◌, ◌++◌, max, List, IsTrue, IfSome, Result, Ok, Err}
 use Rattle.em_space.specs.Ledger.{Session}
-use Rattle.em_space.specs.Queue.{Pays, QueueCounts, Shares}
+use Rattle.em_space.specs.Queue.{ending_most, Pays, QueueCounts, Shares}
 use Rattle.em_space.specs.Rig.{RigState, Sound, Touches}
 use Rattle.em_space.specs.declared.fault.EmFault.{EmFault}
 use Rattle.em_space.specs.declared.queue.Queue.{Ghosts as QueueGhosts}
@@ -117,8 +117,9 @@ StopsBuilding s p (Err stop.Read) = ⊥
 StopsBuilding s p (Err (stop.Em fault)) = Unit {0}
 
 -- The queue at the moment when it was ended or abandoned, and what was done until then: at most
--- this many calls of it, and at most `own` moves beside its own ones. At no moment until then did
--- parts, lists and queue hold more blocks than this many and the queue's greatest number.
+-- this many calls of it, and at most `own` moves beside its own ones. At no moment, while it ended
+-- either, did parts, lists and queue hold more blocks than this many and the most that the queue may
+-- hold.
 pub record BuildCosts {Q : Type 0} (queue : QueueGhosts Q) (calls own held peak : ℕ)
     (c : QueueCounts) (old new : RigState) : Type 0 where
   pub last : Q
@@ -126,8 +127,8 @@ pub record BuildCosts {Q : Type 0} (queue : QueueGhosts Q) (calls own held peak 
   pub frames : queue.HasItsFrames last then
   pub shape : then.pool.shape ≡ old.pool.shape
   pub called : Called calls c (queue.counts last)
-  pub most : then.most + (c.blocks + held)
-      ≤ max (old.most + (c.blocks + held)) (old.used + ((queue.counts last).most + peak))
+  pub most : new.most + (c.blocks + held) ≤ max (old.most + (c.blocks + held))
+      (old.used + (ending_most queue.room old.pool.shape (queue.counts last) + peak))
   pub moves : then.moves + c.spent ≤ old.moves + (queue.counts last).spent + own
   pub all_moves : IfSome queue.allowance (λ f. new.moves + c.spent
       ≤ old.moves + f old.pool.shape (c.n + calls) (max c.k (c.since + calls)) + own)

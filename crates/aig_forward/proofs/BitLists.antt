@@ -1,6 +1,6 @@
 -- Bits that are read and written, one after another.
 use mir.Val.{bool_byte}
-use Rattle.std.proofs.Common.{◌≡◌, ℕ, suc, ◌+◌, ◌-◌, ◌*◌, ◌<◌, ◌≤◌, min, Bool, true, false, List, [], ◌∷◌, ◌++◌, length, map, refl, sym, ap, ◌∙◌, subst, arith, append_assoc, IsTrue, Ok, Err}
+use Rattle.std.proofs.Common.{◌≡◌, ℕ, suc, ◌+◌, ◌-◌, ◌*◌, ◌<◌, ◌≤◌, min, Bool, true, false, List, [], ◌∷◌, ◌++◌, length, map, refl, sym, ap, ◌∙◌, subst, arith, append_assoc, IsTrue, Result, Ok, Err, OnOk}
 use Rattle.std.proofs.lemmas.List.{append-nil, length-append, length-map, map-append}
 use Rattle.em_record.specs.declared.record.Record.{Record}
 use Rattle.em_space.specs.Ledger.{Halts, Spends, Stops}
@@ -256,11 +256,12 @@ module _ {tells : Bool} {old : ListMoment} {text : Source} (can : CanAdd 1 old) 
           }
 
       -- It was read, and its record was written.
-      pub bit_done : (x : Record) → x ≡ bit_record bit → Appends old.rig rig old.list list x
+      pub bit_done : (x : Record) → old.text.feed.place < text.feed.place → x ≡ bit_record bit
+          → Appends old.rig rig old.list list x
           → Spends (one_more old.rig old.list) (writer_account old.list) (writer_account list)
           old.rig rig
           → ReadsToList tells 1 one_bit old (record { text = text; rig = rig; list = list }) (Ok tt)
-      bit_done x is a k = record {
+      bit_done x further is a k = record {
         advances = read.advances;
         frame = frame;
         by = record {
@@ -268,6 +269,7 @@ module _ {tells : Bool} {old : ListMoment} {text : Source} (can : CanAdd 1 old) 
           long = refl;
           added = added_one bit can.sound can.list.is goes
               (subst (λ (y : Record). Appends old.rig rig old.list list y) is a) k;
+          further = omega (arith, further);
           reads = λ z. ap (λ r. and_then r (λ b. Reads (b ∷ []))) (read.gives z);
         };
       }
@@ -303,6 +305,7 @@ front_none {tells} {m} inputs c =
         place = c.text.place;
         later = omega arith;
       };
+      further = omega arith;
       reads = λ z. after_none (read_now (stimulus_line inputs) m);
     })
 
@@ -333,6 +336,7 @@ module _ {tells : Bool} {old mid : ListMoment} (inputs count : ℕ) (can : CanAd
     long = omega (arith, length-append s.bits r.by.bits, s.long, r.by.long);
     added = added_then s.bits r.by.bits s.added r.by.added;
     advances = advances_then s.advances r.advances;
+    further = omega (arith, s.further, r.by.further);
     reads = λ z. front_splits l z
         ∙ ap (λ k. and_then (and_then k (λ bits q y.
         and_then (stimulus_line (inputs - (count + 1)) q y) (after_bits bits))) (after_bits s.bits))
@@ -376,6 +380,7 @@ module _ {tells : Bool} {old mid : ListMoment} (inputs count : ℕ) (can : CanAd
       bits = s.bits;
       long = s.long ∙ e;
       added = record { runs = s.added.runs; wrote = s.added.wrote; grows = s.added.grows };
+      further = omega (arith, e, s.further, r.advances.steady.forward);
       reads = λ z. front_end e z
           ∙ ap (λ k. and_then (and_then k (λ _. Reads [])) (after_bits s.bits)) (r.gives z)
           ∙ ap (λ (l : List Bool). Reads l text.feed.place (left text)) (append-nil s.bits);
@@ -399,3 +404,10 @@ module _ {tells : Bool} {old mid : ListMoment} (inputs count : ℕ) (can : CanAd
               (fault_then (step_stop e) _ (λ _. Reads []) (fault_of e _ (r.gives z))));
         };
       })
+
+-- Bits that were read took a byte or more.
+pub bits_further : {tells : Bool} {n : ℕ} {item : Item (List Bool)} {old new : ListMoment}
+    (result : Result (Unit {0}) StepStop) → 0 < n → ReadsToList tells n item old new result
+    → OnOk result (old.text.feed.place < new.text.feed.place)
+bits_further (Ok u) l r = omega (arith, l, r.by.further)
+bits_further (Err e) l r = tt

@@ -1,10 +1,10 @@
 -- An evaluator that is made, ended or abandoned.
-use Rattle.std.proofs.Common.{◌≡◌, ℕ, zero, suc, ◌+◌, ◌*◌, ◌≤◌, max, List, [], ◌∷◌, ◌++◌, length, replicate, Bool, false, refl, sym, ap, ◌∙◌, subst, arith, IsTrue, Option, Some, None, IfSome, Result, Ok, Err, OnOk, OnErr, IfErr}
+use Rattle.std.proofs.Common.{◌≡◌, ℕ, zero, suc, ◌+◌, ◌*◌, ◌≤◌, List, [], ◌∷◌, ◌++◌, length, replicate, Bool, false, refl, sym, ap, ◌∙◌, subst, arith, IsTrue, Option, Some, None, IfSome, Result, Ok, Err, OnOk, OnErr, IfErr}
 use Rattle.em_record.specs.Shape.{ShapeNumbers}
 use Rattle.em_record.specs.declared.record.Record.{Record}
 use Rattle.em_space.specs.Held.{Holds}
 use Rattle.em_space.specs.Ledger.{Runs, Stops}
-use Rattle.em_space.specs.Queue.{Ended, Ends, Leaves, Pays, QueueCounts}
+use Rattle.em_space.specs.Queue.{Ended, Ends, ending_most, Leaves, Pays, QueueCounts}
 use Rattle.em_space.specs.Rig.{RigState, Sound, Cause}
 use Rattle.em_space.specs.declared.fault.EmFault.{EmFault}
 use Rattle.em_space.specs.declared.queue.Queue.{Ghosts}
@@ -161,10 +161,6 @@ some_more : {A : Type 0} (o : Option A) (P Q : A → Type 0) → ((a : A) → P 
 some_more None P Q f h = tt
 some_more (Some a) P Q f h = f a h
 
-some_always : {A : Type 0} (o : Option A) (P : A → Type 0) → ((a : A) → P a) → IfSome o P
-some_always None P f = tt
-some_always (Some a) P f = f a
-
 module _ {Q : Type 0} (queue : Ghosts Q) {s t : RigState} (e : Evaluator Q) (sound : Sound s)
     (runs : Runs (lists_size e) (lists_blocks s e) [] (lists_account (lists_size e) (2 *
     lists_size e))
@@ -194,10 +190,9 @@ module _ {Q : Type 0} (queue : Ghosts Q) {s t : RigState} (e : Evaluator Q) (sou
             (λ f. c.spent + u.moves ≤ t.moves + f t.pool.shape c.n c.k)
             (λ f. c.spent + u.moves ≤ s.moves + f s.pool.shape c.n c.k + 2 * lists_size e)
             (λ f h. let g = rw shape at h in omega (arith, g, x.moves)) k.spent;
-        most = some_more queue.room
-            (λ f. u.most + c.blocks ≤ max (t.most + c.blocks) (t.used + f t.pool.shape c.k))
-            (λ f. u.most + c.blocks ≤ max (s.most + c.blocks) (s.used + f s.pool.shape c.k))
-            (λ f h. let g = rw shape at h in omega (arith, g, x.most, x.used, low)) k.most;
+        most =
+            let same = ap (λ (z : ShapeNumbers). ending_most queue.room z c) shape in
+            omega (arith, k.most, same, x.most, x.used, low);
       }
 
   pub ended_to : (u : RigState) (r : Result (Unit {0}) EmFault)
@@ -245,9 +240,7 @@ end_refused queue {s} {t} {u} {f} e sound k g stored spent =
         spent = some_more queue.allowance (λ x. c.spent ≤ x s.pool.shape c.n c.k)
             (λ x. c.spent + u.moves ≤ s.moves + x s.pool.shape c.n c.k + 2 * lists_size e)
             (λ x y. omega (arith, y, h.moves, v.moves)) spent;
-        most = some_always queue.room
-            (λ x. u.most + c.blocks ≤ max (s.most + c.blocks) (s.used + x s.pool.shape c.k))
-            (λ x. omega (arith, h.most, v.same.most, low));
+        most = omega (arith, h.most, v.same.most, low);
       },
       (
         pays_more (pays_left g h.pays) (omega (arith, stored)),

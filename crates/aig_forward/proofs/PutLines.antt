@@ -21,7 +21,7 @@ use Rattle.aig_defs.specs.Stimulus.{bit_byte, output_line}
 use Rattle.aig_edges.specs.declared.stop.StepStop.{StepStop}
 use Rattle.aig_edges.specs.declared.stop.StepStop.TheVariants as stop
 use Rattle.aig_forward.specs.Bits.{bits_of}
-use Rattle.aig_forward.specs.Outputs.{FailsPut, OutputCause, OutputCosts, PopsOne, Printing, PrintsOutputs, PrintsPart, PutsBy, PutsFront, PutsOne, RunsAlone, message_bit, outputs_line, outputs_of}
+use Rattle.aig_forward.specs.Outputs.{FailsPut, HaltsOutputs, KeepsFront, OutputCause, OutputCosts, PopsOne, Printing, PrintsOutputs, PrintsPart, PutsBy, PutsFront, PutsOne, RunsAlone, message_bit, outputs_line, outputs_of}
 
 -- No call of the queue,
 pub alone_none : (s : RigState) (ks : List ℕ) (c : QueueCounts) → Sound s → c.blocks ≤ c.most
@@ -168,6 +168,16 @@ line_next : (n : ℕ) (bit : Bool) (old new : List Record)
     → outputs_line (suc n) old ≡ bit_byte bit ∷ outputs_line n new
 line_next n bit old new e = ap output_line e
 
+-- What went out and what is pending are a front, if the rest is still to come.
+front_kept : {took : List ℕ → List ℕ → List ℕ} {old bytes new pending : List ℕ} (rest : List ℕ)
+    → Sent took old bytes new (pending ++ rest) → KeepsFront took old bytes new pending
+front_kept {pending = pending} rest p = record {
+  front = p.sent ++ pending;
+  behind = rest;
+  all = append_assoc p.sent pending rest ∙ p.all;
+  sent = record { sent = p.sent; state = p.state; all = refl };
+}
+
 -- Nothing was printed yet.
 puts_none : {took : List ℕ → List ℕ → List ℕ} {IsState : List ℕ → Type 0}
     → IsRule IsState took → (count : ℕ) (old : Printing) → IsState old.out → Sound old.rig
@@ -228,6 +238,13 @@ module _ {took : List ℕ → List ℕ → List ℕ} {IsState : List ℕ → Typ
       part-of (subst (λ (x : List ℕ). Sent took old.out
       (old.pending ++ outputs_line count old.items) x
       (mid.pending ++ outputs_line n mid.items)) (sym same) (s.sent z))
+
+  -- with what is pending,
+  pub puts_halts : (n : ℕ) (new : Printing) → PutsFront took count n old mid
+      → new.out ≡ mid.out → new.pending ≡ mid.pending → IsTrue old.rig.device.told
+      → KeepsFront took old.out (old.pending ++ outputs_line count old.items) new.out new.pending
+  puts_halts n new s out pending z =
+      rw (out, pending) (front_kept (outputs_line n mid.items) (s.sent z))
 
   -- or the sink failed.
   pub puts_fails : (n : ℕ) {new : Printing} → PutsFront took count (suc n) old mid
@@ -293,6 +310,7 @@ alone_runs h =
 pub record PutStops (took : List ℕ → List ℕ → List ℕ) (count : ℕ) (old new : Printing)
     (e : StepStop) : Type 0 where
   pub part : PrintsPart took count old new
+  pub front : HaltsOutputs took count old new (Err e)
   pub costs : OutputCosts count old new (Err e)
   pub goes_on : old.faults ≤ new.faults
   pub cause : OutputCause old new e
@@ -329,12 +347,14 @@ module _ {took : List ℕ → List ℕ → List ℕ} {IsState : List ℕ → Typ
   step_stops new stop.Read l p = absurd p
   step_stops new stop.Write l p = record {
     part = puts_fails rule count ok (count - (i + 1)) (some_left l) p;
+    front = tt;
     costs = alone_wider (omega (arith, l)) (alone_then s.runs p.pops.runs);
     goes_on = omega (arith, s.later, p.later);
     cause = omega (arith, s.later, p.rose);
   }
   step_stops new (stop.Em fault) l p = record {
     part = puts_part rule count ok (count - i) new s p.1;
+    front = puts_halts rule count ok (count - i) new s p.1 p.3;
     costs = stops_wider (omega (arith, l)) (omega arith) (omega arith) (omega arith)
         (stops_then (alone_runs s.runs) p.0);
     goes_on = omega (arith, s.later, p.2);
@@ -366,6 +386,7 @@ module _ {took : List ℕ → List ℕ → List ℕ} {IsState : List ℕ → Typ
       let new = record mid { out = out; faults = faults; pending = pending } in
       record {
         part = puts_line_part rule count ok new (none_left l) q;
+        front = tt;
         costs = alone_wider (omega arith) s.runs;
         goes_on = omega (arith, s.later, later);
         cause = omega (arith, s.later, rose);

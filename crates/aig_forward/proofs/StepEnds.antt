@@ -35,8 +35,8 @@ use Rattle.aig_forward.specs.Bits.{bits_of}
 use Rattle.aig_forward.specs.Evaluator.{Evaluates, IsEvaluator, evaluator_blocks, lists_blocks, lists_size}
 use Rattle.aig_forward.specs.Line.{ReadsWholeLine}
 use Rattle.aig_forward.specs.Lists.{latch_room, lists_account}
-use Rattle.aig_forward.specs.Outputs.{OutputCause, Printing, RunsAlone, outputs_line}
-use Rattle.aig_forward.specs.Step.{Keeps, Scene, AnswersStep, StopsStep, TakesLine, input_room, line_of, step_account, step_calls, step_room}
+use Rattle.aig_forward.specs.Outputs.{HaltsOutputs, KeepsFront, OutputCause, Printing, PrintsPart, RunsAlone, outputs_line}
+use Rattle.aig_forward.specs.Step.{HaltsStep, Keeps, Scene, AnswersStep, StopsStep, TakesLine, input_room, line_of, scene, step_account, step_calls, step_room}
 use Rattle.aig_forward.specs.StepPass.{Passed, PassesFor, pass_blocks}
 use Rattle.aig_forward.specs.declared.evaluator.Evaluator.{Evaluator}
 use Rattle.aig_forward.specs.declared.step_end.StepEnd.{StepEnd}
@@ -286,8 +286,8 @@ reads_not : {bits : List Bool} {p place : ℕ} {x : List ℕ} {kind : AigKind}
     → Reads bits p x ≡ Fails kind place → ⊥
 reads_not e = cc
 
--- The printing of a line that was read stopped: a front of it went out.
-pub line_stops : {Q : Type 0} {took : List ℕ → List ℕ → List ℕ} (c : Circuit) (state : List Bool)
+-- The printing of a line that was read stopped: a front of it went out,
+line_stops : {Q : Type 0} {took : List ℕ → List ℕ → List ℕ} (c : Circuit) (state : List Bool)
     (old new : Scene Q) (bits : List Bool)
     → TakesLine c.header.inputs old.text new.text bits
     → SentPart took old.taken (old.pending ++ line_of c state bits) new.taken
@@ -299,16 +299,41 @@ line_stops {took = took} c state old new bits line p = record {
   ended = λ e. absurd (line.some e);
 }
 
--- Only the sink or the queue stops it.
-pub put_stops : {Q : Type 0} (queue : Ghosts Q) {took : List ℕ → List ℕ → List ℕ} (c : Circuit)
-    (order : List Gate) (state : List Bool) (old new : Scene Q) (before after : Printing)
-    (r : Result StepEnd StepStop) (x : StepStop) → IsErrAnd r (λ k. k ≡ x)
-    → OutputCause before after x → StopsStep took c state old new
-    → AnswersStep queue took c order state old new r
-put_stops queue c order state old new before after (Ok x) y h cause p = absurd h
-put_stops queue c order state old new before after (Err stop.Write) y h cause p = p
-put_stops queue c order state old new before after (Err (stop.Em fault)) y h cause p = p
-put_stops queue c order state old new before after (Err stop.Read) y h cause p =
-    absurd (subst (OutputCause before after) (sym h) cause)
-put_stops queue c order state old new before after (Err (stop.Fault kind place)) y h cause p =
-    absurd (subst (OutputCause before after) (sym h) cause)
+-- or is pending too.
+line_halts : {Q : Type 0} {took : List ℕ → List ℕ → List ℕ} (c : Circuit) (state : List Bool)
+    (old new : Scene Q) (bits : List Bool)
+    → TakesLine c.header.inputs old.text new.text bits
+    → KeepsFront took old.taken (old.pending ++ line_of c state bits) new.taken new.pending
+    → HaltsStep took c state old new
+line_halts {took = took} c state old new bits line p = record {
+  front = λ some more place rest e. subst (λ (b : List Bool). KeepsFront took old.taken
+      (old.pending ++ line_of c state b) new.taken new.pending)
+      (reads_bits (sym line.reads ∙ e)) p;
+  none = λ kind place e. absurd (reads_not (sym line.reads ∙ e));
+  ended = λ e. absurd (line.some e);
+}
+
+module _ {Q : Type 0} (queue : Ghosts Q) {took : List ℕ → List ℕ → List ℕ} (c : Circuit)
+    (order : List Gate) (state bits : List Bool) (s t : RigState) (e f : Evaluator Q)
+    {text rest : Source} (count : ℕ) (before after : Printing) where
+  -- Only the sink or the queue stops it.
+  pub put_stops : (r : Result StepEnd StepStop) (x : StepStop) → IsErrAnd r (λ k. k ≡ x)
+      → TakesLine c.header.inputs text rest bits
+      → outputs_line count before.items ≡ line_of c state bits → IsTrue before.rig.device.told
+      → OutputCause before after x → PrintsPart took count before after
+      → HaltsOutputs took count before after (Err x)
+      → AnswersStep queue took c order state (scene s e text before.out before.pending)
+      (scene t f rest after.out after.pending) r
+  put_stops (Ok x) y h line is told cause part front = absurd h
+  put_stops (Err stop.Write) y h line is told cause part front =
+      line_stops c state _ _ bits line (subst (λ (l : List ℕ). SentPart took before.out
+      (before.pending ++ l) after.out) is (part told))
+  put_stops (Err (stop.Em fault)) y h line is told cause part front =
+      let kept : HaltsOutputs took count before after (Err (stop.Em fault)) =
+      subst (λ (k : StepStop). HaltsOutputs took count before after (Err k)) (sym h) front in
+      line_halts c state _ _ bits line (subst (λ (l : List ℕ). KeepsFront took before.out
+      (before.pending ++ l) after.out after.pending) is (kept told))
+  put_stops (Err stop.Read) y h line is told cause part front =
+      absurd (subst (OutputCause before after) (sym h) cause)
+  put_stops (Err (stop.Fault kind place)) y h line is told cause part front =
+      absurd (subst (OutputCause before after) (sym h) cause)

@@ -1,5 +1,6 @@
 -- A step that reads a line of the stimulus.
-use Rattle.std.proofs.Common.{◌≡◌, ℕ, [], ◌++◌, refl, sym, ap, ◌∙◌, append_assoc, IsTrue}
+use Rattle.std.proofs.Common.{◌≡◌, ℕ, [], ◌++◌, refl, sym, ap, ◌∙◌, append_assoc, IsTrue, IsErr, Result, Ok, Err}
+use Rattle.std.specs.Prelude.{IfErr}
 use Rattle.em_space.specs.Ledger.{Session}
 use Rattle.em_space.specs.Rig.{RigState, Sound, Goes}
 use Rattle.em_space.specs.declared.queue.Queue.{Ghosts}
@@ -10,9 +11,12 @@ use Rattle.em_chain.specs.Counts.{ceiling}
 use Rattle.em_chain.specs.declared.chain.Chain.{Chain}
 use Rattle.em_chain.proofs.Keeps.{payload_kept}
 use Rattle.em_chain.proofs.Laws.{chain_stays}
+use Rattle.aig_edges.specs.declared.stop.StepStop.{StepStop}
 use Rattle.aig_forward.specs.Evaluator.{IsEvaluator, evaluator_blocks, lists_blocks}
+use Rattle.aig_forward.specs.Step.{IfPrinted}
 use Rattle.aig_forward.specs.StepPass.{pass_blocks}
 use Rattle.aig_forward.specs.declared.evaluator.Evaluator.{Evaluator}
+use Rattle.aig_forward.specs.declared.step_end.StepEnd.{StepEnd}
 
 module _ {Q : Type 0} (queue : Ghosts Q) {s t : RigState} (e : Evaluator Q) (sound : Sound s)
     (i : IsEvaluator queue s e) (goes : Goes [] s t) (is : queue.IsQueue e.queue t)
@@ -65,3 +69,13 @@ module _ {Q : Type 0} (queue : Ghosts Q) {s t : RigState} (e : Evaluator Q) (sou
         rw (blocks_on y) (holds_kept [] s t (evaluator_blocks queue s e) goes.touches
         (λ w. apart_none (evaluator_blocks queue s e)) (i.holds y));
   }
+
+-- A stop prints no line.
+pub none_printed : (r : Result StepEnd StepStop) (P : Type 0) → IsErr r → IfPrinted r P
+none_printed (Ok x) P is = absurd (cc)
+none_printed (Err e) P is = tt
+
+-- What is said of each stop is said of this one.
+pub stop_says : {P : Type 0} (r : Result StepEnd StepStop) → P → IfErr r (λ e. P)
+stop_says (Ok end) p = tt
+stop_says (Err e) p = p

@@ -1,10 +1,10 @@
 -- A step that stops.
-use Rattle.std.proofs.Common.{◌≡◌, ℕ, ◌+◌, ◌*◌, ◌≤◌, max, Bool, List, [], ◌++◌, ap, ◌∙◌, subst, arith, IsTrue, Result, Ok, Err}
+use Rattle.std.proofs.Common.{◌≡◌, ℕ, ◌+◌, ◌*◌, ◌-◌, ◌≤◌, max, Bool, List, [], ◌++◌, refl, ap, ◌∙◌, subst, arith, IsTrue, Result, Ok, Err}
 use Rattle.std.specs.Result.{IsErr, IsErrAnd}
 use Rattle.em_record.specs.Shape.{ShapeNumbers}
 use Rattle.em_io.specs.Sink.{IsRule}
 use Rattle.em_io.specs.declared.sink.Sink as sink
-use Rattle.em_io.proofs.Sent.{part-of, sent-nothing}
+use Rattle.em_io.proofs.Sent.{sent-nothing}
 use Rattle.em_space.specs.Ledger.{Account, Runs, Session}
 use Rattle.em_space.specs.Queue.{AreOut, Pays, QueueCounts}
 use Rattle.em_space.specs.Rig.{RigState, Sound, Goes}
@@ -33,7 +33,7 @@ use Rattle.aig_forward.specs.Evaluator.{Halted, IsEvaluator, evaluator_blocks, l
 use Rattle.aig_forward.specs.Line.{AnswersLine, ReadsWholeLine, TakesBits}
 use Rattle.aig_forward.specs.Lists.{latch_room, lists_account}
 use Rattle.aig_forward.specs.Outputs.{OutputCosts, Printing, printing}
-use Rattle.aig_forward.specs.Step.{IsQuiet, Keeps, Scene, StepCosts, AnswersStep, StopsStep, input_room, step_account, step_calls, step_room}
+use Rattle.aig_forward.specs.Step.{HaltsStep, IsQuiet, Keeps, Scene, StepCosts, AnswersStep, input_room, line_of, step_account, step_calls, step_room}
 use Rattle.aig_forward.specs.StepPass.{FailsPass, IsInput, Passed, pass_blocks}
 use Rattle.aig_forward.specs.declared.evaluator.Evaluator.{Evaluator}
 use Rattle.aig_forward.specs.declared.step_end.StepEnd.{StepEnd}
@@ -50,14 +50,19 @@ pub stop_costs : {Q : Type 0} (queue : Ghosts Q) {s t : RigState} (e f : Evaluat
 stop_costs queue e f (Ok x) is h = cc
 stop_costs queue e f (Err k) is h = h
 
--- Nothing went out before it stopped.
-pub stops_quiet : {took : List ℕ → List ℕ → List ℕ} {IsState : List ℕ → Type 0}
+-- Nothing happened to the output before it stopped.
+halts_quiet : {took : List ℕ → List ℕ → List ℕ} {IsState : List ℕ → Type 0}
     → IsRule IsState took → {Q : Type 0} (c : Circuit) (state : List Bool) (old new : Scene Q)
-    → IsState old.taken → new.taken ≡ old.taken → StopsStep took c state old new
-stops_quiet rule c state old new ok e = record {
-  part = λ some bits place rest reads. part-of (sent-nothing rule ok _ e);
-  none = λ kind place fails. e;
-  ended = λ none. e;
+    → IsState old.taken → IsQuiet old new → HaltsStep took c state old new
+halts_quiet rule c state old new ok q = record {
+  front = λ some bits place rest reads. record {
+    front = old.pending;
+    behind = line_of c state bits;
+    all = refl;
+    sent = rw (q.pending) (sent-nothing rule ok old.pending (q.taken));
+  };
+  none = λ kind place fails. q;
+  ended = λ none. q;
 }
 
 -- No line was read, and nothing went out.
@@ -73,7 +78,7 @@ unread_quiet rule queue c order state old new ok q tells inputs before after t s
 unread_quiet rule queue c order state old new ok q tells inputs before after t stop.Write a =
     absurd a
 unread_quiet rule queue c order state old new ok q tells inputs before after t (stop.Em fault) a =
-    stops_quiet rule c state old new ok q.taken
+    halts_quiet rule c state old new ok q
 
 pub line_unread : {took : List ℕ → List ℕ → List ℕ} {IsState : List ℕ → Type 0}
     → IsRule IsState took → {Q : Type 0} (queue : Ghosts Q) (c : Circuit) (order : List Gate)
@@ -90,11 +95,11 @@ line_unread {took} rule queue c order state old new r e is ok q tells inputs t a
 pub pass_quiet : {took : List ℕ → List ℕ → List ℕ} {IsState : List ℕ → Type 0}
     → IsRule IsState took → {Q : Type 0} (queue : Ghosts Q) (c : Circuit) (order : List Gate)
     (state : List Bool) (old new : Scene Q) (r : Result StepEnd StepStop) (fault : EmFault)
-    → IsErrAnd r (λ f. f ≡ stop.Em fault) → IsState old.taken → new.taken ≡ old.taken
+    → IsErrAnd r (λ f. f ≡ stop.Em fault) → IsState old.taken → IsQuiet old new
     → AnswersStep queue took c order state old new r
-pass_quiet {took} rule queue c order state old new r fault is ok e =
+pass_quiet {took} rule queue c order state old new r fault is ok q =
     of_error (AnswersStep queue took c order state old new) r (stop.Em fault) is
-    (stops_quiet rule c state old new ok e)
+    (halts_quiet rule c state old new ok q)
 
 -- the bits of a line are those of the inputs
 pub input_of : {tells : Bool} {old new : Source} {t : RigState} {c : Chain} (h : Header)
@@ -228,9 +233,9 @@ module _ {Q : Type 0} (queue : Ghosts Q) {s t : RigState} (e : Evaluator Q) (sou
 
     -- The line and the pass together.
     pub pass_runs : {u : RigState} (f : Evaluator Q) → Passed queue t u e f inputs
-        → RunsBeside (2 * edge_count e.header) (step_room s e) (evaluator_blocks queue s e)
-        (evaluator_blocks queue u f) (step_account s e) (lists_account (lists_size f) 0)
-        (queue.counts e.queue) (queue.counts f.queue) s u
+        → RunsBeside (2 * edge_count e.header - e.header.outputs) (step_room s e)
+        (evaluator_blocks queue s e) (evaluator_blocks queue u f) (step_account s e)
+        (lists_account (lists_size f) 0) (queue.counts e.queue) (queue.counts f.queue) s u
     pass_runs {u} f p =
         let c = queue.counts e.queue in
         let x = line.spends in

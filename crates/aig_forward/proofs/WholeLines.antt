@@ -207,12 +207,12 @@ module _ {tells : Bool} (inputs : ℕ) {before old new : Source} {s a b t : RigS
     {w v : Writer} (sound : Sound s) (lends : LendsFrame s a) (unmoved : Unmoved s a)
     (begins : Begins a w) (looks : LooksOn tells before old) where
   -- The bits were read, and the list was finished,
-  pub line_done : (u : Unit {0}) (c : Chain)
+  pub line_done : (u : Unit {0}) (c : Chain) → old.feed.place < new.feed.place
       → ReadsToList tells inputs (stimulus_line inputs) (record { text = old; rig = a; list = w })
       (record { text = new; rig = b; list = v }) (Ok u)
       → GivesFrame (writer_blocks b v) b t → Finishes b t v c → FinishSpends b t v (Ok c)
       → LineDone tells inputs before new s t (Ok (Some c))
-  line_done u c r g f k =
+  line_done u c further r g f k =
       let h = r.by.added in
       let q = grown lends unmoved begins h in
       let n = length r.by.bits in
@@ -243,6 +243,7 @@ module _ {tells : Bool} (inputs : ℕ) {before old new : Source} {s a b t : RigS
                 ∙ ap (λ (p : ℕ). ceiling n p) (sym (payload_kept [] s t goes.touches));
           };
           long = r.by.long;
+          further = omega (arith, further, looks.place);
           some = looks.some;
           reads = λ z. here inputs looks z ∙ r.by.reads z;
         };

@@ -67,12 +67,13 @@ FaultIs stop.Read reading = Unit {0}
 FaultIs stop.Write reading = Unit {0}
 FaultIs (stop.Em fault) reading = Unit {0}
 
--- n bits were read, and written.
+-- n bits were read, and written. Each took a byte of the text.
 pub record AddsBits (tells : Bool) (n : ℕ) (item : Item (List Bool)) (old new : ListMoment)
     : Type 0 where
   pub bits : List Bool
   pub long : length bits ≡ n
   pub added : Added old new bits
+  pub further : old.text.feed.place + n ≤ new.text.feed.place
   pub reads : IsTrue tells → read_now item old ≡ Reads bits new.text.feed.place (left new.text)
 
 -- They weren't.
@@ -101,11 +102,13 @@ one_bit = stimulus_bit >>= λ bit. Reads (bit ∷ [])
 abbrev pub after_bits : List Bool → List Bool → Item (List Bool)
 after_bits bits more = Reads (bits ++ more)
 
--- Of an item the first bits were read and written; the rest of it is to be read here.
+-- Of an item the first n bits were read and written, each by a byte of the text; the rest of it is to
+-- be read here.
 pub record AddedFront (tells : Bool) (n : ℕ) (item rest : Item (List Bool)) (old now : ListMoment)
     : Type 0 where
   pub bits : List Bool
   pub long : length bits ≡ n
   pub added : Added old now bits
   pub advances : Advances tells old.text now.text
+  pub further : old.text.feed.place + n ≤ now.text.feed.place
   pub reads : IsTrue tells → read_now item old ≡ and_then (read_now rest now) (after_bits bits)

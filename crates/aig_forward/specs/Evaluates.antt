@@ -1,5 +1,5 @@
 -- What `evaluate` does: one step without its stimulus and its output line.
-use Rattle.std.specs.Prelude.{◌≡◌, ◌<◌, ◌≤◌, ℕ, ◌+◌, ◌*◌, Bool, false, List, ◌++◌, length, All, IsTrue, Result, Ok, Err}
+use Rattle.std.specs.Prelude.{◌≡◌, ◌<◌, ◌≤◌, ℕ, ◌+◌, ◌*◌, ◌-◌, Bool, false, List, ◌++◌, length, All, IsTrue, Result, Ok, Err}
 use Rattle.em_record.specs.Shape.{fan_of}
 use Rattle.em_record.specs.declared.record.Record.{Record}
 use Rattle.em_frames.specs.Pool.{PoolCounts}
@@ -54,7 +54,7 @@ state_blocks h s = ceiling h.latches (payload_in s)
 -- The bits were taken, and the latches' next bits are a new list.
 pub record Evaluated (h : Header) (given gates bits : Chain) (q p : QueueState) (next : Chain)
     : Type 0 where
-  pub runs : RunsBeside (2 * edge_count h) (bits.blocks + next.blocks)
+  pub runs : RunsBeside (2 * edge_count h - h.outputs) (bits.blocks + next.blocks)
       (q.blocks ++ chain_blocks q.rig bits) (p.blocks ++ chain_blocks p.rig next)
       (bits_account given gates bits) (chain_account 1 next) q.counts p.counts q.rig p.rig
   pub is : IsChain p.rig next

@@ -2,7 +2,7 @@
 use Rattle.std.specs.Prelude.{◌≡◌, ◌<◌, ◌≤◌, ℕ, ◌+◌, ◌*◌, Bool, false, List, [], ◌++◌, All, IsTrue, IfSome, replicate, max, Result, Ok, Err}
 use Rattle.em_record.specs.declared.record.Record.{Record}
 use Rattle.em_space.specs.Held.{Holds}
-use Rattle.em_space.specs.Queue.{Pays, QueueCounts, Shares}
+use Rattle.em_space.specs.Queue.{ending_most, Pays, QueueCounts, Shares}
 use Rattle.em_space.specs.Rig.{RigState, Sound, Touches, Cause}
 use Rattle.em_space.specs.declared.fault.EmFault.{EmFault}
 use Rattle.em_space.specs.declared.queue.Queue.{Ghosts}
@@ -122,9 +122,9 @@ pub record EndsEvaluator {Q : Type 0} (queue : Ghosts Q) (s t : RigState) (e : E
   pub spent : IfSome queue.allowance (λ f. (queue.counts e.queue).spent + t.moves
       ≤ s.moves + f s.pool.shape (queue.counts e.queue).n (queue.counts e.queue).k
       + 2 * lists_size e)
-  pub most : IfSome queue.room (λ f. t.most + (queue.counts e.queue).blocks
+  pub most : t.most + (queue.counts e.queue).blocks
       ≤ max (s.most + (queue.counts e.queue).blocks)
-      (s.used + f s.pool.shape (queue.counts e.queue).k))
+      (s.used + ending_most queue.room s.pool.shape (queue.counts e.queue))
 
 -- what its end did to blocks in use: all of its own are released, and after a fault as many blocks
 -- as there are frames may not be stored

@@ -1,5 +1,7 @@
 -- A line of the stimulus that is read into a list of its bits.
 use Rattle.std.specs.Prelude.{◌≡◌, ℕ, ◌+◌, ◌*◌, ◌<◌, ◌≤◌, max, Bool, List, [], length, if◌then◌else◌, Option, Some, None, IsTrue, Result, Ok, Err}
+use Rattle.em_io.specs.Feed.{Fed}
+use Rattle.em_io.specs.Shelf.{Stand}
 use Rattle.em_record.specs.Count.{Rose}
 use Rattle.em_record.specs.declared.record.Record.{Record}
 use Rattle.em_space.specs.Ledger.{Runs, Stops}
@@ -10,8 +12,9 @@ use Rattle.em_chain.specs.Session.{chain_account}
 use Rattle.em_chain.specs.declared.chain.Chain.{Chain}
 use Rattle.em_queued.specs.Queued.{no_account}
 use Rattle.aig_defs.specs.Items.{Reading, Reads, Fails}
-use Rattle.aig_defs.specs.Stimulus.{stimulus_line}
+use Rattle.aig_defs.specs.Stimulus.{stimulus_end, stimulus_line}
 use Rattle.aig_defs.specs.declared.fault.AigKind.{AigKind}
+use Rattle.aig_text.specs.Reads.{ReadsItem}
 use Rattle.aig_text.specs.Source.{Source, left}
 use Rattle.aig_text.specs.declared.stop.AigStop.{AigStop}
 use Rattle.aig_text.specs.declared.stop.AigStop.TheVariants as aig
@@ -35,17 +38,27 @@ pub record IsBitChain (s : RigState) (c : Chain) (bits : List Bool) : Type 0 whe
   pub count_is : c.count ≡ length bits
   pub blocks_is : c.blocks ≡ ceiling (length bits) (payload_in s)
 
+-- the text that a feed of this state reads from a shelf of this one
+abbrev pub text_of : Fed → Stand → ℕ → Source
+text_of feed stand faults = record { feed = feed; stand = stand; faults = faults }
+
+-- The end of a line was read from the bytes ahead, whatever stands on the shelf.
+abbrev pub ReadsEnd : Fed → Fed → Result (Unit {0}) AigStop → Type 0
+ReadsEnd old new result = (tells : Bool) (stand : Stand) (faults : ℕ) →
+    ReadsItem tells stimulus_end (text_of old stand faults) (text_of new stand faults) result
+
 -- Nothing was left of the stimulus, and nothing was taken.
 pub record EndsHere (tells : Bool) (old new : Source) : Type 0 where
   pub none_taken : new.feed.place ≡ old.feed.place
   pub none_left : IsTrue tells → left old ≡ []
 
--- A line was read whole, and the chain has its bits.
+-- A line was read whole, which took a byte or more, and the chain has its bits.
 pub record ReadsWholeLine (tells : Bool) (inputs : ℕ) (old new : Source) (t : RigState) (c : Chain)
     : Type 0 where
   pub bits : List Bool
   pub chain : IsBitChain t c bits
   pub long : length bits ≡ inputs
+  pub further : old.feed.place < new.feed.place
   pub some : IsTrue tells → 0 < length (left old)
   pub reads : IsTrue tells → line_here inputs old ≡ Reads bits new.feed.place (left new)
 

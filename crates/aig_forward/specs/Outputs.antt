@@ -23,6 +23,14 @@ message_bit (Some message) = message.c == 1
 abbrev pub outputs_of : ℕ → List Record → List Bool
 outputs_of count items = bits_of (take count items) ++ replicate (count - length items) false
 
+-- Of these bytes a front went out or is pending.
+pub record KeepsFront (took : List ℕ → List ℕ → List ℕ) (old bytes new pending : List ℕ)
+    : Type 0 where
+  pub front : List ℕ
+  pub behind : List ℕ
+  pub all : front ++ behind ≡ bytes
+  pub sent : Sent took old front new pending
+
 -- their line
 abbrev pub outputs_line : ℕ → List Record → List ℕ
 outputs_line count items = output_line (outputs_of count items)
@@ -70,6 +78,16 @@ pub record PrintsOutputs (took : List ℕ → List ℕ → List ℕ) (count : �
 abbrev pub PrintsPart : (List ℕ → List ℕ → List ℕ) → ℕ → Printing → Printing → Type 0
 PrintsPart took count old new = IsTrue old.rig.device.told
     → SentPart took old.out (old.pending ++ outputs_line count old.items) new.out
+
+-- at the rig's stop a front of the line went out or is pending
+abbrev pub HaltsOutputs : (List ℕ → List ℕ → List ℕ) → ℕ → Printing → Printing
+    → Result (Unit {0}) StepStop → Type 0
+HaltsOutputs took count old new (Ok u) = Unit {0}
+HaltsOutputs took count old new (Err (stop.Fault kind place)) = Unit {0}
+HaltsOutputs took count old new (Err stop.Read) = Unit {0}
+HaltsOutputs took count old new (Err stop.Write) = Unit {0}
+HaltsOutputs took count old new (Err (stop.Em fault)) = IsTrue old.rig.device.told
+    → KeepsFront took old.out (old.pending ++ outputs_line count old.items) new.out new.pending
 
 -- what the calls of the queue cost, by the answer
 abbrev pub OutputCosts : ℕ → Printing → Printing → Result (Unit {0}) StepStop → Type 0
@@ -120,7 +138,7 @@ PutsBy took old new (Ok u) = PutsOne took old new
 PutsBy took old new (Err stop.Write) = FailsPut took old new
 PutsBy took old new (Err (stop.Em fault)) =
     StopsBeside 1 0 0 0 old.blocks no_account old.counts new.counts old.rig new.rig fault
-    × (new.out ≡ old.out) × (new.faults ≡ old.faults)
+    × (new.out ≡ old.out) × (new.faults ≡ old.faults) × (new.pending ≡ old.pending)
 PutsBy took old new (Err (stop.Fault kind place)) = ⊥
 PutsBy took old new (Err stop.Read) = ⊥
 

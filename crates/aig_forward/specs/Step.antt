@@ -1,5 +1,5 @@
 -- What a step of an evaluator does, and what it costs.
-use Rattle.std.specs.Prelude.{◌≡◌, ◌<◌, ℕ, ◌+◌, ◌*◌, ◌^◌, Bool, List, [], ◌++◌, Result, Ok, Err}
+use Rattle.std.specs.Prelude.{◌≡◌, ◌<◌, ◌≤◌, ℕ, ◌+◌, ◌*◌, ◌^◌, ◌⊎◌, Bool, List, [], ◌++◌, Result, Ok, Err}
 use Rattle.em_record.specs.Count.{Rose}
 use Rattle.em_io.specs.Sink.{Sent, SentPart}
 use Rattle.em_frames.specs.Pool.{PoolCounts}
@@ -22,6 +22,7 @@ use Rattle.aig_edges.specs.declared.stop.StepStop.{StepStop}
 use Rattle.aig_edges.specs.declared.stop.StepStop.TheVariants as stop
 use Rattle.aig_forward.specs.Evaluator.{Evaluates, Halted, HasEvaluatorFrames, evaluator_blocks, lists_size}
 use Rattle.aig_forward.specs.Lists.{latch_room, lists_account}
+use Rattle.aig_forward.specs.Outputs.{KeepsFront}
 use Rattle.aig_forward.specs.declared.evaluator.Evaluator.{Evaluator}
 use Rattle.aig_forward.specs.declared.step_end.StepEnd.{StepEnd}
 use Rattle.aig_forward.specs.declared.step_end.StepEnd.TheVariants.{Printed, End}
@@ -108,8 +109,8 @@ pub record EndsStep {Q : Type 0} (queue : Ghosts Q) (c : Circuit) (order : List 
   pub quiet : IsQuiet old new
   pub same : Evaluates queue new.rig new.evaluator c order state
 
--- The sink or the rig stopped it: of the line's outputs a front went out, and nothing if the line has a
--- fault, or if nothing is left of the stimulus.
+-- The sink stopped it: of the line's outputs a front went out, and nothing if the line has a fault, or if
+-- nothing is left of the stimulus.
 pub record StopsStep {Q : Type 0} (took : List ℕ → List ℕ → List ℕ) (c : Circuit)
     (state : List Bool) (old new : Scene Q) : Type 0 where
   pub part : (left old.text ≡ [] → ⊥) → (bits : List Bool) (place : ℕ) (rest : List ℕ)
@@ -118,6 +119,28 @@ pub record StopsStep {Q : Type 0} (took : List ℕ → List ℕ → List ℕ) (c
   pub none : (kind : AigKind) (place : ℕ) → line_at c.header.inputs old.text ≡ Fails kind place
       → new.taken ≡ old.taken
   pub ended : left old.text ≡ [] → new.taken ≡ old.taken
+
+-- The rig stopped it: of the line's outputs a front went out or is pending, and nothing happened to the
+-- output if the line has a fault, or if nothing is left of the stimulus.
+pub record HaltsStep {Q : Type 0} (took : List ℕ → List ℕ → List ℕ) (c : Circuit)
+    (state : List Bool) (old new : Scene Q) : Type 0 where
+  pub front : (left old.text ≡ [] → ⊥) → (bits : List Bool) (place : ℕ) (rest : List ℕ)
+      → line_at c.header.inputs old.text ≡ Reads bits place rest
+      → KeepsFront took old.taken (old.pending ++ line_of c state bits) new.taken new.pending
+  pub none : (kind : AigKind) (place : ℕ) → line_at c.header.inputs old.text ≡ Fails kind place
+      → IsQuiet old new
+  pub ended : left old.text ≡ [] → IsQuiet old new
+
+-- P, if a line was printed
+abbrev pub IfPrinted : Result StepEnd StepStop → Type 0 → Type 0
+IfPrinted (Ok Printed) P = P
+IfPrinted (Ok End) P = Unit {0}
+IfPrinted (Err e) P = Unit {0}
+
+-- a call of the queue came only if something was taken of the stimulus
+abbrev pub CallsAfterLine : {Q : Type 0} → Ghosts Q → Evaluator Q → Evaluator Q → ℕ → ℕ → Type 0
+CallsAfterLine queue e f place later =
+    ((queue.counts f.queue).n ≤ (queue.counts e.queue).n) ⊎ (place < later)
 
 -- what a step of this circuit, from this state, did
 abbrev pub AnswersStep : {Q : Type 0} → Ghosts Q → (List ℕ → List ℕ → List ℕ) → Circuit → List Gate
@@ -128,7 +151,7 @@ AnswersStep queue took c order state old new (Ok End) = EndsStep queue c order s
 AnswersStep queue took c order state old new (Err (stop.Fault kind place)) = IsQuiet old new
 AnswersStep queue took c order state old new (Err stop.Read) = IsQuiet old new
 AnswersStep queue took c order state old new (Err stop.Write) = StopsStep took c state old new
-AnswersStep queue took c order state old new (Err (stop.Em fault)) = StopsStep took c state old new
+AnswersStep queue took c order state old new (Err (stop.Em fault)) = HaltsStep took c state old new
 
 -- the blocks of a list of the bits of inputs
 abbrev pub input_room : Header → RigState → ℕ
@@ -150,9 +173,9 @@ step_moves s e =
 abbrev pub step_account : {Q : Type 0} → RigState → Evaluator Q → Account
 step_account s e = lists_account (lists_size e) (step_moves s e)
 
--- the calls of the queue in a step, at most: two for each edge, and one for each output
+-- the calls of the queue in a step, at most: two for each edge
 abbrev pub step_calls : Header → ℕ
-step_calls h = 2 * edge_count h + h.outputs
+step_calls h = 2 * edge_count h
 
 -- What a step cost. After a line all blocks of the chains are stored, and they are as many as before. At
 -- the stimulus's end nothing was done. After a stop as many blocks as there are frames, and one more, may

@@ -1,5 +1,5 @@
 -- The part of a step between the stimulus and the output line.
-use Rattle.std.specs.Prelude.{◌≡◌, ℕ, ◌+◌, ◌*◌, Bool, List, ◌++◌, Result, Ok, Err}
+use Rattle.std.specs.Prelude.{◌≡◌, ℕ, ◌+◌, ◌*◌, ◌-◌, Bool, List, ◌++◌, Result, Ok, Err}
 use Rattle.em_space.specs.Rig.{RigState, Cause}
 use Rattle.em_space.specs.declared.fault.EmFault.{EmFault}
 use Rattle.em_space.specs.declared.queue.Queue.{Ghosts}
@@ -42,8 +42,8 @@ pub record Passed {Q : Type 0} (queue : Ghosts Q) (s t : RigState) (e f : Evalua
   pub gates_is : IsChain t e.gates
   pub latches : f.state.count ≡ e.header.latches
   pub state_blocks : f.state.blocks ≡ latch_room e.header t
-  pub runs : RunsBeside (2 * edge_count e.header) (step_room s e) (pass_blocks queue s e inputs)
-      (evaluator_blocks queue t f)
+  pub runs : RunsBeside (2 * edge_count e.header - e.header.outputs) (step_room s e)
+      (pass_blocks queue s e inputs) (evaluator_blocks queue t f)
       (lists_account (inputs.blocks + lists_size e) (pass_moves s e))
       (lists_account (lists_size f) 0) (queue.counts e.queue) (queue.counts f.queue) s t
 

@@ -46,7 +46,7 @@ pub struct Evaluator<Q> {
 impl<Q: Queue> Evaluator<Q> {
     ghost use Rattle.aig_forward.specs.Evaluator.{BeginsFor, BeginsTo, EndsEvaluator, EndsTo, Evaluates, HasEvaluatorFrames, IsEvaluator};
     ghost use Rattle.aig_forward.specs.Bits.{bits_of};
-    ghost use Rattle.aig_forward.specs.Step.{CanStep, FollowsText, Keeps, StepCause, StepCosts, AnswersStep, scene};
+    ghost use Rattle.aig_forward.specs.Step.{CallsAfterLine, CanStep, FollowsText, IfPrinted, Keeps, StepCause, StepCosts, AnswersStep, scene};
     ghost use Rattle.aig_forward.specs.StepPass.{IsInput, PassesFor, PassesTo, pass_blocks};
 
     /// An evaluator along these edges, by a queue with no item. All latches are 0.
@@ -95,10 +95,11 @@ impl<Q: Queue> Evaluator<Q> {
     ///
     /// The slot was opened with Ok, at most 2^50 bytes of it were taken, and 2f + 10 single frames, an
     /// area and the rack are free. The line of outputs may be pending in the printer. `Fault` is the
-    /// stimulus's first fault, and nothing was done. `Read` and `Write` come only if the count of faults
-    /// of shelf or sink rose, and `Em` if a call on the rig gave up. After a stop only `abandon` may be
-    /// called. At most `step_moves` moves are made beside those of the queue, in at most two calls of it
-    /// for each edge, and one for each output.
+    /// stimulus's first fault, and nothing was printed. `Read` and `Write` come only if the count of faults
+    /// of shelf or sink rose, and `Em` if a call on the rig gave up: then a front of the line went out or
+    /// is pending. After a stop only `abandon` may be called. At most `step_moves` moves are made beside
+    /// those of the queue, in at most two calls of it for each edge. A call of the queue comes only if a
+    /// line was read.
     pub fn step<D: Device, H: Shelf, W: Sink>(
         &mut self,
         rig: &mut Rig<'_, D>,
@@ -115,6 +116,9 @@ impl<Q: Queue> Evaluator<Q> {
         ensures is { OnOk result (IsEvaluator Q.Queue (seen D.state rig.new) self.new) }
         ensures feed { Advances H.tells (source H.Shelf feed.old shelf.old)
             (source H.Shelf feed.new shelf.new) }
+        ensures further { IfPrinted result (feed.old.place < feed.new.place) }
+        ensures idle { IfErr result (λ stopped. CallsAfterLine Q.Queue self.old self.new
+            feed.old.place feed.new.place) }
         ensures costs { StepCosts Q.Queue (seen D.state rig.old) (seen D.state rig.new)
             self.old self.new result }
         ensures same { IsTrue H.tells → FollowsText self.old.header.inputs

@@ -1,5 +1,5 @@
 //! A line of the stimulus: a byte `0` or `1` for each input, and a newline or the text's end.
-ghost use Rattle.std.specs.Prelude.{◌≡◌, ◌+◌, ◌^◌, ◌<◌, ◌≤◌, [], length, IfErr, IfOk, OnSome};
+ghost use Rattle.std.specs.Prelude.{◌≡◌, ◌+◌, ◌^◌, ◌<◌, ◌≤◌, [], length, slice_get, IfErr, IfOk, OnOk, OnSome, Some};
 ghost use Rattle.em_space.specs.Rig.{Goes, Sound};
 ghost use Rattle.em_space.specs.Seen.{seen};
 ghost use Rattle.aig_defs.specs.Items.{look};
@@ -7,7 +7,7 @@ ghost use Rattle.aig_defs.specs.Stimulus.{stimulus_bit, stimulus_end, stimulus_l
 ghost use Rattle.aig_text.specs.Reads.{Advances, ReadsItem};
 ghost use Rattle.aig_text.specs.Source.{CanRead, source};
 ghost use Rattle.aig_forward.specs.BitList.{CanAdd, ReadsToList, list_moment, one_bit};
-ghost use Rattle.aig_forward.specs.Line.{AnswersLine, LineCause, LineCosts, TakesBits, step_stop};
+ghost use Rattle.aig_forward.specs.Line.{AnswersLine, LineCause, LineCosts, ReadsEnd, TakesBits, step_stop};
 
 use aig_defs::AigKind;
 use aig_edges::StepStop;
@@ -47,6 +47,7 @@ fn read_bit<H: Shelf>(feed: &mut Feed, shelf: &mut H) -> Result<bool, AigStop>
     requires { CanRead (source H.Shelf feed.old shelf.old) }
     ensures reads { ReadsItem H.tells stimulus_bit (source H.Shelf feed.old shelf.old)
         (source H.Shelf feed.new shelf.new) result }
+    ensures further { OnOk result (feed.old.place < feed.new.place) }
 {
     let kind = match look(feed, shelf)? {
         Some(b'0') => {
@@ -84,6 +85,31 @@ fn read_end<H: Shelf>(feed: &mut Feed, shelf: &mut H) -> Result<(), AigStop>
             place: feed.place(),
         }),
     }
+}
+
+/// Takes the end of a line, if this byte is it. It is the first byte ahead, and isn't looked at again.
+#[tactic(auto, using(aig_text::proofs::Steadies::steadies))]
+fn take_end(feed: &mut Feed, first: u8) -> Result<(), AigStop>
+    requires ahead { Some first ≡ slice_get feed.old.ahead 0 }
+    requires place { feed.old.place ≤ 2 ^ 50 }
+    ensures reads { ReadsEnd feed.old feed.new result }
+    ensures further { OnOk result (feed.old.place < feed.new.place) }
+{
+    let place = feed.place();
+    if place >= END {
+        return Err(AigStop::Fault {
+            kind: AigKind::TooLong,
+            place: END,
+        });
+    }
+    if first != b'\n' {
+        return Err(AigStop::Fault {
+            kind: AigKind::StimLength,
+            place,
+        });
+    }
+    feed.take();
+    Ok(())
 }
 
 /// A reader's stop, as one of a step.
@@ -151,6 +177,32 @@ fn read_bits<D: Device, H: Shelf>(
     }
 }
 
+/// Reads a line, of which this is the first byte ahead, and adds its bits to the list.
+fn read_from<D: Device, H: Shelf>(
+    rig: &mut Rig<'_, D>,
+    feed: &mut Feed,
+    shelf: &mut H,
+    list: &mut Writer,
+    inputs: u64,
+    first: u8,
+) -> Result<(), StepStop>
+    requires can { CanAdd inputs
+        (list_moment H.Shelf feed.old shelf.old (seen D.state rig.old) list.old) }
+    requires first { Some first ≡ slice_get feed.old.ahead 0 }
+    ensures reads { ReadsToList H.tells inputs (stimulus_line inputs)
+        (list_moment H.Shelf feed.old shelf.old (seen D.state rig.old) list.old)
+        (list_moment H.Shelf feed.new shelf.new (seen D.state rig.new) list.new) result }
+    ensures further { OnOk result (feed.old.place < feed.new.place) }
+{
+    if inputs > 0 {
+        return read_bits(rig, feed, shelf, list, inputs);
+    }
+    match take_end(feed, first) {
+        Ok(()) => Ok(()),
+        Err(stop) => Err(step_stop(stop)),
+    }
+}
+
 /// Reads a line of the stimulus into a list of its bits, or answers None if nothing is left. A bit
 /// is a record (0, 0, bit, 0), and the list holds its blocks and no frame.
 ///
@@ -178,13 +230,13 @@ pub(crate) fn read_line<D: Device, H: Shelf>(
     ensures cause { IfErr result (LineCause (source H.Shelf feed.old shelf.old)
         (source H.Shelf feed.new shelf.new) (seen D.state rig.old) (seen D.state rig.new)) }
 {
-    match feed.peek(shelf) {
-        Ok(Some(_)) => {}
+    let first = match feed.peek(shelf) {
+        Ok(Some(byte)) => byte,
         Ok(None) => return Ok(None),
         Err(_) => return Err(StepStop::Read),
-    }
+    };
     let mut bits = Writer::new(rig);
-    match read_bits(rig, feed, shelf, &mut bits, inputs) {
+    match read_from(rig, feed, shelf, &mut bits, inputs, first) {
         Ok(()) => match bits.finish(rig) {
             Ok(chain) => Ok(Some(chain)),
             Err(fault) => Err(StepStop::Em(fault)),

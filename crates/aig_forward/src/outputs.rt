@@ -6,7 +6,7 @@ ghost use Rattle.em_space.specs.Queue.{CanServe};
 ghost use Rattle.em_space.specs.Rig.{Sound};
 ghost use Rattle.em_space.specs.Seen.{seen};
 ghost use Rattle.aig_defs.specs.Stimulus.{bit_byte};
-ghost use Rattle.aig_forward.specs.Outputs.{OutputCause, OutputCosts, PrintsOutputs, PrintsPart, PutsBy, message_bit, printing};
+ghost use Rattle.aig_forward.specs.Outputs.{HaltsOutputs, OutputCause, OutputCosts, PrintsOutputs, PrintsPart, PutsBy, message_bit, printing};
 
 use aig_edges::StepStop;
 use em_frames::Device;
@@ -70,7 +70,8 @@ fn put_next<D: Device, Q: Queue, W: Sink>(
 /// message is printed as 0. It sends nothing while the line fits into the printer's buffer.
 ///
 /// `Write` comes only if the sink's count of faults rose, and `Em` if a call of the queue was
-/// refused, after which the queue may only be abandoned.
+/// refused, after which the queue may only be abandoned. At `Em` a front of the line went out or is
+/// pending.
 pub(crate) fn put_outputs<D: Device, Q: Queue, W: Sink>(
     rig: &mut Rig<'_, D>,
     queue: &mut Q,
@@ -90,6 +91,9 @@ pub(crate) fn put_outputs<D: Device, Q: Queue, W: Sink>(
     ensures part { PrintsPart W.took count
         (printing Q.Queue W.Sink queue.old sink.old printer.old (seen D.state rig.old))
         (printing Q.Queue W.Sink queue.new sink.new printer.new (seen D.state rig.new)) }
+    ensures front { HaltsOutputs W.took count
+        (printing Q.Queue W.Sink queue.old sink.old printer.old (seen D.state rig.old))
+        (printing Q.Queue W.Sink queue.new sink.new printer.new (seen D.state rig.new)) result }
     ensures costs { OutputCosts count
         (printing Q.Queue W.Sink queue.old sink.old printer.old (seen D.state rig.old))
         (printing Q.Queue W.Sink queue.new sink.new printer.new (seen D.state rig.new)) result }

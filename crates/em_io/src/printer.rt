@@ -50,7 +50,7 @@ impl Printer {
         if self.line.try_extend_from_slice(bytes).is_ok() {
             return Ok(());
         }
-        self.send_pending(sink)?;
+        self.send_all(sink)?;
         if self.line.try_extend_from_slice(bytes).is_ok() {
             return Ok(());
         }
@@ -84,11 +84,13 @@ impl Printer {
         ensures cause { HasCause (W.faults sink.old) (W.faults sink.new) result }
     {
         self.add(sink, b"\n")?;
-        self.send_pending(sink)?;
+        self.send_all(sink)?;
         Ok(())
     }
 
-    fn send_pending<W: Sink>(&mut self, sink: &mut W) -> Result<(), Failed>
+    /// Sends all that is pending: it offers it to the sink in one call, and then what is left of it. If
+    /// nothing is pending it makes no call.
+    pub fn send_all<W: Sink>(&mut self, sink: &mut W) -> Result<(), Failed>
         ensures sent { OnOk result (W.state sink.new ≡ W.took (W.state sink.old) self.old) }
         ensures empty { OnOk result (self.new ≡ []) }
         ensures part { SentPart W.took (W.state sink.old) self.old (W.state sink.new) }

@@ -1,8 +1,8 @@
 -- A queue's frames and those of the pool, over calls of the queue and beside it.
-use Rattle.std.proofs.Common.{◌≡◌, ℕ, ap, refl, ◌∙◌, arith}
-use Rattle.em_record.specs.Shape.{fan_of}
+use Rattle.std.proofs.Common.{◌≡◌, ℕ, ◌≤◌, ap, refl, ◌∙◌, arith, Option, Some, None, IfSome}
+use Rattle.em_record.specs.Shape.{ShapeNumbers, fan_of}
 use Rattle.em_frames.specs.Pool.{GivenFrames, LentFrames, PoolCounts, SameFrames, singles_of}
-use Rattle.em_space.specs.Queue.{AreOut, CanServe, QueueCounts, Shares}
+use Rattle.em_space.specs.Queue.{AreOut, CanServe, ending_most, QueueCounts, Shares}
 
 -- one call after another
 pub shares_then : (c d e : QueueCounts) (p q r : PoolCounts) → Shares c d p q → Shares d e q r
@@ -74,3 +74,9 @@ out_given n c d p q r s o l h g = record {
       let given = g.free_areas in let shared = h.areas in let lent = l.free_areas in
       let out = o.areas in omega (arith, given, shared, lent, out);
 }
+
+-- What a queue has held is at most what it may hold while it ends.
+pub most_at_end : (room : Option (ShapeNumbers → ℕ → ℕ)) (shape : ShapeNumbers) (c : QueueCounts)
+    → IfSome room (λ f. c.most ≤ f shape c.k) → c.most ≤ ending_most room shape c
+most_at_end None shape c h = omega arith
+most_at_end (Some f) shape c h = h

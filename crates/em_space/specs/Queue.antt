@@ -1,5 +1,5 @@
 -- What every queue over a rig promises: docs/CONTRACTS.md, "Queues".
-use Rattle.std.specs.Prelude.{◌≡◌, ◌==◌, ℕ, ◌+◌, ◌*◌, ◌<◌, ◌≤◌, ◌-◌, ◌^◌, ◌⊎◌, max, if◌then◌else◌, List, [], Option, IfSome, false}
+use Rattle.std.specs.Prelude.{◌≡◌, ◌==◌, ℕ, ◌+◌, ◌*◌, ◌<◌, ◌≤◌, ◌-◌, ◌^◌, ◌⊎◌, max, if◌then◌else◌, List, [], Option, Some, None, IfSome, false}
 use Rattle.em_record.specs.Shape.{ShapeNumbers, fan_of}
 use Rattle.em_frames.specs.Pool.{PoolCounts, singles_of}
 use Rattle.em_space.specs.Rig.{RigState, Sound, Touches}
@@ -92,6 +92,12 @@ pub record Leaves (c : QueueCounts) (old new : RigState) : Type 0 where
   pub frames : Shares c (record c { frames = 0; areas = 0 }) old.pool new.pool
   pub same : new ≡ record old { pool = new.pool }
 
+-- the most blocks that a queue may hold while it ends: its room, or if it states none, the most that it
+-- has held
+abbrev pub ending_most : Option (ShapeNumbers → ℕ → ℕ) → ShapeNumbers → QueueCounts → ℕ
+ending_most None shape c = c.most
+ending_most (Some f) shape c = f shape c.k
+
 -- What holds after the end of a queue, whether it gave up or not: only its blocks may have changed,
 -- its frames are back, and its moves and its greatest number of blocks were within what it was
 -- allowed.
@@ -103,8 +109,8 @@ pub record Ends (allowance : Option (ShapeNumbers → ℕ → ℕ → ℕ))
   pub frames : Shares c (record c { frames = 0; areas = 0 }) old.pool new.pool
   pub spent : IfSome allowance (λ f.
       c.spent + new.moves ≤ old.moves + f old.pool.shape c.n c.k)
-  pub most : IfSome room (λ f.
-      new.most + c.blocks ≤ max (old.most + c.blocks) (old.used + f old.pool.shape c.k))
+  pub most : new.most + c.blocks
+      ≤ max (old.most + c.blocks) (old.used + ending_most room old.pool.shape c)
 
 -- It gave all its blocks back, and each that it stored was moved.
 pub record Ended (c : QueueCounts) (old new : RigState) : Type 0 where

@@ -1,16 +1,17 @@
 -- Worked words: what the definition of the job says of them.
 use Rattle.std.specs.Prelude.{◌≡◌, ℕ, List, [], ◌∷◌, ◌++◌, Bool, true, false, codes, map, refl, Ok, Result}
 use Rattle.emtool.specs.declared.job.Job.{Job}
-use Rattle.emtool.specs.declared.text.FileKind.{FileKind}
+use Rattle.emtool.specs.declared.job.Task.{Task}
+use Rattle.emtool.specs.declared.job.Task.TheVariants.{Answer, Eval}
 use Rattle.emtool.specs.declared.text.FileKind.TheVariants.{Map, Queue, Stab}
 use Rattle.emtool.specs.declared.status.Usage.{Usage}
 use Rattle.emtool.specs.declared.status.UsageKind.TheVariants.{NoCommand, UnknownCommand, UnknownOption, RepeatedOption, BadValue, MissingOperand, ExtraOperand, BlockRange, FramesRange, FramesMultiple, BlocksRange}
 use Rattle.emtool.specs.Job.{default_frames, job_of, refused}
 
--- a job of a kind, B, m, the device's blocks, statistics, and the number of the file's word
-abbrev job_of_kind : FileKind → ℕ → ℕ → ℕ → Bool → ℕ → Result Job Usage
-job_of_kind kind block frames blocks stats file = Ok (record {
-  kind = kind;
+-- a job of a task, B, m, the device's blocks, statistics, and the number of the file's word
+abbrev job_of_task : Task → ℕ → ℕ → ℕ → Bool → ℕ → Result Job Usage
+job_of_task task block frames blocks stats file = Ok (record {
+  task = task;
   shape = record { block = block; frames = frames };
   blocks = blocks;
   stats = stats;
@@ -19,7 +20,7 @@ job_of_kind kind block frames blocks stats file = Ok (record {
 
 -- the same of a map file
 abbrev job : ℕ → ℕ → ℕ → Bool → ℕ → Result Job Usage
-job = job_of_kind Map
+job = job_of_task (Answer Map)
 
 -- the job of `map` and these words
 abbrev map_of : List (List ℕ) → Result Job Usage
@@ -47,18 +48,35 @@ an_option_behind_the_operand = refl
 a_plain_map : map_of (codes "a" ∷ []) ≡ job 1024 256 1048576 false 1
 a_plain_map = refl
 
--- Kinds.
+-- Tasks.
 
 a_plain_queue : job_of (codes "queue" ∷ codes "a" ∷ [])
-    ≡ job_of_kind Queue 1024 256 1048576 false 1
+    ≡ job_of_task (Answer Queue) 1024 256 1048576 false 1
 a_plain_queue = refl
 
 a_stab_of_64_frames : job_of (codes "stab" ∷ codes "--frames=64" ∷ codes "a" ∷ [])
-    ≡ job_of_kind Stab 1024 64 1048576 false 2
+    ≡ job_of_task (Answer Stab) 1024 64 1048576 false 2
 a_stab_of_64_frames = refl
 
-another_command : job_of (codes "eval" ∷ codes "a" ∷ codes "b" ∷ []) ≡ refused UnknownCommand 0
+another_command : job_of (codes "evaluate" ∷ codes "a" ∷ codes "b" ∷ []) ≡ refused UnknownCommand 0
 another_command = refl
+
+a_plain_evaluation : job_of (codes "eval" ∷ codes "a" ∷ codes "b" ∷ [])
+    ≡ job_of_task Eval 1024 256 1048576 false 1
+a_plain_evaluation = refl
+
+an_evaluation_of_64_frames :
+    job_of (codes "eval" ∷ codes "--frames=64" ∷ codes "a" ∷ codes "--stats" ∷ [])
+    ≡ job_of_task Eval 1024 64 1048576 false 2
+an_evaluation_of_64_frames = refl
+
+an_evaluation_of_one_operand : job_of (codes "eval" ∷ codes "--stats" ∷ codes "a" ∷ [])
+    ≡ refused MissingOperand 3
+an_evaluation_of_one_operand = refl
+
+an_evaluation_of_three_operands :
+    job_of (codes "eval" ∷ codes "a" ∷ codes "b" ∷ codes "c" ∷ []) ≡ refused ExtraOperand 3
+an_evaluation_of_three_operands = refl
 
 a_queue_of_no_operand : job_of (codes "queue" ∷ []) ≡ refused MissingOperand 1
 a_queue_of_no_operand = refl

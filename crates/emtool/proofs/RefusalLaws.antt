@@ -4,7 +4,7 @@ use Rattle.std.proofs.Common.{◌≡◌, ℕ, ◌+◌, ◌<◌, ◌≤◌, List,
 use Rattle.std.specs.Prelude.{option_and_then, position, unwrap_or}
 use Rattle.std.specs.Global.{Global}
 use Rattle.std.proofs.Math.Seq.{drop-cons, take-suc}
-use Rattle.std.proofs.lemmas.List.{drop_all, get_or-map, length-map, length-take-le, take-map}
+use Rattle.std.proofs.lemmas.List.{drop_all, get_or-map, get_or_past, length-map, length-take-le, take-map}
 use Rattle.std.proofs.lemmas.List.Quantifiers.{position-Some}
 use Rattle.emtool.specs.declared.status.UsageKind.{UsageKind}
 use Rattle.emtool.specs.Job.{texts_of}
@@ -15,6 +15,13 @@ use Rattle.emtool.proofs.OptionLemmas.{position_map}
 pub text_at : (options : List (String Global)) (i : ℕ) (word : String Global) → i < length options
     → word ≡ get_or options i word → get_or (texts_of options) i [] ≡ string_bytes word
 text_at options i word h w = get_or-map string_bytes options i word [] h ∙ ap string_bytes (sym w)
+
+-- a word past the last one has no bytes
+pub name_past : (words : List (String Global)) (number : ℕ) → length words ≤ number
+    → [] ≡ get_or (texts_of words) number []
+name_past words number h =
+    let n = length-map words string_bytes in
+    sym (get_or_past (texts_of words) number [] (omega (arith, h, n)))
 
 -- the number of an option that was found
 pub number_found : (name : List ℕ) (options : List (String Global)) (i : ℕ) (word : String Global)

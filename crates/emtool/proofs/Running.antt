@@ -2,7 +2,7 @@
 use Rattle.std.proofs.Common.{◌≡◌, ◌≢◌, ℕ, ◌+◌, ◌-◌, ◌<◌, ◌≤◌, ◌^◌, List, [], ◌∷◌, ◌++◌, length, ap, sym, subst, ◌∙◌, refl, arith, Bool, true, IsTrue, Result, Some, None, inl, inr, ⊎_elim}
 use Rattle.em_record.specs.Shape.{ShapeNumbers, payload_of}
 use Rattle.em_io.specs.Feed.{Fed, rest}
-use Rattle.em_io.specs.Shelf.{Stand}
+use Rattle.em_io.specs.Shelf.{SlotState, Stand}
 use Rattle.em_io.specs.declared.shelf.Slot.{Slot}
 use Rattle.em_io.specs.declared.shelf.Slot.TheVariants.{First}
 use Rattle.em_io.specs.Sink.{IsRule}
@@ -19,15 +19,19 @@ use Rattle.em_plain.specs.QueueLaws.{blocks_is}
 use Rattle.em_plain.specs.ScanQueue.{IsScanQueue, counts_of, fresh_counts, queue_blocks}
 use Rattle.em_plain.specs.declared.scan_queue.ScanQueue.{ScanQueue}
 use Rattle.emtool.specs.CommandLine.{first_fault, good_commands}
-use Rattle.emtool.specs.Due.{output_text, text_unless}
+use Rattle.emtool.specs.Asked.{asked_of_file}
+use Rattle.emtool.specs.FileDue.{output_text, status_for, text_unless}
 use Rattle.emtool.specs.Answer.{text_for}
 use Rattle.emtool.specs.Reads.{Reads}
-use Rattle.emtool.specs.Run.{IsAllRead, Outside}
+use Rattle.emtool.specs.Opens.{IsAllRead}
+use Rattle.emtool.specs.Run.{Outside}
 use Rattle.emtool.specs.RunSize.{commands_taken}
 use Rattle.emtool.specs.Serve.{Answers, IsAlone, IsFilledBy}
 use Rattle.emtool.specs.Print.{records_text}
 use Rattle.emtool.specs.Service.{IsFilled, kind_is, records_for}
+use Rattle.emtool.specs.RunStop.{FillsRun, RunCause}
 use Rattle.emtool.specs.Stop.{Faults, IfStopsFull, OnFault, PrintCause, ReadsAll, StopCause}
+use Rattle.emtool.specs.declared.status.Malform.TheVariants.{Text, Aig}
 use Rattle.emtool.specs.declared.service.Service.{Service}
 use Rattle.emtool.specs.declared.service.Service.TheVariants as service
 use Rattle.emtool.specs.declared.stop.Stop.{Stop}
@@ -70,15 +74,17 @@ pub stopped_reading : {IsState : List ℕ → Type 0} {took : List ℕ → List 
     (rule : IsRule IsState took) (tells : Bool) (k : FileKind) (text : List ℕ) (old new : Outside)
     (faults later : Faults) (a c : RigState) (stop : Stop) → IsState old.output
     → new.output ≡ old.output → k ≢ kind.Queue → StopCause tells k text faults later a c stop
-    → Stopped tells took k text old new stop
-stopped_reading {took = took} rule tells k text old new faults later a c (Fault fault line) ok same
-    n cause =
+    → Stopped tells took (asked_of_file k text) old new stop
+stopped_reading {took = took} rule tells k text old new faults later a c (Fault (Text fault) line) ok
+    same n cause =
     record {
       fault = λ t d.
           same ∙ sym (rule.nothing old.output ok)
           ∙ ap (took old.output) (sym (none_due k text (fault, line) n (cause t)));
       part = λ t d. part-of (sent-nothing rule ok (output_text k text) same);
     }
+stopped_reading rule tells k text old new faults later a c (Fault (Aig fault) place) ok same n cause =
+    absurd cause
 stopped_reading rule tells k text old new faults later a c Read ok same n cause = record {
   fault = λ t d. tt;
   part = λ t d. part-of (sent-nothing rule ok (output_text k text) same);
@@ -97,7 +103,7 @@ pub print_stops : (tells : Bool) (k : FileKind) (text left : List ℕ) (faults l
     (a b c : RigState) (stop : Stop) → PrintCause faults.write later.write b c stop
     → Touches [] a b
     → StopCause tells k text faults later a c stop × IfStopsFull stop (IsFilled tells k text left c)
-print_stops tells k text left faults later a b c (Fault fault line) cause t = absurd cause
+print_stops tells k text left faults later a b c (Fault fault place) cause t = absurd cause
 print_stops tells k text left faults later a b c Read cause t = absurd cause
 print_stops tells k text left faults later a b c Write cause t = (cause, tt)
 print_stops tells k text left faults later a b c (Em em.DeviceFault) cause t =
@@ -108,7 +114,7 @@ print_stops tells k text left faults later a b c (Em (em.Damaged block)) cause t
 
 pub print_no_fault : (faults later : ℕ) (b c : RigState) (stop : Stop) (P : Type 0)
     → PrintCause faults later b c stop → OnFault stop P
-print_no_fault faults later b c (Fault fault line) P cause = absurd cause
+print_no_fault faults later b c (Fault fault place) P cause = absurd cause
 print_no_fault faults later b c Read P cause = absurd cause
 print_no_fault faults later b c Write P cause = tt
 print_no_fault faults later b c (Em fault) P cause = tt
@@ -206,7 +212,7 @@ pub queue_filled : (tells : Bool) (text left : List ℕ) (s t : RigState) (c : Q
     → IfStopsFull stop (IsFilledBy c s) → c.most ≤ ceiling c.n (payload_of s.pool.shape) + 1
     → (IsTrue tells → c.n ≤ commands_taken kind.Queue text left)
     → IfStopsFull stop (IsFilled tells kind.Queue text left t)
-queue_filled tells text left s t c (Fault fault line) some l full most n = tt
+queue_filled tells text left s t c (Fault fault place) some l full most n = tt
 queue_filled tells text left s t c Read some l full most n = tt
 queue_filled tells text left s t c Write some l full most n = tt
 queue_filled tells text left s t c (Em em.DeviceFault) some l full most n = tt
@@ -218,7 +224,8 @@ queue_filled tells text left s t c (Em (em.Full used)) some l full most n =
 pub queue_stops : (tells : Bool) (k : FileKind) (text : List ℕ) (faults later : Faults)
     (a s t : RigState) (c : QueueCounts) (stop : Stop) → Leaves c s t
     → StopCause tells k text faults later a s stop → StopCause tells k text faults later a t stop
-queue_stops tells k text faults later a s t c (Fault fault line) l cause = cause
+queue_stops tells k text faults later a s t c (Fault (Text fault) line) l cause = cause
+queue_stops tells k text faults later a s t c (Fault (Aig fault) place) l cause = absurd cause
 queue_stops tells k text faults later a s t c Read l cause = cause
 queue_stops tells k text faults later a s t c Write l cause = cause
 queue_stops tells k text faults later a s t c (Em em.DeviceFault) l cause =
@@ -227,3 +234,36 @@ queue_stops tells k text faults later a s t c (Em (em.Full used)) l cause =
     subst (λ (r : RigState). Cause a r (em.Full used)) (sym l.same) cause
 queue_stops tells k text faults later a s t c (Em (em.Damaged block)) l cause =
     subst (λ (r : RigState). Cause a r (em.Damaged block)) (sym l.same) cause
+
+-- The cause of a stop over a command file is one of the run.
+pub file_cause : (tells : Bool) (k : FileKind) (text : List ℕ) (faults later : Faults)
+    (a c : RigState) (stop : Stop) → StopCause tells k text faults later a c stop
+    → RunCause tells (asked_of_file k text) faults later a c stop
+file_cause tells k text faults later a c (Fault (Text fault) line) cause =
+    λ t d. ap status_for (cause t)
+file_cause tells k text faults later a c (Fault (Aig fault) place) cause = absurd cause
+file_cause tells k text faults later a c Read cause = cause
+file_cause tells k text faults later a c Write cause = cause
+file_cause tells k text faults later a c (Em fault) cause = cause
+
+fills_file : (tells : Bool) (k : FileKind) (text : List ℕ) (slots : Slot → SlotState)
+    (c : RigState) (used : ℕ) → IsFilled tells k text (slots First).left c used
+    → FillsRun tells (asked_of_file k text) slots c used
+fills_file tells k text slots c used f = record {
+  paid = ⊎_elim
+      (λ (h : 2 ^ 64 - 1 ≤ c.moves). inl h)
+      (λ (h : used ≤ c.moves + c.pool.shape.frames). inr (omega (arith, h)))
+      f.paid;
+  size = f.size;
+}
+
+-- So is what a full device says.
+pub file_fills : (tells : Bool) (k : FileKind) (text : List ℕ) (slots : Slot → SlotState)
+    (c : RigState) (stop : Stop) → IfStopsFull stop (IsFilled tells k text (slots First).left c)
+    → IfStopsFull stop (FillsRun tells (asked_of_file k text) slots c)
+file_fills tells k text slots c (Fault fault place) f = tt
+file_fills tells k text slots c Read f = tt
+file_fills tells k text slots c Write f = tt
+file_fills tells k text slots c (Em em.DeviceFault) f = tt
+file_fills tells k text slots c (Em (em.Damaged block)) f = tt
+file_fills tells k text slots c (Em (em.Full used)) f = fills_file tells k text slots c used f

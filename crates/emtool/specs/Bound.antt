@@ -1,13 +1,26 @@
--- The stated bounds of a run, by its size, if this much of its text is left.
+-- The stated bounds of a run, by its size.
 use Rattle.std.specs.Prelude.{ℕ, ◌+◌, ◌*◌, List}
 use Rattle.em_record.specs.Cost.{cost}
-use Rattle.emtool.specs.declared.job.Job.{Job}
+use Rattle.em_record.specs.Shape.{ShapeNumbers}
+use Rattle.em_io.specs.Shelf.{SlotState}
+use Rattle.em_io.specs.declared.shelf.Slot.{Slot}
+use Rattle.em_io.specs.declared.shelf.Slot.TheVariants.{First, Second}
+use Rattle.emtool.specs.EvalSize.{circuit_read, eval_cost, passes_read, steps_read}
 use Rattle.emtool.specs.RunSize.{run_size}
+use Rattle.emtool.specs.declared.job.Job.{Job}
+use Rattle.emtool.specs.declared.job.Task.{Task}
+use Rattle.emtool.specs.declared.job.Task.TheVariants.{Answer, Eval}
 
--- the transfer cost of a run's size; no run is held to it yet
-abbrev pub transfer_bound : Job → List ℕ → List ℕ → ℕ
-transfer_bound job text left = cost job.shape (run_size job.kind text left)
+-- the transfer cost of a run's size, by the text of each slot and how far it was read; no run is
+-- held to it yet
+abbrev pub transfer_bound : Task → ShapeNumbers → (Slot → List ℕ) → (Slot → SlotState) → ℕ
+transfer_bound (Answer kind) shape texts slots =
+    cost shape (run_size kind (texts First) (slots First).left)
+transfer_bound Eval shape texts slots =
+    eval_cost shape (circuit_read (slots First) (texts First))
+    (steps_read (texts First) (slots Second) (texts Second)) (passes_read (texts First))
 
 -- the blocks that are enough for a run: its transfer cost, and four for each frame
-abbrev pub stated_room : Job → List ℕ → List ℕ → ℕ
-stated_room job text left = transfer_bound job text left + 4 * job.shape.frames
+abbrev pub stated_room : Job → (Slot → List ℕ) → (Slot → SlotState) → ℕ
+stated_room job texts slots =
+    transfer_bound job.task job.shape texts slots + 4 * job.shape.frames

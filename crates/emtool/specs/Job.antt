@@ -1,12 +1,13 @@
 -- The job that the words name, or their first refusal: docs/FORMATS.md, "Words". A word is the list
 -- of its bytes.
-use Rattle.std.specs.Prelude.{ℕ, ◌+◌, ◌*◌, ◌/◌, ◌<◌, ◌≤◌, ◌^◌, List, [], ◌∷◌, if◌then◌else◌, codes, bytes_eq, get_or, length, map, min, nat_le, nat_lt, Option, Some, None, String, string_bytes, Result, Ok, Err}
+use Rattle.std.specs.Prelude.{◌≡◌, ℕ, ◌+◌, ◌*◌, ◌/◌, ◌<◌, ◌≤◌, ◌^◌, List, [], ◌∷◌, if◌then◌else◌, codes, bytes_eq, get_or, length, map, min, nat_lt, Option, Some, None, String, string_bytes, Result, Ok, Err}
 use Rattle.std.specs.Global.{Global}
 use Rattle.em_record.specs.declared.fault.ShapeFault.{ShapeFault}
 use Rattle.em_record.specs.declared.fault.ShapeFault.TheVariants as shape
 use Rattle.em_record.specs.Shape.{IsShape, ShapeNumbers, is_within, shape_of}
 use Rattle.emtool.specs.declared.job.Job.{Job}
-use Rattle.emtool.specs.declared.text.FileKind.{FileKind}
+use Rattle.emtool.specs.declared.job.Task.{Task}
+use Rattle.emtool.specs.declared.job.Task.TheVariants.{Answer, Eval}
 use Rattle.emtool.specs.declared.text.FileKind.TheVariants.{Map, Queue, Stab}
 use Rattle.emtool.specs.declared.status.Usage.{Usage}
 use Rattle.emtool.specs.declared.status.UsageKind.{UsageKind}
@@ -32,11 +33,18 @@ abbrev pub unless : {A : Type 0} → Option Usage → Result A Usage → Result 
 unless None next = next
 unless (Some usage) next = Err usage
 
--- the number of the one operand's word: it is the word of number `first`, and the last of `count`
-abbrev pub operand_of : ℕ → ℕ → Result ℕ Usage
-operand_of first count =
-    if nat_le count first then refused MissingOperand count
-    else (if nat_lt (first + 1) count then refused ExtraOperand (first + 1) else Ok first)
+-- how many operands a task has: a name for each of its files
+abbrev pub operand_count : Task → ℕ
+operand_count (Answer kind) = 1
+operand_count Eval = 2
+
+-- the number of the first operand's word, of `count` words: it is the word of number `first`, and
+-- the last of the `wanted` operands is the last word
+abbrev pub operands_of : ℕ → ℕ → ℕ → Result ℕ Usage
+operands_of wanted first count =
+    if nat_lt count (first + wanted) then refused MissingOperand count
+    else (if nat_lt (first + wanted) count then refused ExtraOperand (first + wanted)
+    else Ok first)
 
 -- the frames where no option says their number, by the records of a block
 abbrev pub default_frames : ℕ → ℕ
@@ -69,18 +77,20 @@ blocks_within options blocks =
 abbrev pub blocks_with : List (List ℕ) → Result ℕ Usage
 blocks_with options = blocks_within options (number_or (codes "--blocks") options (2 ^ 20))
 
--- the kind of file that a command answers, from the command's word
-abbrev pub kind_of : List ℕ → Option FileKind
-kind_of word =
-    if bytes_eq word (codes "map") then Some Map
-    else (if bytes_eq word (codes "queue") then Some Queue
-    else (if bytes_eq word (codes "stab") then Some Stab else None))
+-- the task of a command, from the command's word
+abbrev pub task_of : List ℕ → Option Task
+task_of word =
+    if bytes_eq word (codes "map") then Some (Answer Map)
+    else (if bytes_eq word (codes "queue") then Some (Answer Queue)
+    else (if bytes_eq word (codes "stab") then Some (Answer Stab)
+    else (if bytes_eq word (codes "eval") then Some Eval else None)))
 
--- the job of a kind over what the options say, of the file that the word of number `file` names
-abbrev pub job_with : FileKind → List (List ℕ) → ℕ → Result Job Usage
-job_with kind options file =
+-- the job of a task over what the options say, of the files that the words from number `file` on
+-- name
+abbrev pub job_with : Task → List (List ℕ) → ℕ → Result Job Usage
+job_with task options file =
     shape_with options >>= λ numbers. blocks_with options >>= λ blocks. Ok (record {
-      kind = kind;
+      task = task;
       shape = numbers;
       blocks = blocks;
       stats = has_option (codes "--stats") options;
@@ -88,30 +98,31 @@ job_with kind options file =
     })
 
 -- the job of this many words, of which these option words stand after the command
-abbrev pub job_behind : FileKind → List (List ℕ) → ℕ → Result Job Usage
-job_behind kind options count = unless (options_refusal [] options)
-    (operand_of (length options + 1) count >>= λ file. job_with kind options file)
+abbrev pub job_behind : Task → List (List ℕ) → ℕ → Result Job Usage
+job_behind task options count = unless (options_refusal [] options)
+    (operands_of (operand_count task) (length options + 1) count
+    >>= λ file. job_with task options file)
 
--- the job of a command of this kind, and of the words after the command
-abbrev pub job_for : Option FileKind → List (List ℕ) → Result Job Usage
+-- the job of a command of this task, and of the words after the command
+abbrev pub job_for : Option Task → List (List ℕ) → Result Job Usage
 job_for None words = refused UnknownCommand 0
-job_for (Some kind) words = job_behind kind (option_words words) (length words + 1)
+job_for (Some task) words = job_behind task (option_words words) (length words + 1)
 
 -- the job of the words, or their first refusal
 abbrev pub job_of : List (List ℕ) → Result Job Usage
 job_of [] = refused NoCommand 0
-job_of (command ∷ words) = job_for (kind_of command) words
+job_of (command ∷ words) = job_for (task_of command) words
 
--- the name of the job's file
-abbrev pub file_name : List (List ℕ) → Job → List ℕ
-file_name words job = get_or words job.file []
+-- the word of this number, or no bytes if there is none
+abbrev pub name_at : List (List ℕ) → ℕ → List ℕ
+name_at words number = get_or words number []
 
--- the limits of a job over this many words
+-- the limits of a job over this many words, of which the last ones name its files
 pub record IsJob (words : ℕ) (job : Job) : Type 0 where
   pub shape : IsShape job.shape
   pub blocks_low : 0 < job.blocks
   pub blocks_high : job.blocks ≤ 2 ^ 40
-  pub file : job.file < words
+  pub files : job.file + operand_count job.task ≡ words
 
 -- A job has some blocks, and at most 2 ^ 40.
 pub record HasBlocks (job : Job) : Type 0 where

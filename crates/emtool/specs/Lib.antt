@@ -1,11 +1,17 @@
 pub mod Answer
+pub mod Asked
 pub mod Bound
 pub mod CommandLine
 pub mod Due
+pub mod EvalDue
+pub mod EvalSize
+pub mod Evaluation
+pub mod FileDue
 pub mod Job
 pub mod Kind
 pub mod LineTaken
 pub mod Lines
+pub mod Opens
 pub mod Options
 pub mod Outcome
 pub mod Print
@@ -14,6 +20,7 @@ pub mod Reads
 pub mod Report
 pub mod Run
 pub mod RunSize
+pub mod RunStop
 pub mod Serve
 pub mod Service
 pub mod Status

@@ -1,20 +1,20 @@
 -- What the top call promises of a run: one definition for each of its clauses, by whether the words
 -- name a job. If they name none, the report has no statistics, and nothing else is said here.
-use Rattle.std.specs.Prelude.{◌≡◌, ℕ, ◌+◌, ◌-◌, ◌*◌, ◌<◌, ◌≤◌, ◌^◌, ◌⊎◌, Bool, true, IsTrue, IsFalse, IsNone, IsSome, IfSome, OnSome, List, Option, None, String, Result, Ok, Err, is_none}
+use Rattle.std.specs.Prelude.{◌≡◌, ℕ, ◌+◌, ◌-◌, ◌*◌, ◌<◌, ◌≤◌, ◌^◌, ◌⊎◌, Bool, IsTrue, IsFalse, List, Option, None, String, Result, Ok, Err}
 use Rattle.std.specs.Global.{Global}
 use Rattle.em_record.specs.Count.{Rose}
 use Rattle.em_io.specs.Sink.{SentPart}
 use Rattle.em_io.specs.declared.shelf.Shelf.{Ghosts as ShelfGhosts}
-use Rattle.em_io.specs.declared.shelf.Slot.{Slot}
-use Rattle.em_io.specs.declared.shelf.Slot.TheVariants.{First}
 use Rattle.em_io.specs.declared.sink.Sink.{Ghosts as SinkGhosts}
 use Rattle.em_frames.specs.declared.device.Device.{Ghosts as DeviceGhosts}
 use Rattle.emtool.specs.Bound.{stated_room}
+use Rattle.emtool.specs.Asked.{ToldIf}
 use Rattle.emtool.specs.Due.{Due, due_of}
+use Rattle.emtool.specs.Opens.{OpensNamed, ReadsNamed}
 use Rattle.emtool.specs.Job.{texts_of}
 use Rattle.emtool.specs.Outcome.{HasStats, report_text}
-use Rattle.emtool.specs.Run.{CountsBy, HasSizes, IsAllRead, IsQuiet, Outside, outside}
-use Rattle.emtool.specs.Status.{IfEndsDamaged, IfEndsFull, OnBegun, OnDone, OnEnd}
+use Rattle.emtool.specs.Run.{HasSizes, IsQuiet, Outside, outside}
+use Rattle.emtool.specs.Status.{IfEndsDamaged, IfEndsFull, OnBegun, OnEnd}
 use Rattle.emtool.specs.declared.outcome.Stats.{Stats}
 use Rattle.emtool.specs.declared.status.Status.{Status}
 use Rattle.emtool.specs.declared.status.Status.TheVariants.{NoMemory}
@@ -56,19 +56,21 @@ moves_of run = run.new.device.moves - run.old.device.moves
 
 -- the blocks that are enough for the run
 abbrev pub room_of : Run → ℕ
-room_of run = stated_room run.due.job (run.due.texts First) (run.new.stand.slot First).left
+room_of run = stated_room run.due.job run.due.texts run.new.stand.slot
 
 -- If the input was read to its end or to its first fault, status and output are the ones due.
 abbrev pub GivesDue : Result Run Usage → Status → Type 0
 GivesDue (Ok run) status = IsTold run
-    → OnEnd status ((status ≡ run.due.status)
-    × (run.new.output ≡ run.took run.old.output run.due.output))
+    → OnEnd status ((status ≡ run.due.asked.status)
+    × (run.new.output ≡ run.took run.old.output run.due.asked.output))
 GivesDue (Err usage) status = Unit {0}
 
 -- If the input was read to its end or to its first fault, the status is the one due, whether the
--- device tells its contents or not.
+-- device tells its contents or not, unless the task says otherwise.
 abbrev pub EndsAsDue : Result Run Usage → Status → Type 0
-EndsAsDue (Ok run) status = IsTrue run.tells → OnEnd status (status ≡ run.due.status)
+EndsAsDue (Ok run) status = IsTrue run.tells
+    → ToldIf run.due.asked.status_told run.old.device.told
+    → OnEnd status (status ≡ run.due.asked.status)
 EndsAsDue (Err usage) status = Unit {0}
 
 -- At every status but Usage, DeviceFault and NoMemory the device has the sizes of the job.
@@ -78,40 +80,32 @@ Begins (Err usage) status = Unit {0}
 
 -- At Done the slot of each file of the job was opened, and if the shelf tells, read to its end.
 abbrev pub ReadsFiles : Result Run Usage → Status → Type 0
-ReadsFiles (Ok run) status = (slot : Slot) → OnSome (run.due.names slot)
-    (OnDone status (IsAllRead run.tells (run.new.stand.slot slot)))
+ReadsFiles (Ok run) status = ReadsNamed run.tells run.due.names run.new.stand status
 ReadsFiles (Err usage) status = Unit {0}
 
 -- If shelf and device tell, the output took a front of what is due, at every end.
 abbrev pub SendsFront : Result Run Usage → Type 0
 SendsFront (Ok run) = IsTold run
-    → SentPart run.took run.old.output run.due.output run.new.output
+    → SentPart run.took run.old.output run.due.asked.output run.new.output
 SendsFront (Err usage) = Unit {0}
-
--- No text changed, and no slot for which the job has no file. If the shelf tells, a slot is lost
--- only if no file has its name, and at Done and Malformed each name is that of a file.
-pub record OpensFiles (run : Run) (status : Status) : Type 0 where
-  pub texts : run.new.stand.text ≡ run.old.stand.text
-  pub others : (slot : Slot) → IsNone (run.due.names slot)
-      → run.new.stand.slot slot ≡ run.old.stand.slot slot
-  pub lost : (slot : Slot) → IsTrue run.tells → (run.new.stand.slot slot).lost ≡ true
-      → IfSome (run.due.names slot) (λ name. is_none (run.old.stand.text slot name) ≡ true)
-  pub there : (slot : Slot) → IsTrue run.tells → IfSome (run.due.names slot)
-      (λ name. OnEnd status (IsSome (run.old.stand.text slot name)))
 
 -- No slot is touched but those of the job's files.
 abbrev pub Opens : Result Run Usage → Status → Type 0
-Opens (Ok run) status = OpensFiles run status
+Opens (Ok run) status =
+    OpensNamed run.tells run.old.device.told run.due.names run.old.stand run.new.stand status
 Opens (Err usage) status = Unit {0}
 
 -- The device has `used` blocks and no more. They are at most the moves made plus two for each frame,
--- if the count of moves isn't at its end; and fewer than the stated room, if the shelf tells and, for
--- stabs, the device.
+-- if the count of moves isn't at its end. If the shelf tells and, if the task needs that, the device,
+-- they are at most as many as the run may hold, which are fewer than the stated room.
 pub record IsFull (run : Run) (used : ℕ) : Type 0 where
   pub all : used ≡ run.due.job.blocks
   pub moves : run.new.device.moves < 2 ^ 64 - 1 → used + run.old.device.moves
       ≤ run.new.device.moves + 2 * run.due.job.shape.frames
-  pub room : IsTrue run.tells → CountsBy run.due.job.kind run.old.device.told → used < room_of run
+  pub held : IsTrue run.tells → ToldIf run.due.asked.most_told run.old.device.told
+      → used ≤ run.due.asked.most run.due.job.shape run.new.stand.slot
+  pub room : IsTrue run.tells → ToldIf run.due.asked.most_told run.old.device.told
+      → used < room_of run
 
 -- If the run ends as full, the device is as small as `IsFull` says.
 abbrev pub FullHasCause : Result Run Usage → Status → Type 0
@@ -128,7 +122,7 @@ DamageHasCause (Err usage) status = Unit {0}
 -- memory.
 abbrev pub Completes : Result Run Usage → Status → Type 0
 Completes (Ok run) status = IsTold run → IsQuiet run.old run.new → room_of run ≤ run.due.job.blocks
-    → (status ≡ run.due.status) ⊎ (status ≡ NoMemory)
+    → (status ≡ run.due.asked.status) ⊎ (status ≡ NoMemory)
 Completes (Err usage) status = Unit {0}
 
 -- There are statistics exactly if the job asks for them; of refused words there are none.

@@ -1,10 +1,12 @@
 -- The message of each status, one line on the error stream: docs/FORMATS.md, "Exit codes and
 -- messages".
 use Rattle.std.specs.Prelude.{ℕ, List, [], ◌∷◌, ◌++◌, codes, decimal, Option, Some, None}
+use Rattle.aig_defs.specs.declared.fault.AigKind.{AigKind}
+use Rattle.aig_defs.specs.declared.fault.AigKind.TheVariants as aig
 use Rattle.emtool.specs.declared.text.TextKind.{TextKind}
 use Rattle.emtool.specs.declared.text.TextKind.TheVariants.{BadNumber, TooLarge, BadSeparator, Unknown, EmptyLine, LowAboveHigh, TooLong}
 use Rattle.emtool.specs.declared.status.Malform.{Malform}
-use Rattle.emtool.specs.declared.status.Malform.TheVariants.{Text}
+use Rattle.emtool.specs.declared.status.Malform.TheVariants.{Text, Aig}
 use Rattle.emtool.specs.declared.status.UsageKind.{UsageKind}
 use Rattle.emtool.specs.declared.status.UsageKind.TheVariants.{NoCommand, UnknownCommand, UnknownOption, RepeatedOption, BadValue, MissingOperand, ExtraOperand, BlockRange, FramesRange, FramesMultiple, BlocksRange}
 use Rattle.emtool.specs.declared.status.Status.{Status}
@@ -20,9 +22,32 @@ text_kind_name EmptyLine = codes "EmptyLine"
 text_kind_name LowAboveHigh = codes "LowAboveHigh"
 text_kind_name TooLong = codes "TooLong"
 
+-- the name of a fault of a circuit or of a stimulus
+abbrev pub aig_kind_name : AigKind → List ℕ
+aig_kind_name aig.BadMagic = codes "BadMagic"
+aig_kind_name aig.BadNumber = codes "BadNumber"
+aig_kind_name aig.TooLarge = codes "TooLarge"
+aig_kind_name aig.BadSeparator = codes "BadSeparator"
+aig_kind_name aig.BadCounts = codes "BadCounts"
+aig_kind_name aig.LiteralRange = codes "LiteralRange"
+aig_kind_name aig.OddDefinition = codes "OddDefinition"
+aig_kind_name aig.BadDelta = codes "BadDelta"
+aig_kind_name aig.Short = codes "Short"
+aig_kind_name aig.BadSymbol = codes "BadSymbol"
+aig_kind_name aig.Extra = codes "Extra"
+aig_kind_name aig.Extension = codes "Extension"
+aig_kind_name aig.Twice = codes "Twice"
+aig_kind_name aig.Undefined = codes "Undefined"
+aig_kind_name aig.Cyclic = codes "Cyclic"
+aig_kind_name aig.StimLength = codes "StimLength"
+aig_kind_name aig.StimChar = codes "StimChar"
+aig_kind_name aig.TooLong = codes "TooLong"
+aig_kind_name aig.Unordered = codes "Unordered"
+
 -- the name of what is wrong with an input
 abbrev pub malform_name : Malform → List ℕ
 malform_name (Text kind) = text_kind_name kind
+malform_name (Aig kind) = aig_kind_name kind
 
 -- the name of a usage fault
 abbrev pub usage_kind_name : UsageKind → List ℕ

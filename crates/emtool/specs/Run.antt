@@ -1,29 +1,29 @@
 -- What a run leaves of the outside.
-use Rattle.std.specs.Prelude.{◌≡◌, ℕ, ◌+◌, ◌-◌, ◌*◌, ◌<◌, ◌≤◌, ◌^◌, ◌⊎◌, Bool, true, false, IsTrue, IsFalse, IsSome, List, [], is_none}
+use Rattle.std.specs.Prelude.{◌≡◌, ℕ, ◌+◌, ◌-◌, ◌*◌, ◌<◌, ◌≤◌, ◌^◌, ◌⊎◌, Bool, false, IsTrue, IsFalse, Option, List}
 use Rattle.em_record.specs.Count.{Rose}
 use Rattle.em_record.specs.Shape.{ShapeNumbers, fan_of}
 use Rattle.em_io.specs.Sink.{SentPart}
-use Rattle.em_io.specs.Shelf.{SlotState, Stand, Leaves}
+use Rattle.em_io.specs.Shelf.{Stand, Leaves}
 use Rattle.em_io.specs.declared.shelf.Shelf.{Ghosts as ShelfGhosts}
+use Rattle.em_io.specs.declared.shelf.Slot.{Slot}
 use Rattle.em_io.specs.declared.shelf.Slot.TheVariants.{First}
 use Rattle.em_io.specs.declared.sink.Sink.{Ghosts as SinkGhosts}
 use Rattle.em_frames.specs.Device.{DeviceState}
 use Rattle.em_frames.specs.Pool.{PoolCounts}
-use Rattle.em_plain.specs.Room.{plain_room}
 use Rattle.em_space.specs.Rig.{RigState}
 use Rattle.em_space.specs.declared.fault.EmFault.{EmFault}
 use Rattle.em_space.specs.declared.fault.EmFault.TheVariants as em
 use Rattle.emtool.specs.declared.status.Status.{Status}
-use Rattle.emtool.specs.declared.status.Malform.TheVariants.{Text}
 use Rattle.emtool.specs.declared.status.Status.TheVariants.{Malformed, ReadFault, WriteFault, DeviceFault, Full, Damaged}
 use Rattle.emtool.specs.declared.stop.Stop.{Stop}
 use Rattle.emtool.specs.declared.stop.Stop.TheVariants as stop
 use Rattle.emtool.specs.declared.text.FileKind.{FileKind}
-use Rattle.emtool.specs.declared.text.FileKind.TheVariants.{Map, Queue, Stab}
 use Rattle.emtool.specs.declared.job.Job.{Job}
-use Rattle.emtool.specs.Due.{due_status, output_text, text_of}
-use Rattle.emtool.specs.RunSize.{run_size}
-use Rattle.emtool.specs.Status.{OnBegun, OnEnd, OnDone, OnNoMemory, OnUsage, IfEndsFull, IfEndsDamaged}
+use Rattle.emtool.specs.declared.job.Task.{Task}
+use Rattle.emtool.specs.Asked.{Asked, ToldIf, asked_of, asked_of_file, counts_pairs}
+use Rattle.emtool.specs.Due.{texts_in}
+use Rattle.emtool.specs.Opens.{IsAllRead, OpensNamed, ReadsNamed}
+use Rattle.emtool.specs.Status.{OnBegun, OnDone, OnEnd, OnNoMemory, OnUsage, IfEndsFull, IfEndsDamaged}
 
 -- The outside at one moment: the device, the state of the output, what stands on the shelf, and how
 -- often shelf and output failed.
@@ -52,14 +52,14 @@ em_status (em.Damaged block) = Damaged block
 
 -- the status of a run that stopped
 abbrev pub stop_status : Stop → Status
-stop_status (stop.Fault kind line) = Malformed (Text kind) line
+stop_status (stop.Fault kind place) = Malformed kind place
 stop_status stop.Read = ReadFault
 stop_status stop.Write = WriteFault
 stop_status (stop.Em fault) = em_status fault
 
--- The frames of a run are free: 2f + 6 single ones, an area and the rack.
+-- The frames of a run are free: 2f + 11 single ones, an area and the rack.
 pub record IsReady (p : PoolCounts) : Type 0 where
-  pub singles : 2 * fan_of p.shape + 6 ≤ p.free
+  pub singles : 2 * fan_of p.shape + 11 ≤ p.free
   pub areas : 1 ≤ p.free_areas
   pub rack : p.rack_out ≡ false
 
@@ -68,34 +68,25 @@ pub record ReadsFirst (tells : Bool) (old new : Stand) : Type 0 where
   pub leaves : Leaves First old new
   pub lost : IsTrue tells → (new.slot First).lost ≡ (old.slot First).lost
 
--- The slot was opened with Ok, and nothing of its text is left.
-pub record IsAllRead (tells : Bool) (slot : SlotState) : Type 0 where
-  pub opened : slot.ready ≡ true
-  pub nothing_left : IsTrue tells → slot.left ≡ []
-
 -- What the size of a run asks of the device: pairs are reported as it tells.
 abbrev pub CountsBy : FileKind → Bool → Type 0
-CountsBy Map told = Unit {0}
-CountsBy Queue told = Unit {0}
-CountsBy Stab told = IsTrue told
+CountsBy kind told = ToldIf (counts_pairs kind) told
 
--- The end of a run over this text, on a device of this many blocks of which none was in use or moved
--- before.
-pub record Ended (tells : Bool) (took : List ℕ → List ℕ → List ℕ) (kind : FileKind)
-    (text : List ℕ) (shape : ShapeNumbers) (blocks : ℕ) (old new : Outside) (status : Status)
-    : Type 0 where
-  pub answers : IsTrue tells → IsTrue old.device.told
-      → OnEnd status
-      ((status ≡ due_status kind text) × (new.output ≡ took old.output (output_text kind text)))
-  pub due : IsTrue tells → OnEnd status (status ≡ due_status kind text)
+-- The end of a run that this was asked of, on a device of this many blocks of which none was in use
+-- or moved before.
+pub record Ended (tells : Bool) (took : List ℕ → List ℕ → List ℕ) (asked : Asked)
+    (shape : ShapeNumbers) (blocks : ℕ) (old new : Outside) (status : Status) : Type 0 where
+  pub answers : IsTrue tells → IsTrue old.device.told → OnEnd status
+      ((status ≡ asked.status) × (new.output ≡ took old.output asked.output))
+  pub due : IsTrue tells → ToldIf asked.status_told old.device.told
+      → OnEnd status (status ≡ asked.status)
   pub prefix : IsTrue tells → IsTrue old.device.told
-      → SentPart took old.output (output_text kind text) new.output
-  pub all_read : OnDone status (IsAllRead tells (new.stand.slot First))
+      → SentPart took old.output asked.output new.output
   pub full : IfEndsFull status (λ used. used ≡ blocks)
-  pub paid : IfEndsFull status
-      (λ used. (2 ^ 64 - 1 ≤ new.device.moves) ⊎ (used ≤ new.device.moves + shape.frames))
-  pub size : IsTrue tells → CountsBy kind old.device.told
-      → IfEndsFull status (λ used. used ≤ plain_room shape (run_size kind text (new.stand.slot First).left))
+  pub paid : IfEndsFull status (λ used. (2 ^ 64 - 1 ≤ new.device.moves)
+      ⊎ (used ≤ new.device.moves + 2 * shape.frames))
+  pub size : IsTrue tells → ToldIf asked.most_told old.device.told
+      → IfEndsFull status (λ used. used ≤ asked.most shape new.stand.slot)
   pub damaged : IfEndsDamaged status (λ at. IsFalse old.device.told × (at < blocks))
 
 -- The device still tells what it told, and no count of faults fell.
@@ -118,41 +109,53 @@ pub record Caused (old new : Outside) (status : Status) : Type 0 where
   pub write : status ≡ WriteFault → Rose old.write_faults new.write_faults
   pub device : status ≡ DeviceFault → Rose old.device.faults new.device.faults
 
--- A run over the open slot's text, on a rig that was `s` and is `t`: how it ended, and why. Only that
--- slot was read.
+-- A run over a command file in the open first slot, on a rig that was `s` and is `t`: how it ended,
+-- and why. Only that slot was read, and at Done to its end.
 pub record Runs {H W : Type 0} (h : ShelfGhosts H) (w : SinkGhosts W) (kind : FileKind)
     (s t : RigState) (shelf : H) (out : W) (shelf_after : H) (out_after : W) (status : Status)
     : Type 0 where
-  pub ended : Ended h.tells w.took kind ((h.stand shelf).slot First).left s.pool.shape s.blocks
+  pub ended : Ended h.tells w.took (asked_of_file kind ((h.stand shelf).slot First).left)
+      s.pool.shape s.blocks
       (outside h w s.device shelf out) (outside h w t.device shelf_after out_after) status
   pub caused : Caused (outside h w s.device shelf out)
       (outside h w t.device shelf_after out_after) status
   pub reads : ReadsFirst h.tells (h.stand shelf) (h.stand shelf_after)
+  pub all_read : OnDone status (IsAllRead h.tells ((h.stand shelf_after).slot First))
   pub no_usage : OnUsage status ⊥
   pub no_memory : OnNoMemory status ⊥
 
--- No slot but the first changed. If the shelf tells, it is lost only if no file has this
--- name, and where the run was done or the input malformed a file has it.
-pub record OpensOnly (tells : Bool) (name : List ℕ) (old new : Stand) (status : Status)
-    : Type 0 where
-  pub leaves : Leaves First old new
-  pub lost : IsTrue tells → (new.slot First).lost ≡ true → is_none (old.text First name) ≡ true
-  pub there : IsTrue tells → OnEnd status (IsSome (old.text First name))
+-- The run of a task over the files of these names, on such a rig: how it ended, and why; and which
+-- slots were opened and read.
+pub record RunsTask {H W : Type 0} (h : ShelfGhosts H) (w : SinkGhosts W) (task : Task)
+    (names : Slot → Option (List ℕ)) (s t : RigState) (shelf : H) (out : W) (shelf_after : H)
+    (out_after : W) (status : Status) : Type 0 where
+  pub ended : Ended h.tells w.took (asked_of task (texts_in (h.stand shelf) names))
+      s.pool.shape s.blocks
+      (outside h w s.device shelf out) (outside h w t.device shelf_after out_after) status
+  pub caused : Caused (outside h w s.device shelf out)
+      (outside h w t.device shelf_after out_after) status
+  pub opens : OpensNamed h.tells s.device.told names (h.stand shelf) (h.stand shelf_after) status
+  pub all_read : ReadsNamed h.tells names (h.stand shelf_after) status
+  pub no_usage : OnUsage status ⊥
+  pub no_memory : OnNoMemory status ⊥
 
 -- The device was begun with the sizes of the job.
 pub record HasSizes (job : Job) (device : DeviceState) : Type 0 where
   pub blocks : device.blocks ≡ job.blocks
   pub block : device.block ≡ job.shape.block
 
--- The run of a job over the file of this name: how it ended, and why; the file alone was opened; and
--- unless the device failed at once, it has the job's sizes.
-pub record RunsJob {H W : Type 0} (h : ShelfGhosts H) (w : SinkGhosts W) (job : Job) (name : List ℕ)
-    (device : DeviceState) (shelf : H) (out : W) (device_after : DeviceState) (shelf_after : H)
-    (out_after : W) (status : Status) : Type 0 where
-  pub ended : Ended h.tells w.took job.kind (text_of (h.stand shelf) name) job.shape job.blocks
+-- The run of a job over the files of these names: how it ended, and why; which slots were opened and
+-- read; and unless the device failed at once, it has the job's sizes.
+pub record RunsJob {H W : Type 0} (h : ShelfGhosts H) (w : SinkGhosts W) (job : Job)
+    (names : Slot → Option (List ℕ)) (device : DeviceState) (shelf : H) (out : W)
+    (device_after : DeviceState) (shelf_after : H) (out_after : W) (status : Status)
+    : Type 0 where
+  pub ended : Ended h.tells w.took (asked_of job.task (texts_in (h.stand shelf) names))
+      job.shape job.blocks
       (outside h w device shelf out) (outside h w device_after shelf_after out_after) status
   pub caused : Caused (outside h w device shelf out)
       (outside h w device_after shelf_after out_after) status
-  pub opens : OpensOnly h.tells name (h.stand shelf) (h.stand shelf_after) status
+  pub opens : OpensNamed h.tells device.told names (h.stand shelf) (h.stand shelf_after) status
+  pub all_read : ReadsNamed h.tells names (h.stand shelf_after) status
   pub begun : OnBegun status (HasSizes job device_after)
   pub no_usage : OnUsage status ⊥

@@ -47,7 +47,7 @@ pub record IsAlone (s : RigState) (c : QueueCounts) : Type 0 where
 
 -- A stop of a call that answers one command: the output's count of faults rose, or the rig gave up.
 abbrev pub ServeCause : ℕ → ℕ → RigState → RigState → Stop → Type 0
-ServeCause faults after old new (Fault kind line) = ⊥
+ServeCause faults after old new (Fault kind place) = ⊥
 ServeCause faults after old new Read = ⊥
 ServeCause faults after old new Write = Rose faults after
 ServeCause faults after old new (Em fault) = Cause old new fault

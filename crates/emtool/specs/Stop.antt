@@ -3,7 +3,12 @@ use Rattle.std.specs.Prelude.{◌≡◌, ℕ, Bool, IsTrue, List, [], Some, None
 use Rattle.em_record.specs.Count.{Rose}
 use Rattle.em_io.specs.Sink.{SentPart}
 use Rattle.em_space.specs.Rig.{RigState, BlockCause, Cause, IfFull}
+use Rattle.aig_edges.specs.declared.stop.StepStop.{StepStop}
+use Rattle.aig_edges.specs.declared.stop.StepStop.TheVariants as step
+use Rattle.aig_text.specs.declared.stop.AigStop.{AigStop}
+use Rattle.aig_text.specs.declared.stop.AigStop.TheVariants as circuit
 use Rattle.emtool.specs.CommandLine.{first_fault}
+use Rattle.emtool.specs.declared.status.Malform.TheVariants.{Text, Aig}
 use Rattle.emtool.specs.declared.stop.Stop.{Stop}
 use Rattle.emtool.specs.declared.stop.Stop.TheVariants.{Fault, Read, Write, Em}
 use Rattle.emtool.specs.declared.text.FileKind.{FileKind}
@@ -25,12 +30,13 @@ fault_counts read write = record { read = read; write = write }
 abbrev pub reading : ℕ → Faults
 reading faults = fault_counts faults 0
 
--- A stop has its cause: the first fault of the text, if the shelf tells it; a count of faults
--- that rose; or what a call on the rig says.
+-- A stop of a call that answers a command file has its cause: the first fault of the text, if the
+-- shelf tells it; a count of faults that rose; or what a call on the rig says.
 abbrev pub StopCause : Bool → FileKind → List ℕ → Faults → Faults → RigState → RigState → Stop
     → Type 0
-StopCause tells kind text faults after old new (Fault fault line) =
+StopCause tells kind text faults after old new (Fault (Text fault) line) =
     IsTrue tells → first_fault kind text ≡ Some (fault, line)
+StopCause tells kind text faults after old new (Fault (Aig fault) place) = ⊥
 StopCause tells kind text faults after old new Read = Rose faults.read after.read
 StopCause tells kind text faults after old new Write = Rose faults.write after.write
 StopCause tells kind text faults after old new (Em fault) = Cause old new fault
@@ -38,7 +44,7 @@ StopCause tells kind text faults after old new (Em fault) = Cause old new fault
 -- A stop of a call that only prints: the output's count of faults rose, or the rig gave up, which had
 -- to give no block.
 abbrev pub PrintCause : ℕ → ℕ → RigState → RigState → Stop → Type 0
-PrintCause faults after old new (Fault fault line) = ⊥
+PrintCause faults after old new (Fault kind place) = ⊥
 PrintCause faults after old new Read = ⊥
 PrintCause faults after old new Write = Rose faults after
 PrintCause faults after old new (Em fault) = BlockCause old new fault
@@ -52,13 +58,26 @@ pub record Prints {T : Type 0} (took : List ℕ → List ℕ → List ℕ) (text
 -- P of the number of blocks, where all are in use
 abbrev pub IfStopsFull : Stop → (ℕ → Type 0) → Type 0
 IfStopsFull (Em fault) P = IfFull fault P
-IfStopsFull (Fault kind line) P = Unit {0}
+IfStopsFull (Fault kind place) P = Unit {0}
 IfStopsFull Read P = Unit {0}
 IfStopsFull Write P = Unit {0}
 
 -- P, where the run stopped at a fault of the text
 abbrev pub OnFault : Stop → Type 0 → Type 0
-OnFault (Fault kind line) P = P
+OnFault (Fault kind place) P = P
 OnFault Read P = Unit {0}
 OnFault Write P = Unit {0}
 OnFault (Em fault) P = Unit {0}
+
+-- the stop of a run at that of a reader of circuits
+abbrev pub circuit_stop : AigStop → Stop
+circuit_stop (circuit.Fault kind place) = Fault (Aig kind) place
+circuit_stop circuit.Read = Read
+circuit_stop (circuit.Em fault) = Em fault
+
+-- the stop of a run at that of a step of an evaluator
+abbrev pub step_stop : StepStop → Stop
+step_stop (step.Fault kind place) = Fault (Aig kind) place
+step_stop step.Read = Read
+step_stop step.Write = Write
+step_stop (step.Em fault) = Em fault

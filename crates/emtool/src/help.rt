@@ -4,9 +4,10 @@ pub const VERSION: &str = "emtool 0.1.0\n";
 /// What `emtool --help` prints.
 pub const HELP: &str = "\
 usage: emtool map|queue|stab [options] FILE
+       emtool eval [options] CIRCUIT STIMULUS
        emtool --help | --version
 
-Answers a command file with structures in external memory.
+Answers a command file, or evaluates a circuit, with structures in external memory.
 
 Commands:
   map FILE      lines `put K V`, `del K` and `get K`; prints one line for each get: the value of the
@@ -20,8 +21,14 @@ Commands:
                 intervals before it that hold the point, counted from 0, or `-`; nothing where a line
                 is faulty
                 example: emtool stab spans.txt
+  eval CIRCUIT STIMULUS
+                the circuit is in the ASCII form of AIGER, with its variables numbered in the order of
+                the text and no symbols or comment; each line of STIMULUS is a step, with a `0` or `1`
+                for each input; prints the outputs of each step on a line; where a line of STIMULUS is
+                faulty, the lines of the steps before it; nothing where the circuit is
+                example: emtool eval adder.aag adder.txt
 
-Options, before FILE:
+Options, before the files:
   --block=N     records of a block, 128 to 65536; default 1024
                 example: emtool map --block=4096 prices.txt
   --frames=N    frames of one block each, a multiple of 8 from 64 to the lesser of 1024 and half of
@@ -33,18 +40,19 @@ Options, before FILE:
                 number of frames in use at once; not with exit code 1 or 7
                 example: emtool map --stats prices.txt
 
-The scratch device is the file `emtool.scratch` in the current folder. Before it reads FILE a run
+The scratch device is the file `emtool.scratch` in the current folder. Before it reads a file a run
 makes that file, or empties the one that is there. At its end it removes the file, also after a
 fault. The file has 32 times --block bytes for each block that was in use at once, and there are at
 most --blocks of them. Two runs at the same time want two folders, or the answers may be wrong.
-Neither FILE nor the output may be that file.
+Neither a file nor the output may be that file.
 
-Numbers are decimal, from 0 to 18446744073709551615, with at most 20 digits.
+Numbers of command files are decimal, from 0 to 18446744073709551615, with at
+most 20 digits.
 
 Exit codes:
   0  done                                     (emtool map prices.txt)
   1  usage: the words name no job             (emtool map)
-  2  malformed: a line of the file is faulty  (a map file with the line `put 1`)
+  2  malformed: an input is faulty            (a map file with the line `put 1`)
   3  an input could not be read               (emtool map no-such-file)
   4  the output could not be written          (emtool map prices.txt > /dev/full)
   5  the scratch device failed                (a full disk, a folder that takes no new file, or

@@ -1,5 +1,5 @@
-ghost use Rattle.std.specs.Prelude.{◌≡◌, ◌+◌, ◌-◌, ◌<◌, ◌≤◌, ◌^◌, length, IfOk};
-ghost use Rattle.emtool.specs.Job.{texts_of, job_of, kind_of, blocks_with, default_frames, job_with, operand_of, shape_with, IsJob};
+ghost use Rattle.std.specs.Prelude.{◌≡◌, ◌+◌, ◌<◌, ◌^◌, length, IfOk};
+ghost use Rattle.emtool.specs.Job.{texts_of, job_of, task_of, blocks_with, default_frames, job_with, operand_count, operands_of, shape_with, IsJob};
 
 use crate::option::{
     BLOCK, BLOCKS, FRAMES, STATS, has_option, number_or, option_words, test_options, word_of,
@@ -8,12 +8,21 @@ use crate::status::{Usage, UsageKind};
 use crate::text::FileKind;
 use em_record::{Shape, ShapeFault};
 
-/// What the words ask for: a file to be answered, of the `kind` that the command names, by a shape
-/// and over a device of `blocks` blocks. The file's name is the word of number `file`. With `stats`
-/// the run tells its moves.
+/// What a run does with its files.
+#[derive(Clone, Copy, Debug, PartialEq, Eq, Drop)]
+pub enum Task {
+    /// A file of commands is answered.
+    Answer(FileKind),
+    /// A circuit is evaluated on a stimulus, which is its second file.
+    Eval,
+}
+
+/// What the words ask for: the task that the command names, by a shape and over a device of
+/// `blocks` blocks. The name of its first file is the word of number `file`; that of a second one
+/// follows. With `stats` the run tells its moves.
 #[derive(Clone, Copy, Debug, PartialEq, Eq)]
 pub struct Job {
-    pub kind: FileKind,
+    pub task: Task,
     pub shape: Shape,
     pub blocks: u64,
     pub stats: bool,
@@ -29,17 +38,19 @@ const DEFAULT_BLOCKS: u64 = 1 << 20;
 /// The most blocks of a device.
 const MOST_BLOCKS: u64 = 1 << 40;
 
-/// The kind of file that a command answers.
-fn kind_of(word: &str) -> Option<FileKind>
-    ensures { result ≡ kind_of word.now }
+/// The task of a command.
+fn task_of(word: &str) -> Option<Task>
+    ensures { result ≡ task_of word.now }
 {
     let word = word.as_bytes();
     if word == b"map".as_slice() {
-        Some(FileKind::Map)
+        Some(Task::Answer(FileKind::Map))
     } else if word == b"queue".as_slice() {
-        Some(FileKind::Queue)
+        Some(Task::Answer(FileKind::Queue))
     } else if word == b"stab".as_slice() {
-        Some(FileKind::Stab)
+        Some(Task::Answer(FileKind::Stab))
+    } else if word == b"eval".as_slice() {
+        Some(Task::Eval)
     } else {
         None
     }
@@ -89,35 +100,47 @@ fn blocks_with(options: &[String]) -> Result<u64, Usage>
     Ok(blocks)
 }
 
-/// The number of the one operand's word, of `count` words: that is the word of number `first`.
-fn operand_of(first: u64, count: u64) -> Result<u64, Usage>
-    requires { first < 2 ^ 64 - 1 }
-    ensures { result ≡ operand_of first count }
+/// How many operands a task has: a name for each of its files.
+fn operand_count(task: Task) -> u64
+    ensures { result ≡ operand_count task }
 {
-    if count <= first {
+    match task {
+        Task::Answer(_) => 1,
+        Task::Eval => 2,
+    }
+}
+
+/// The number of the first operand's word, of `count` words: that is the word of number `first`,
+/// and the last of the `wanted` operands is the last word.
+fn operands_of(wanted: u64, first: u64, count: u64) -> Result<u64, Usage>
+    requires { first + wanted < 2 ^ 64 }
+    ensures { result ≡ operands_of wanted first count }
+{
+    if count < first + wanted {
         return Err(Usage {
             kind: UsageKind::MissingOperand,
             word: count,
         });
     }
-    if first + 1 < count {
+    if first + wanted < count {
         return Err(Usage {
             kind: UsageKind::ExtraOperand,
-            word: first + 1,
+            word: first + wanted,
         });
     }
     Ok(first)
 }
 
-/// The job of a kind over what the options say, of the file that the word of number `file` names.
-fn job_with(kind: FileKind, options: &[String], file: u64) -> Result<Job, Usage>
-    ensures job { result ≡ job_with kind (texts_of options.now) file }
-    ensures is { IfOk result (IsJob (file + 1)) }
+/// The job of a task over what the options say, of the files that the words from number `file` on
+/// name.
+fn job_with(task: Task, options: &[String], file: u64) -> Result<Job, Usage>
+    ensures job { result ≡ job_with task (texts_of options.now) file }
+    ensures is { IfOk result (IsJob (file + operand_count task)) }
 {
     let shape = shape_with(options)?;
     let blocks = blocks_with(options)?;
     Ok(Job {
-        kind,
+        task,
         shape,
         blocks,
         stats: has_option(options, STATS),
@@ -136,7 +159,7 @@ pub fn read_job(words: &[String]) -> Result<Job, Usage>
             word: 0,
         });
     };
-    let Some(kind) = kind_of(command.as_str()) else {
+    let Some(task) = task_of(command.as_str()) else {
         return Err(Usage {
             kind: UsageKind::UnknownCommand,
             word: 0,
@@ -144,6 +167,7 @@ pub fn read_job(words: &[String]) -> Result<Job, Usage>
     };
     let options = option_words(&words[1..]);
     test_options(options)?;
-    let file = operand_of(options.len() as u64 + 1, words.len() as u64)?;
-    job_with(kind, options, file)
+    let first = options.len() as u64 + 1;
+    let file = operands_of(operand_count(task), first, words.len() as u64)?;
+    job_with(task, options, file)
 }

@@ -10,6 +10,7 @@ ghost use Rattle.emtool.specs.Outcome.{report_text};
 ghost use Rattle.emtool.specs.Status.{OnDone};
 
 mod byte;
+mod eval;
 mod help;
 mod job;
 mod line;

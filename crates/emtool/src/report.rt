@@ -2,11 +2,12 @@ ghost use Rattle.std.specs.Prelude.{◌≡◌, ◌≤◌, ◌+◌, ◌++◌, ◌
 ghost use Rattle.em_record.specs.Count.{HasCause};
 ghost use Rattle.em_io.specs.Sink.{SentPart};
 ghost use Rattle.emtool.specs.Outcome.{stats_line, report_text};
-ghost use Rattle.emtool.specs.Report.{message_of, line_of, digits_of, text_kind_name, malform_name, usage_kind_name};
+ghost use Rattle.emtool.specs.Report.{message_of, line_of, digits_of, aig_kind_name, text_kind_name, malform_name, usage_kind_name};
 
 use crate::outcome::{Outcome, Stats};
 use crate::status::{Malform, Status, UsageKind};
 use crate::text::TextKind;
+use aig_defs::AigKind;
 use em_io::{Printer, Sink};
 use em_record::Failed;
 
@@ -26,6 +27,34 @@ fn text_kind(kind: TextKind) -> &'static [u8]
     }
 }
 
+/// The name of a fault of a circuit or of a stimulus.
+fn aig_kind(kind: AigKind) -> &'static [u8]
+    ensures is { result.now ≡ aig_kind_name kind }
+    ensures short { length result.now ≤ 20 }
+{
+    match kind {
+        AigKind::BadMagic => b"BadMagic",
+        AigKind::BadNumber => b"BadNumber",
+        AigKind::TooLarge => b"TooLarge",
+        AigKind::BadSeparator => b"BadSeparator",
+        AigKind::BadCounts => b"BadCounts",
+        AigKind::LiteralRange => b"LiteralRange",
+        AigKind::OddDefinition => b"OddDefinition",
+        AigKind::BadDelta => b"BadDelta",
+        AigKind::Short => b"Short",
+        AigKind::BadSymbol => b"BadSymbol",
+        AigKind::Extra => b"Extra",
+        AigKind::Extension => b"Extension",
+        AigKind::Twice => b"Twice",
+        AigKind::Undefined => b"Undefined",
+        AigKind::Cyclic => b"Cyclic",
+        AigKind::StimLength => b"StimLength",
+        AigKind::StimChar => b"StimChar",
+        AigKind::TooLong => b"TooLong",
+        AigKind::Unordered => b"Unordered",
+    }
+}
+
 /// The name of what is wrong with an input.
 fn malform(kind: Malform) -> &'static [u8]
     ensures is { result.now ≡ malform_name kind }
@@ -33,6 +62,7 @@ fn malform(kind: Malform) -> &'static [u8]
 {
     match kind {
         Malform::Text(kind) => text_kind(kind),
+        Malform::Aig(kind) => aig_kind(kind),
     }
 }
 

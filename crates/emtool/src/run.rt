@@ -1,4 +1,4 @@
-// One run of a command file on an open rig.
+// One run of a task on an open rig.
 ghost use Rattle.std.specs.Prelude.{◌≡◌, ◌≤◌, true, []};
 ghost use Rattle.em_io.specs.Shelf.{IsFresh};
 ghost use Rattle.em_space.specs.Queue.{CanServe};
@@ -7,16 +7,18 @@ ghost use Rattle.em_space.specs.Seen.{seen};
 ghost use Rattle.em_chain.specs.Effects.{GivesFrame};
 ghost use Rattle.em_plain.specs.CommandList.{BeginsList};
 ghost use Rattle.em_plain.specs.ScanQueue.{IsScanQueue, counts_of, fresh_counts};
-ghost use Rattle.emtool.specs.Due.{text_of};
-ghost use Rattle.emtool.specs.Run.{outside, stop_status, Ended, Caused, IsReady, OpensOnly, Runs};
+ghost use Rattle.emtool.specs.Due.{names_of};
+ghost use Rattle.emtool.specs.Run.{stop_status, IsReady, Runs, RunsTask};
 ghost use Rattle.emtool.specs.Service.{IsUnused, kind_is, list_of};
 ghost use Rattle.emtool.specs.Status.{OnUsage, OnNoMemory};
 
+use crate::eval::run_eval;
+use crate::job::Task;
 use crate::print::print_answers;
 use crate::read::read_answers;
 use crate::serve::serve;
 use crate::service::Service;
-use crate::status::{Malform, Status};
+use crate::status::Status;
 use crate::stop::Stop;
 use crate::text::FileKind;
 use em_frames::Device;
@@ -25,16 +27,13 @@ use em_plain::{ScanMap, ScanQueue, ScanStab};
 use em_space::{EmFault, Queue, Rig};
 
 /// The status of a run that stopped.
-fn status_of(stop: Stop) -> Status
+pub fn status_of(stop: Stop) -> Status
     ensures is { result ≡ stop_status stop }
     ensures no_usage { OnUsage result ⊥ }
     ensures no_memory { OnNoMemory result ⊥ }
 {
     match stop {
-        Stop::Fault { kind, line } => Status::Malformed {
-            kind: Malform::Text(kind),
-            place: line,
-        },
+        Stop::Fault { kind, place } => Status::Malformed { kind, place },
         Stop::Read => Status::ReadFault,
         Stop::Write => Status::WriteFault,
         Stop::Em(EmFault::DeviceFault) => Status::DeviceFault,
@@ -142,19 +141,36 @@ pub fn run_file<D: Device, H: Shelf, W: Sink>(
     requires none_moved { (seen D.state rig.old).moves ≡ 0 }
     requires fresh { IsFresh (H.stand shelf.old) }
     ensures goes { Goes [] (seen D.state rig.old) (seen D.state rig.new) }
-    ensures ended { Ended H.tells W.took kind (text_of (H.stand shelf.old) name.now)
-        (seen D.state rig.old).pool.shape (seen D.state rig.old).blocks
-        (outside H.Shelf W.Sink (seen D.state rig.old).device shelf.old out.old)
-        (outside H.Shelf W.Sink (seen D.state rig.new).device shelf.new out.new) result }
-    ensures caused { Caused
-        (outside H.Shelf W.Sink (seen D.state rig.old).device shelf.old out.old)
-        (outside H.Shelf W.Sink (seen D.state rig.new).device shelf.new out.new) result }
-    ensures opens { OpensOnly H.tells name.now (H.stand shelf.old) (H.stand shelf.new) result }
-    ensures no_usage { OnUsage result ⊥ }
-    ensures no_memory { OnNoMemory result ⊥ }
+    ensures runs { RunsTask H.Shelf W.Sink (Task.Answer kind)
+        (names_of (Task.Answer kind) name.now []) (seen D.state rig.old) (seen D.state rig.new)
+        shelf.old out.old shelf.new out.new result }
 {
     let Ok(()) = shelf.open(Slot::First, name) else {
         return Status::ReadFault;
     };
     run_open(kind, rig, shelf, out)
+}
+
+/// Runs a task over the files of these names, on an open rig of which no block is or was in use. A
+/// task of one file doesn't use the second name.
+pub fn run_task<D: Device, H: Shelf, W: Sink>(
+    task: Task,
+    rig: &mut Rig<'_, D>,
+    shelf: &mut H,
+    first: &str,
+    second: &str,
+    out: &mut W,
+) -> Status
+    requires unused { IsUnused (seen D.state rig.old) }
+    requires free { IsReady (seen D.state rig.old).pool }
+    requires none_moved { (seen D.state rig.old).moves ≡ 0 }
+    requires fresh { IsFresh (H.stand shelf.old) }
+    ensures goes { Goes [] (seen D.state rig.old) (seen D.state rig.new) }
+    ensures runs { RunsTask H.Shelf W.Sink task (names_of task first.now second.now)
+        (seen D.state rig.old) (seen D.state rig.new) shelf.old out.old shelf.new out.new result }
+{
+    match task {
+        Task::Answer(kind) => run_file(kind, rig, shelf, first, out),
+        Task::Eval => run_eval(rig, shelf, first, second, out),
+    }
 }

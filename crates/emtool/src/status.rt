@@ -2,6 +2,7 @@ ghost use Rattle.std.specs.Prelude.{◌≡◌};
 ghost use Rattle.emtool.specs.Status.{code_of};
 
 use crate::text::TextKind;
+use aig_defs::AigKind;
 
 /// Why the words name no job.
 #[derive(Clone, Copy, Debug, PartialEq, Eq, Drop)]
@@ -42,6 +43,9 @@ pub struct Usage {
 pub enum Malform {
     /// A line of a command file; the place is the line's number, from 1.
     Text(TextKind),
+    /// A circuit or a stimulus. The place is a byte's offset; for `Twice`, `Undefined` and `Cyclic`
+    /// it is the variable.
+    Aig(AigKind),
 }
 
 /// How a run ended.

@@ -1,16 +1,22 @@
-// Why a run stopped before it had answered all commands.
+// Why a run stopped before its end.
 ghost use Rattle.std.specs.Prelude.{◌≡◌};
+ghost use Rattle.emtool.specs.declared.status.Malform.TheVariants.{Text, Aig};
 ghost use Rattle.emtool.specs.declared.stop.Stop.TheVariants as stop;
+ghost use Rattle.emtool.specs.Stop.{circuit_stop, step_stop};
 
+use crate::status::Malform;
 use crate::text::TextKind;
+use aig_defs::AigKind;
+use aig_edges::StepStop;
+use aig_text::AigStop;
 use em_record::Failed;
 use em_space::EmFault;
 
 /// Why a run stopped before its end.
 #[derive(Clone, Copy, Debug, PartialEq, Eq, Drop)]
 pub enum Stop {
-    /// The line of this number, from 1, is faulty.
-    Fault { kind: TextKind, line: u64 },
+    /// This is the first fault of the input, and its place.
+    Fault { kind: Malform, place: u64 },
     /// The shelf failed: its count of faults rose.
     Read,
     /// The output failed: its count of faults rose.
@@ -22,11 +28,21 @@ pub enum Stop {
 impl Stop {
     /// The stop at a fault of the line of this number.
     pub fn at_line(fault: TextKind, number: u64) -> Stop
-        ensures is { result ≡ stop.Fault fault number }
+        ensures is { result ≡ stop.Fault (Text fault) number }
     {
         Stop::Fault {
-            kind: fault,
-            line: number,
+            kind: Malform::Text(fault),
+            place: number,
+        }
+    }
+
+    /// The stop at a fault of a circuit or a stimulus, at this place.
+    pub fn at_place(fault: AigKind, place: u64) -> Stop
+        ensures is { result ≡ stop.Fault (Aig fault) place }
+    {
+        Stop::Fault {
+            kind: Malform::Aig(fault),
+            place,
         }
     }
 }
@@ -44,5 +60,30 @@ impl From<Failed> for Stop {
 
     fn from(_failed: Failed) -> Stop {
         Stop::Write
+    }
+}
+
+impl From<AigStop> for Stop {
+    ghost from_gives = { λ s e. e ≡ circuit_stop s };
+
+    fn from(stop: AigStop) -> Stop {
+        match stop {
+            AigStop::Fault { kind, place } => Stop::at_place(kind, place),
+            AigStop::Read => Stop::Read,
+            AigStop::Em(fault) => Stop::Em(fault),
+        }
+    }
+}
+
+impl From<StepStop> for Stop {
+    ghost from_gives = { λ s e. e ≡ step_stop s };
+
+    fn from(stop: StepStop) -> Stop {
+        match stop {
+            StepStop::Fault { kind, place } => Stop::at_place(kind, place),
+            StepStop::Read => Stop::Read,
+            StepStop::Write => Stop::Write,
+            StepStop::Em(fault) => Stop::Em(fault),
+        }
     }
 }

@@ -17,6 +17,9 @@ use std::test::Fail;
 /// The file of a map, of 42 bytes.
 const MAP: &[u8] = b"put 5 10\nget 5\nput 5 11\nget 5\ndel 5\nget 5\n";
 
+/// A stimulus of two steps for two inputs: the file `s` of each run.
+const STEPS: &[u8] = b"11\n01\n";
+
 /// The words of the runs of several blocks.
 const SMALL: [&str; 5] = ["map", "--block=128", "--frames=64", "--blocks=100", "a"];
 
@@ -60,8 +63,8 @@ fn failing(part: Part, calls: &[u64]) -> Fails<'_> {
     }
 }
 
-/// How a run over a device in memory and a shelf with the file `a` ended, what the output took and
-/// what the error stream took.
+/// How a run over a device in memory and a shelf with the files `a` and `s` ended, what the output
+/// took and what the error stream took.
 fn run(
     rt: &HostRuntime,
     words: &[&str],
@@ -90,6 +93,7 @@ fn run_over<D: Device>(
     }
     let mut shelf = MemShelf::new(alloc, 3, fails.shelf)?;
     shelf.add("a", text)?;
+    shelf.add("s", STEPS)?;
     let mut out = MemSink::new(alloc, 3, fails.out)?;
     let mut err = MemSink::new(alloc, 7, fails.err)?;
     let status = emtool(

@@ -3,7 +3,8 @@ ghost use Rattle.std.specs.Result.{result_err};
 ghost use Rattle.em_record.specs.Count.{Rose};
 ghost use Rattle.em_io.specs.Shelf.{IsFresh};
 ghost use Rattle.em_frames.specs.Pool.{fresh_pool};
-ghost use Rattle.emtool.specs.Job.{HasBlocks, texts_of, job_of};
+ghost use Rattle.emtool.specs.Due.{names_of};
+ghost use Rattle.emtool.specs.Job.{HasBlocks, name_at, texts_of, job_of};
 ghost use Rattle.emtool.specs.Outcome.{HasStats};
 ghost use Rattle.emtool.specs.Promise.{run_of, Begins, Completes, DamageHasCause, EndsAsDue, FullHasCause, GivesDue, Opens, ReadsFiles, Reports, ReportsFront, SendsFront};
 ghost use Rattle.emtool.specs.Run.{outside, GoesOn, RunsJob};
@@ -12,16 +13,17 @@ ghost use Rattle.emtool.specs.Status.{refusal_of, OnBegun, OnNoMemory, OnUsage};
 use crate::job::{Job, read_job};
 use crate::outcome::{Outcome, stats_of, unmoved};
 use crate::report::report;
-use crate::run::run_file;
+use crate::run::run_task;
 use crate::status::Status;
 use em_frames::{BeginFault, Device, Grant, Pool};
 use em_io::{Shelf, Sink, Slot};
 use em_space::Rig;
 
-/// Runs a job with a pool of its shape, which it gives up. The name is that of the job's file.
+/// Runs a job with a pool of its shape, which it gives up. The names are those of the job's files.
 pub fn run_pool<D: Device, H: Shelf, W: Sink>(
     job: &Job,
-    name: &str,
+    first: &str,
+    second: &str,
     pool: Pool,
     device: &mut D,
     shelf: &mut H,
@@ -31,8 +33,10 @@ pub fn run_pool<D: Device, H: Shelf, W: Sink>(
     requires pool { pool ≡ fresh_pool job.now.shape }
     requires device { (D.state device.old).blocks ≡ 0 }
     requires shelf { IsFresh (H.stand shelf.old) }
-    ensures runs { RunsJob H.Shelf W.Sink job.now name.now (D.state device.old) shelf.old
-        out.old (D.state device.new) shelf.new out.new result.status }
+    ensures runs { RunsJob H.Shelf W.Sink job.now
+        (names_of job.now.task first.now second.now)
+        (D.state device.old) shelf.old out.old (D.state device.new) shelf.new out.new
+        result.status }
     ensures none_moved { (D.state device.old).moves ≡ 0 }
     ensures stats { HasStats job.now result.status (D.state device.new).moves result.stats }
     ensures no_memory { OnNoMemory result.status ((shelf.new ≡ shelf.old) × (out.new ≡ out.old)
@@ -40,7 +44,7 @@ pub fn run_pool<D: Device, H: Shelf, W: Sink>(
 {
     match Rig::open(job.shape, job.blocks, device, pool) {
         Ok(mut rig) => {
-            let status = run_file(job.kind, &mut rig, shelf, name, out);
+            let status = run_task(job.task, &mut rig, shelf, first, second, out);
             let stats = stats_of(&rig, job.stats);
             let pool = rig.close();
             pool.end();
@@ -63,10 +67,12 @@ pub fn run_pool<D: Device, H: Shelf, W: Sink>(
     }
 }
 
-/// Runs a job with a pool of its shape, which the grant makes. The name is that of the job's file.
+/// Runs a job with a pool of its shape, which the grant makes. The names are those of the job's
+/// files.
 fn run_job<D: Device, H: Shelf, W: Sink>(
     job: &Job,
-    name: &str,
+    first: &str,
+    second: &str,
     grant: Grant,
     device: &mut D,
     shelf: &mut H,
@@ -75,8 +81,10 @@ fn run_job<D: Device, H: Shelf, W: Sink>(
     requires blocks { HasBlocks job.now }
     requires device { (D.state device.old).blocks ≡ 0 }
     requires shelf { IsFresh (H.stand shelf.old) }
-    ensures runs { RunsJob H.Shelf W.Sink job.now name.now (D.state device.old) shelf.old
-        out.old (D.state device.new) shelf.new out.new result.status }
+    ensures runs { RunsJob H.Shelf W.Sink job.now
+        (names_of job.now.task first.now second.now)
+        (D.state device.old) shelf.old out.old (D.state device.new) shelf.new out.new
+        result.status }
     ensures none_moved { OnBegun result.status ((D.state device.old).moves ≡ 0) }
     ensures stats { HasStats job.now result.status
         ((D.state device.new).moves - (D.state device.old).moves) result.stats }
@@ -89,17 +97,28 @@ fn run_job<D: Device, H: Shelf, W: Sink>(
             stats: None,
         };
     };
-    run_pool(job, name, pool, device, shelf, out)
+    run_pool(job, first, second, pool, device, shelf, out)
 }
 
-/// Runs the job that the words name: `words` are those after the program's name. Answers of the
-/// command file go to `out`, the message of a status other than `Done` and the line of `--stats` to
-/// `err`; commands and answers go through `device`, in blocks. A fault of `err` changes nothing:
-/// writing there stops.
+/// The word of this number, or an empty one if there is none.
+fn name_at(words: &[String], number: u64) -> &str
+    ensures is { result.now ≡ name_at (texts_of words.now) number }
+{
+    if number >= words.len() as u64 {
+        return "";
+    }
+    words[number as usize].as_str()
+}
+
+/// Runs the job that the words name: `words` are those after the program's name. Answers of a
+/// command file and outputs of a circuit go to `out`, the message of a status other than `Done` and
+/// the line of `--stats` to `err`; records go through `device`, in blocks. A fault of `err` changes
+/// nothing: writing there stops.
 ///
 /// Clauses on what texts and blocks hold are said of a shelf and a device that tell it, as each
 /// clause says; those on words, counts and numbers of every one. What a clause's word means is in
-/// `specs/Promise.antt`, and what a run is due in `specs/Due.antt`.
+/// `specs/Promise.antt`, what a run is due in `specs/Due.antt`, and what each task asks in
+/// `specs/Asked.antt`.
 pub fn emtool<D: Device, H: Shelf, W: Sink, E: Sink>(
     words: &[String],
     grant: Grant,
@@ -166,7 +185,8 @@ pub fn emtool<D: Device, H: Shelf, W: Sink, E: Sink>(
     let outcome = match read_job(words) {
         Ok(job) => run_job(
             &job,
-            words[job.file as usize].as_str(),
+            name_at(words, job.file),
+            name_at(words, job.file + 1),
             grant,
             device,
             shelf,

@@ -8,16 +8,21 @@ use crate::tests::{MAP, Part, failing, repeated, run_over};
 use em_frames::MemDevice;
 use std::test::Fail;
 
-/// A command file, the words of its run, and the lines that it is answered by.
+/// A command file or a circuit, the words of its run, and the lines that it is answered by. After a
+/// call of the device that fails at most `later` others come.
 #[derive(Drop)]
 struct File<'a> {
     words: &'a [&'a str],
     text: &'a [u8],
     lines: &'a [u8],
+    later: u64,
 }
 
 /// The words of a map file's run.
 const MAP_WORDS: [&str; 4] = ["map", "--block=128", "--frames=64", "a"];
+
+/// The words of an evaluation.
+const EVAL_WORDS: [&str; 5] = ["eval", "--block=128", "--frames=64", "a", "s"];
 
 /// The words of a queue file's run.
 const QUEUE_WORDS: [&str; 4] = ["queue", "--block=128", "--frames=64", "a"];
@@ -47,8 +52,8 @@ fn code_at(part: Part) -> u8 {
 }
 
 /// Whether a run of which this call of a part fails ends with this code after the output took the
-/// first `length` bytes of the lines. A call of the device that fails is also its last, so that it
-/// moved as many blocks as calls came before the failing one.
+/// first `length` bytes of the lines. If no call follows one of the device that fails, it moved as
+/// many blocks as calls came before the failing one.
 fn ends_so(
     rt: &HostRuntime,
     file: &File<'_>,
@@ -62,7 +67,9 @@ fn ends_so(
     let mut device = MemDevice::new(rt.alloc(), fails.device)?;
     let (status, out, _) = run_over(&mut device, rt, file.words, file.text, fails)?;
     let sent = out.bytes();
-    let stopped = device.faults() == 0 || device.moves() == call;
+    let most = call.saturating_add(file.later);
+    let moves = device.moves();
+    let stopped = device.faults() == 0 || (moves >= call && moves <= most);
     Ok(stopped && status.code() == code && sent.len() == length && file.lines.starts_with(sent))
 }
 
@@ -89,6 +96,85 @@ fn first_wrong(
     Ok(Some(call))
 }
 
+/// A circuit with two inputs, an output and a gate, and so with three edges. Each list fits one block.
+/// The line of the first step is pending when the second one fails, and is sent then.
+///
+/// The device: 77 calls, of which these work on the circuit:
+///
+///     0       begins it
+///     1-3     store definitions, gates and uses, all three of them also if one fails
+///     4-5     load definitions and gates, to see that they are in straight order
+///     6-9     load the definitions, store those of the inputs, load and release the others
+///     10-13   load the gates, take a block for the queue, load the uses and release them
+///     14-25   three pops, of 4, 4 and 3 calls; the first item takes a block for the edges
+///     26      stores the edges
+///     27-31   load the edges once for each edge between ranks; the first takes a block; store these
+///     32-37   load and release gates, edges and sources
+///     38-40   load the edges between ranks, take a block for those from inputs, and store it
+///
+/// After call 9 a block is taken by one call, since a freed one is there each time. A pop stores, loads
+/// and releases the queue's block, and takes one if items are left. Then each step makes 18 calls:
+///
+///     2   take a block for the inputs' bits, and store it
+///     4   load the edges from inputs and the bits, take a block for the messages, release the bits
+///     1   loads the edge from the gate
+///     7   pop the gate's two messages, by 4 and 3
+///     1   takes a block for the output's message
+///     3   pop it
+///
+/// The shelf: 15 calls. After the one that opens the circuit its 26 bytes want 9 reads, and its end one
+/// more. Then one call opens the stimulus; each of its two lines is one read, and its end one more. The
+/// output: two calls, both at the end, for 3 bytes and for 1.
+#[test]
+fn an_evaluation_ends_at_each_failing_call(rt: HostRuntime) -> Result<(), Fail> {
+    let file = File {
+        words: &EVAL_WORDS,
+        text: b"aag 3 2 0 1 1\n2\n4\n6\n6 2 4\n",
+        lines: b"1\n0\n",
+        later: 2,
+    };
+    let device = [(59, 0), (18, 2)];
+    assert_eq!(rt; first_wrong(&rt, &file, Part::Device, &device)?, None);
+    let shelf = [(13, 0), (1, 2), (1, 4)];
+    assert_eq!(rt; first_wrong(&rt, &file, Part::Shelf, &shelf)?, None);
+    let output = [(1, 0), (1, 3)];
+    assert_eq!(rt; first_wrong(&rt, &file, Part::Output, &output)?, None);
+    Ok(())
+}
+
+/// The circuit has a latch too, which the gate sets and the output shows, and so four edges. The device:
+/// 103 calls, of which the first 47 work on the circuit. They are those of the circuit without a latch,
+/// but for these:
+///
+///     14-28   four pops, of 4, 3, 4 and 3 calls; the second takes a block that is new, by no call
+///     30-35   load the edges four times in place of three
+///     45-46   take a block for the latch's bit, and store it
+///
+/// Then each step makes 28 calls:
+///
+///     4   take a block for the inputs' bits, store it, load and store it to link the latch's bit
+///     6   load the edges from inputs and latch, and two blocks of bits; take a block; release two
+///     1   loads the edge from the gate
+///     8   pop the gate's two messages, each by 4, since that of the output is left
+///     6   pop the latch's message, by 4; take a block for its bit, and store it
+///     3   pop the output's message
+///
+/// The shelf: 16 calls, since the text has 30 bytes and wants 10 reads.
+#[test]
+fn an_evaluation_with_a_latch_ends_at_each_failing_call(rt: HostRuntime) -> Result<(), Fail> {
+    let file = File {
+        words: &EVAL_WORDS,
+        text: b"aag 4 2 1 1 1\n2\n4\n6 8\n6\n8 2 4\n",
+        lines: b"0\n1\n",
+        later: 2,
+    };
+    let device = [(75, 0), (28, 2)];
+    assert_eq!(rt; first_wrong(&rt, &file, Part::Device, &device)?, None);
+    let shelf = [(14, 0), (1, 2), (1, 4)];
+    assert_eq!(rt; first_wrong(&rt, &file, Part::Shelf, &shelf)?, None);
+    Ok(())
+}
+
 /// The device: 10 calls. Call 0 begins it, 1 writes the one block of so small a file, and 2 reads it in
 /// search of gets. Each of three gets reads it. One call writes the answers, two release the block of
 /// the commands, and the last one reads the answers.
@@ -101,6 +187,7 @@ fn a_map_ends_at_each_failing_call(rt: HostRuntime) -> Result<(), Fail> {
         words: &MAP_WORDS,
         text: MAP,
         lines: b"10\n11\n-\n",
+        later: 0,
     };
     assert_eq!(rt; first_wrong(&rt, &file, Part::Device, &[(10, 0)])?, None);
     assert_eq!(rt; first_wrong(&rt, &file, Part::Shelf, &[(16, 0)])?, None);
@@ -118,6 +205,7 @@ fn a_map_of_the_ends_ends_at_each_failing_call(rt: HostRuntime) -> Result<(), Fa
         words: &MAP_WORDS,
         text: ENDS,
         lines: b"-\n8\n7\n",
+        later: 0,
     };
     assert_eq!(rt; first_wrong(&rt, &file, Part::Device, &[(9, 0)])?, None);
     assert_eq!(rt; first_wrong(&rt, &file, Part::Shelf, &[(30, 0)])?, None);
@@ -143,6 +231,7 @@ fn a_map_of_several_blocks_ends_at_each_failing_call(rt: HostRuntime) -> Result<
         words: &MAP_WORDS,
         text: &text,
         lines: &lines,
+        later: 0,
     };
     let device = [(141, 0), (1, 254)];
     assert_eq!(rt; first_wrong(&rt, &file, Part::Device, &device)?, None);
@@ -167,6 +256,7 @@ fn a_queue_ends_at_each_failing_call(rt: HostRuntime) -> Result<(), Fail> {
         words: &QUEUE_WORDS,
         text: QUEUE,
         lines: b"4 1\n4 2\n4 0\n-\n",
+        later: 0,
     };
     let device = [(5, 0), (4, 4), (3, 8)];
     assert_eq!(rt; first_wrong(&rt, &file, Part::Device, &device)?, None);
@@ -187,6 +277,7 @@ fn a_queue_of_several_blocks_ends_at_each_failing_call(rt: HostRuntime) -> Resul
         words: &QUEUE_WORDS,
         text: &text,
         lines: b"1 2\n1 2\n",
+        later: 0,
     };
     let device = [(7, 0), (4, 4)];
     assert_eq!(rt; first_wrong(&rt, &file, Part::Device, &device)?, None);
@@ -204,6 +295,7 @@ fn a_stab_file_ends_at_each_failing_call(rt: HostRuntime) -> Result<(), Fail> {
         words: &STAB_WORDS,
         text: STAB,
         lines: b"-\n0\n-\n1\n0 2\n",
+        later: 0,
     };
     assert_eq!(rt; first_wrong(&rt, &file, Part::Device, &[(11, 0)])?, None);
     assert_eq!(rt; first_wrong(&rt, &file, Part::Shelf, &[(34, 0)])?, None);
@@ -226,6 +318,7 @@ fn a_stab_file_of_several_blocks_ends_at_each_failing_call(rt: HostRuntime) -> R
         words: &STAB_WORDS,
         text: &text,
         lines: &lines,
+        later: 0,
     };
     let device = [(141, 0), (1, 252)];
     assert_eq!(rt; first_wrong(&rt, &file, Part::Device, &device)?, None);

@@ -6,7 +6,7 @@ returns-in-Err g c = bit_unread c.requires _ _ c.step_stop.ensures c.in-Err.ensu
 
 pub returns-in-Ok-append : goal.returns-in-Ok-append
 returns-in-Ok-append g c = bit_done c.requires c.in-Ok.bit c.in-Ok.ensures.reads c.append.ensures.frame
-    c.append.ensures.goes _ (bit_number c.in-Ok.bit) c.in-Ok-append.ensures.appends c.in-Ok-append.ensures.spends
+    c.append.ensures.goes _ c.in-Ok.ensures.further (bit_number c.in-Ok.bit) c.in-Ok-append.ensures.appends c.in-Ok-append.ensures.spends
 
 pub returns-in-Err-append : goal.returns-in-Err-append
 returns-in-Err-append g c = bit_refused c.requires _ c.in-Ok.ensures.reads c.append.ensures.frame

@@ -7,7 +7,7 @@ returns-in-Ok-finish g c =
     c.peek.ensures.cause.later c.in-Ok-Some.ensures.first in
     let r = line_done c.args.inputs c.requires.sound c.new-bits.ensures.lends
     c.new-bits.ensures.unmoved c.new-bits.ensures.begins looks _ c.in-Ok-finish.chain
-    c.in-Ok.ensures c.finish.ensures.gives c.in-Ok-finish.ensures.finishes
+    c.in-Ok.ensures.further c.in-Ok.ensures.reads c.finish.ensures.gives c.in-Ok-finish.ensures.finishes
     c.in-Ok-finish.ensures.spends in
     record {
       goes = r.goes;
@@ -24,7 +24,7 @@ returns-in-Err-finish g c =
     c.peek.ensures.cause.later c.in-Ok-Some.ensures.first in
     let r = line_refused c.args.inputs c.requires.sound c.new-bits.ensures.lends
     c.new-bits.ensures.unmoved c.new-bits.ensures.begins looks _ c.in-Err-finish.fault
-    c.in-Ok.ensures c.finish.ensures.gives c.in-Err-finish.ensures.spends
+    c.in-Ok.ensures.reads c.finish.ensures.gives c.in-Err-finish.ensures.spends
     c.in-Err-finish.ensures.cause in
     record {
       goes = r.goes;
@@ -35,13 +35,13 @@ returns-in-Err-finish g c =
       cause = r.cause;
     }
 
-pub returns-in-Err-read_bits : goal.returns-in-Err-read_bits
-returns-in-Err-read_bits g c =
+pub returns-in-Err-read_from : goal.returns-in-Err-read_from
+returns-in-Err-read_from g c =
     let looks = looks_on _ c.in-Ok-Some.field-0-is c.requires.ready c.peek.ensures.takes
     c.peek.ensures.cause.later c.in-Ok-Some.ensures.first in
     let r = line_abandoned c.args.inputs c.requires.sound c.new-bits.ensures.lends
-    c.new-bits.ensures.unmoved c.new-bits.ensures.begins looks c.in-Err-read_bits.stop
-    c.in-Err-read_bits.ensures c.abandon.ensures.gives c.abandon.ensures.unmoved in
+    c.new-bits.ensures.unmoved c.new-bits.ensures.begins looks c.in-Err-read_from.stop
+    c.in-Err-read_from.ensures.reads c.abandon.ensures.gives c.abandon.ensures.unmoved in
     record {
       goes = r.goes;
       feed = r.feed;

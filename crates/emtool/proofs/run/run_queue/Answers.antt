@@ -7,13 +7,14 @@ use Rattle.em_space.specs.Seen.{seen}
 use Rattle.em_space.proofs.Steps.{touches_then}
 use Rattle.em_plain.specs.ScanQueue.{counts_of}
 use Rattle.emtool.specs.CommandLine.{first_fault}
-use Rattle.emtool.specs.Due.{status_for}
+use Rattle.emtool.specs.Asked.{asked_of_file}
+use Rattle.emtool.specs.FileDue.{status_for}
 use Rattle.emtool.specs.RunSize.{commands_taken}
 use Rattle.emtool.specs.Stop.{StopCause, fault_counts}
 use Rattle.emtool.specs.declared.status.Status.TheVariants.{Done}
 use Rattle.emtool.specs.declared.text.FileKind.TheVariants as kind
 use Rattle.emtool.proofs.EndLaws.{done_whole, ended_due, ended_stop}
-use Rattle.emtool.proofs.Running.{alone_fresh, answers_of, first_read, queue_filled, queue_stops, touches_fresh}
+use Rattle.emtool.proofs.Running.{alone_fresh, answers_of, file_cause, file_fills, first_read, queue_filled, queue_stops, touches_fresh}
 use Rattle.emtool.proofs.run.run_queue.Goals as goal
 
 pub serve-done-requires-clause-alone : goal.serve-done-requires-clause-alone
@@ -33,12 +34,13 @@ returns-in-Ok-clause-runs g c =
     let answers = answers_of kind.Queue c.new-feed.result stand text _ _ c.serve-done.result
     (ap (λ (f : Fed). rest f stand) feed) c.serve-done.ensures.answers in
     record {
-      ended = ended_due Done done_whole (λ t. sym (ap status_for (none t)))
-          (λ t d. rw c.in-Ok.is at (answers t d).all) (λ t d. (answers t d).part)
-          (first_read c.new-feed.result c.serve-done.new.feed (ap (λ (f : Fed). f.slot) feed) r.reads
-          c.requires.ready (λ t. (r.whole t).end));
+      ended = ended_due (asked_of_file kind.Queue text) Done done_whole
+          (λ t d. sym (ap status_for (none t)))
+          (λ t d. rw c.in-Ok.is at (answers t d).all) (λ t d. (answers t d).part);
       caused = search rules;
       reads = search rules;
+      all_read = first_read c.new-feed.result c.serve-done.new.feed (ap (λ (f : Fed). f.slot) feed)
+          r.reads c.requires.ready (λ t. (r.whole t).end);
       no_usage = tt;
       no_memory = tt;
     }
@@ -82,18 +84,22 @@ returns-in-Err-clause-runs g c =
     (ap (λ (f : Fed). rest f stand) feed) c.serve-done.ensures.answers in
     record {
       ended = rw (c.status_of.ensures.is)
-          (ended_stop g.H.Shelf.tells kind.Queue text _ _ first last
+          (ended_stop g.H.Shelf.tells (asked_of_file kind.Queue text) _ _ first last
           (touches_then [] first mid last
-          (touches_fresh first mid c.args.queue req.unused.sound req.is req.fresh r.calls_only.touches) l.touches) l.sound refl refl stop faults later
-          (queue_stops g.H.Shelf.tells kind.Queue text faults later first mid last counts stop l cause)
+          (touches_fresh first mid c.args.queue req.unused.sound req.is req.fresh r.calls_only.touches)
+          l.touches) l.sound refl refl stop faults later
+          (file_cause g.H.Shelf.tells kind.Queue text faults later first last stop
+          (queue_stops g.H.Shelf.tells kind.Queue text faults later first mid last counts stop l cause))
+          (file_fills g.H.Shelf.tells kind.Queue text after.slot last stop
           (queue_filled g.H.Shelf.tells text (after.slot First).left mid last counts stop some l r.full
-          r.frames.most_most calls)
+          r.frames.most_most calls))
           (record {
             fault = λ t d. rw c.in-Err.is at (answers t d).fault;
             part = λ t d. (answers t d).part;
           }));
       caused = search rules;
       reads = search rules;
+      all_read = search rules;
       no_usage = search rules;
       no_memory = search rules;
     }

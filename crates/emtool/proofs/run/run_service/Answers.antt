@@ -4,12 +4,13 @@ use Rattle.em_io.specs.declared.shelf.Slot.TheVariants.{First}
 use Rattle.em_space.specs.Seen.{seen}
 use Rattle.em_space.proofs.Steps.{touches_then}
 use Rattle.em_chain.specs.Chain.{chain_items}
-use Rattle.emtool.specs.Due.{status_for}
+use Rattle.emtool.specs.Asked.{asked_of_file}
+use Rattle.emtool.specs.FileDue.{status_for}
 use Rattle.emtool.specs.Service.{IsFilled}
 use Rattle.emtool.specs.Stop.{IfStopsFull, StopCause, fault_counts, reading}
 use Rattle.emtool.specs.declared.status.Status.TheVariants.{Done}
 use Rattle.emtool.proofs.EndLaws.{done_whole, ended_due, ended_stop}
-use Rattle.emtool.proofs.Running.{first_read, no_fault_in, no_queue, print_no_fault, print_stops, printed_due, stopped_reading}
+use Rattle.emtool.proofs.Running.{file_cause, file_fills, first_read, no_fault_in, no_queue, print_no_fault, print_stops, printed_due, stopped_reading}
 use Rattle.emtool.proofs.run.run_service.Goals as goal
 
 pub returns-in-Ok-print_answers-clause-runs : goal.returns-in-Ok-print_answers-clause-runs
@@ -28,13 +29,14 @@ returns-in-Ok-print_answers-clause-runs g c =
     let none = no_fault_in g.H.Shelf.tells told c.args.kind c.new-feed.result stand text _ from n
     r.whole in
     record {
-      ended = ended_due Done done_whole (λ t. sym (ap status_for (none t)))
+      ended = ended_due (asked_of_file c.args.kind text) Done done_whole
+          (λ t d. sym (ap status_for (none t)))
           (λ t d. (p.prints (r.gives.touches.told ∙ d)).all ∙ ap (g.W.Sink.took (g.W.Sink.state c.args.out.now)) (due t d))
-          (λ t d. rw (← due t d) (p.prints (r.gives.touches.told ∙ d)).part)
-          (first_read c.new-feed.result c.read_answers.new.feed (ap (λ (f : Fed). f.slot) feed) r.reads
-          c.requires.ready (λ t. (r.whole t).end));
+          (λ t d. rw (← due t d) (p.prints (r.gives.touches.told ∙ d)).part);
       caused = search rules;
       reads = search rules;
+      all_read = first_read c.new-feed.result c.read_answers.new.feed (ap (λ (f : Fed). f.slot) feed)
+          r.reads c.requires.ready (λ t. (r.whole t).end);
       no_usage = search rules;
       no_memory = search rules;
     }
@@ -63,14 +65,17 @@ returns-in-Err-print_answers-clause-runs g c =
     p.stops.cause r.gives.touches in
     record {
       ended = rw (c.status_of.ensures.is)
-          (ended_stop g.H.Shelf.tells c.args.kind text _ _ first last
+          (ended_stop g.H.Shelf.tells (asked_of_file c.args.kind text) _ _ first last
           (touches_then [] first mid last r.gives.touches p.goes.touches) p.goes.sound refl refl stop
-          faults later stops.0 stops.1 (record {
+          faults later
+          (file_cause g.H.Shelf.tells c.args.kind text faults later first last stop stops.0)
+          (file_fills g.H.Shelf.tells c.args.kind text after.slot last stop stops.1) (record {
             fault = λ t d. print_no_fault _ _ mid last stop _ p.stops.cause;
             part = λ t d. rw (← due t d) (p.prints (r.gives.touches.told ∙ d)).part;
           }));
       caused = search rules;
       reads = search rules;
+      all_read = search rules;
       no_usage = search rules;
       no_memory = search rules;
     }
@@ -96,12 +101,15 @@ returns-in-Err-clause-runs g c =
     (rest f stand) (after.slot f.slot).left last)) feed r.stop.full in
     record {
       ended = rw (c.status_of-in-Err.ensures.is)
-          (ended_stop g.H.Shelf.tells c.args.kind text _ _ first last r.gives.touches r.gives.sound refl
-          refl c.in-Err.stop faults later cause full
+          (ended_stop g.H.Shelf.tells (asked_of_file c.args.kind text) _ _ first last r.gives.touches
+          r.gives.sound refl refl c.in-Err.stop faults later
+          (file_cause g.H.Shelf.tells c.args.kind text faults later first last c.in-Err.stop cause)
+          (file_fills g.H.Shelf.tells c.args.kind text after.slot last c.in-Err.stop full)
           (stopped_reading g.met.W.Sink.rule g.H.Shelf.tells c.args.kind text _ _ faults later first last
           c.in-Err.stop (g.met.W.Sink.is_state c.args.out.now) refl n cause));
       caused = search rules;
       reads = search rules;
+      all_read = search rules;
       no_usage = search rules;
       no_memory = search rules;
     }

@@ -5,5 +5,5 @@ use Rattle.emtool.proofs.top.run_job.Goals as goal
 
 pub returns-in_default-clause-runs : goal.returns-in_default-clause-runs
 returns-in_default-clause-runs g c = job_run
-    (ended_no_memory g.met.W.Sink.rule _ _ _ _ _ _ _ (g.met.W.Sink.is_state c.args.out.now) refl)
+    (ended_no_memory g.met.W.Sink.rule _ _ _ _ _ _ (g.met.W.Sink.is_state c.args.out.now) refl)
     (search rules)

@@ -5,10 +5,10 @@ use Rattle.emtool.proofs.top.run_pool.Goals as goal
 
 pub returns-in-Failed-clause-runs : goal.returns-in-Failed-clause-runs
 returns-in-Failed-clause-runs g c = job_run
-    (ended_device g.met.W.Sink.rule _ _ _ _ _ _ _ (g.met.W.Sink.is_state c.args.out.now) refl)
+    (ended_device g.met.W.Sink.rule _ _ _ _ _ _ (g.met.W.Sink.is_state c.args.out.now) refl)
     (search rules)
 
 pub returns-in-NoMemory-clause-runs : goal.returns-in-NoMemory-clause-runs
 returns-in-NoMemory-clause-runs g c = job_run
-    (ended_no_memory g.met.W.Sink.rule _ _ _ _ _ _ _ (g.met.W.Sink.is_state c.args.out.now) refl)
+    (ended_no_memory g.met.W.Sink.rule _ _ _ _ _ _ (g.met.W.Sink.is_state c.args.out.now) refl)
     (search rules)

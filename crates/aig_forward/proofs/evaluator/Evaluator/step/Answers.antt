@@ -1,7 +1,7 @@
-use Rattle.std.proofs.Common.{◌∙◌, refl, sym, []}
+use Rattle.std.proofs.Common.{◌≤◌, ◌∙◌, refl, sym, [], arith, inl, inr}
 use Rattle.aig_forward.specs.Outputs.{printing}
-use Rattle.aig_forward.proofs.StepEnds.{evaluates_on, line_room, line_stops, outputs_are, put_stops, step_costs, step_is, step_next, takes_line}
-use Rattle.aig_forward.proofs.StepLines.{evaluator_on, line_session}
+use Rattle.aig_forward.proofs.StepEnds.{evaluates_on, line_room, outputs_are, put_stops, step_costs, step_is, step_next, takes_line}
+use Rattle.aig_forward.proofs.StepLines.{evaluator_on, line_session, none_printed, stop_says}
 use Rattle.aig_forward.proofs.StepStops.{input_of, line_halted, line_unread, pass_halted, pass_quiet, step_halted, stop_costs}
 use Rattle.em_queued.proofs.Queued.{unstored_frames}
 use Rattle.em_space.specs.Seen.{seen}
@@ -108,7 +108,8 @@ returns-in_err-pass-clause-printed g c = λ tells told circuit order state is.
     pass_quiet g.met.W.Sink.rule g.Q.Queue circuit order state
     (scene s c.args.self.now before taken c.args.printer.now)
     (scene u c.pass.new.self after taken c.args.printer.now) c.from_residual-in_err-pass.result
-    _ c.from_residual-in_err-pass.ensures.1 (g.met.W.Sink.is_state c.args.sink.now) refl
+    _ c.from_residual-in_err-pass.ensures.1 (g.met.W.Sink.is_state c.args.sink.now)
+    (record { taken = refl; pending = refl })
 
 pub returns-in_err-put_outputs-clause-costs : goal.returns-in_err-put_outputs-clause-costs
 returns-in_err-put_outputs-clause-costs g c =
@@ -155,10 +156,9 @@ returns-in_err-put_outputs-clause-printed g c = λ w z circuit order state h.
     (seen g.D.Device.state c.pass.new.rig) in
     let new = printing g.Q.Queue g.W.Sink c.put_outputs.new.queue c.put_outputs.new.sink
     c.put_outputs.new.printer (seen g.D.Device.state c.put_outputs.new.rig) in
-    put_stops g.Q.Queue circuit order state _ _ old new c.from_residual-in_err-put_outputs.result _
-    c.from_residual-in_err-put_outputs.ensures.1 p.cause
-    (line_stops circuit state _ _ line.bits (rw h.header x)
-    (rw (← outputs_are g.Q.Queue pass.keeps pass.passes len v) (p.part told)))
+    put_stops g.Q.Queue circuit order state line.bits _ _ _ _ c.pass.new.self.header.outputs old new
+    c.from_residual-in_err-put_outputs.result _ c.from_residual-in_err-put_outputs.ensures.1
+    (rw h.header x) (outputs_are g.Q.Queue pass.keeps pass.passes len v) told p.cause p.part p.front
 
 pub returns-clause-is : goal.returns-clause-is
 returns-clause-is g c =
@@ -232,3 +232,34 @@ returns-clause-printed g c = λ w z circuit order state h.
           pass.passes p.costs told circuit order state line.bits before v
           len (p.prints.items_are told);
     }
+
+pub returns-in_err-inputs-clause-further : goal.returns-in_err-inputs-clause-further
+returns-in_err-inputs-clause-further g c = none_printed c.from_residual.result _ c.from_residual.ensures.0
+
+pub returns-in_err-pass-clause-further : goal.returns-in_err-pass-clause-further
+returns-in_err-pass-clause-further g c = none_printed c.from_residual-in_err-pass.result _
+    c.from_residual-in_err-pass.ensures.0
+
+pub returns-in_err-put_outputs-clause-further : goal.returns-in_err-put_outputs-clause-further
+returns-in_err-put_outputs-clause-further g c = none_printed
+    c.from_residual-in_err-put_outputs.result _ c.from_residual-in_err-put_outputs.ensures.0
+
+pub returns-clause-further : goal.returns-clause-further
+returns-clause-further g c =
+    let line = rw c.in-Some.is at c.in_ok-inputs.ensures.line in line.further
+
+pub returns-in_err-inputs-clause-idle : goal.returns-in_err-inputs-clause-idle
+returns-in_err-inputs-clause-idle g c =
+    let n = (g.Q.Queue.counts c.args.self.now.queue).n in
+    let same : n ≤ n = omega arith in
+    stop_says c.from_residual.result (inl same)
+
+pub returns-in_err-pass-clause-idle : goal.returns-in_err-pass-clause-idle
+returns-in_err-pass-clause-idle g c =
+    let line = rw c.in-Some.is at c.in_ok-inputs.ensures.line in
+    stop_says c.from_residual-in_err-pass.result (inr line.further)
+
+pub returns-in_err-put_outputs-clause-idle : goal.returns-in_err-put_outputs-clause-idle
+returns-in_err-put_outputs-clause-idle g c =
+    let line = rw c.in-Some.is at c.in_ok-inputs.ensures.line in
+    stop_says c.from_residual-in_err-put_outputs.result (inr line.further)

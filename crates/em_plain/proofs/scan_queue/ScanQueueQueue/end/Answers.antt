@@ -27,5 +27,7 @@ returns-clause-ends g c =
         peak = let x = d.frames.peak in let y = f.gives.frames.peak in omega (arith, x, y);
       };
       spent = tt;
-      most = tt;
+      most =
+          let x = f.costs.only.same.most in let y = c.discard.ensures.frees.most in
+          omega (arith, x, y);
     }

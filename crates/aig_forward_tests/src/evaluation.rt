@@ -1,0 +1,87 @@
+//! Steps of an evaluator until nothing is left of the stimulus.
+ghost use Rattle.std.specs.Prelude.{◌^◌};
+ghost use Rattle.em_space.specs.Seen.{seen};
+ghost use Rattle.aig_text.specs.Source.{CanRead, source};
+ghost use Rattle.aig_edges.specs.Graph.{IsOrdered};
+ghost use Rattle.aig_trials.specs.Frames.{HasFrames, LeavesFrames};
+ghost use Rattle.aig_forward_tests.specs.Stepping.{GivesBack, ReadyToEvaluate, ReadyToStep, StepsOn};
+
+use aig_edges::{Ordered, StepStop};
+use aig_forward::{Evaluator, StepEnd};
+use em_frames::Device;
+use em_io::{Feed, Printer, Shelf, Sink};
+use em_plain::ScanQueue;
+use em_space::{Queue, Rig};
+
+/// No stimulus here has more lines.
+const LINES: u64 = 8;
+
+/// Steps until nothing is left of the stimulus.
+fn step_all<D: Device, Q: Queue, H: Shelf, W: Sink>(
+    rig: &mut Rig<'_, D>,
+    evaluator: &mut Evaluator<Q>,
+    feed: &mut Feed,
+    shelf: &mut H,
+    printer: &mut Printer,
+    sink: &mut W,
+) -> Result<(), StepStop>
+    requires { ReadyToStep Q.Queue (2 ^ 90) (source H.Shelf feed.old shelf.old)
+        (seen D.state rig.old) evaluator.old }
+    ensures { StepsOn Q.Queue (seen D.state rig.old) (seen D.state rig.new)
+        evaluator.old evaluator.new result }
+{
+    for _ in 0..LINES {
+        match evaluator.step(rig, feed, shelf, printer, sink) {
+            Ok(StepEnd::Printed) => {}
+            Ok(StepEnd::End) => return Ok(()),
+            Err(stop) => return Err(stop),
+        }
+    }
+    Ok(())
+}
+
+/// Makes an evaluator, steps until nothing is left of the stimulus, and ends it. All frames of the
+/// queue are back.
+fn evaluate<D: Device, Q: Queue, H: Shelf, W: Sink>(
+    rig: &mut Rig<'_, D>,
+    ordered: Ordered,
+    queue: Q,
+    feed: &mut Feed,
+    shelf: &mut H,
+    printer: &mut Printer,
+    sink: &mut W,
+) -> Result<(), StepStop>
+    requires { ReadyToEvaluate Q.Queue (source H.Shelf feed.old shelf.old)
+        (seen D.state rig.old) ordered queue }
+    ensures { GivesBack (Q.counts queue) (seen D.state rig.old) (seen D.state rig.new) }
+{
+    let mut evaluator = Evaluator::new(rig, ordered, queue)?;
+    match step_all(rig, &mut evaluator, feed, shelf, printer, sink) {
+        Ok(()) => {
+            evaluator.end(rig)?;
+            Ok(())
+        }
+        Err(stop) => {
+            evaluator.abandon(rig);
+            Err(stop)
+        }
+    }
+}
+
+/// Evaluates by a new queue for the stimulus of a feed.
+pub(crate) fn evaluate_ordered<D: Device, H: Shelf, W: Sink>(
+    rig: &mut Rig<'_, D>,
+    ordered: Ordered,
+    feed: &mut Feed,
+    shelf: &mut H,
+    printer: &mut Printer,
+    sink: &mut W,
+) -> Result<(), StepStop>
+    requires has { HasFrames (seen D.state rig.old) }
+    requires ordered { IsOrdered (seen D.state rig.old) ordered }
+    requires ready { CanRead (source H.Shelf feed.old shelf.old) }
+    ensures leaves { LeavesFrames (seen D.state rig.old) (seen D.state rig.new) }
+{
+    let queue = ScanQueue::new(rig)?;
+    evaluate(rig, ordered, queue, feed, shelf, printer, sink)
+}

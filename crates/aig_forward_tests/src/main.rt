@@ -1,0 +1,37 @@
+//! Evaluates some circuits for some stimuli, and prints the lines that went out and how it ended. What each
+//! must print stands in the file `stdout` of this crate: it was worked out by hand.
+#![tactic(auto)]
+
+mod evaluation;
+mod printed;
+
+use crate::printed::print_evaluation;
+use std::test::Fail;
+
+/// An and gate.
+const AND: &str = "aag 3 2 0 1 1\n2\n4\n6\n6 2 4\n";
+
+/// A latch that is negated at each step.
+const TOGGLE: &str = "aag 1 0 1 2 0\n2 3\n2\n3\n";
+
+/// Two latches in a row, after an input.
+const SHIFT: &str = "aag 3 1 2 1 0\n2\n4 2\n6 4\n6\n";
+
+/// The constant true.
+const TRUE: &str = "aag 0 0 0 1 0\n1\n";
+
+/// Nothing at all.
+const EMPTY: &str = "aag 0 0 0 0 0\n";
+
+fn main(rt: HostRuntime) -> Result<(), Fail> {
+    print_evaluation(&rt, "an and gate", AND, "00\n01\n10\n11\n")?;
+    print_evaluation(&rt, "a toggle", TOGGLE, "\n\n\n")?;
+    print_evaluation(&rt, "a shift register", SHIFT, "1\n0\n0\n0\n")?;
+    print_evaluation(&rt, "the constant true", TRUE, "\n\n")?;
+    print_evaluation(&rt, "nothing at all", EMPTY, "\n\n")?;
+    print_evaluation(&rt, "a line that is too short", AND, "11\n0\n")?;
+    print_evaluation(&rt, "a carriage return", AND, "11\r\n")?;
+    print_evaluation(&rt, "a letter", AND, "1x\n")?;
+    print_evaluation(&rt, "no newline", AND, "11")?;
+    print_evaluation(&rt, "an empty stimulus", AND, "")
+}

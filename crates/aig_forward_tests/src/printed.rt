@@ -1,0 +1,120 @@
+//! One circuit and one stimulus, on a rig of their own.
+ghost use Rattle.std.specs.Prelude.{◌≡◌, IfOk, true};
+ghost use Rattle.em_space.specs.Seen.{seen};
+ghost use Rattle.aig_trials.specs.Frames.{HasFrames, LeavesFrames};
+
+use crate::evaluation::evaluate_ordered;
+use aig_defs::AigKind;
+use aig_edges::StepStop;
+use aig_text::AigStop;
+use aig_trials::read_ordered;
+use em_devices::{ended, opened};
+use em_frames::{Device, MemDevice};
+use em_io::{Feed, MemShelf, MemSink, Printer, Shelf, Slot};
+use em_space::Rig;
+use std::alloc::Global;
+use std::test::Fail;
+
+/// The blocks of the device.
+const BLOCKS: u64 = 1000;
+
+/// The bytes that a shelf gives and a sink takes in a call.
+const PIECE: usize = 3;
+
+/// How an evaluation ended.
+#[derive(Clone, Copy, Debug, PartialEq, Eq, Drop)]
+enum Ending {
+    /// Nothing is left of the stimulus.
+    Done,
+    /// The circuit or the stimulus has this fault. The place is a byte's offset.
+    Fault { kind: AigKind, place: u64 },
+    /// The device, the shelf or the sink failed.
+    Failed,
+}
+
+/// A shelf that has this text in its first slot.
+fn shelf_of(alloc: Global, text: &str) -> Result<MemShelf, Fail>
+    ensures ready { IfOk result (λ shelf. shelf.first.ready ≡ true) }
+{
+    let mut shelf = MemShelf::new(alloc, PIECE, &[])?;
+    shelf.add("text", text.as_bytes())?;
+    shelf.open(Slot::First, "text")?;
+    Ok(shelf)
+}
+
+/// Evaluates a circuit for a stimulus.
+fn evaluate_texts<D: Device>(
+    rig: &mut Rig<'_, D>,
+    circuit: &mut MemShelf,
+    stimulus: &mut MemShelf,
+    printer: &mut Printer,
+    sink: &mut MemSink,
+) -> Ending
+    requires circuit { circuit.old.first.ready ≡ true }
+    requires stimulus { stimulus.old.first.ready ≡ true }
+    requires has { HasFrames (seen D.state rig.old) }
+    ensures leaves { LeavesFrames (seen D.state rig.old) (seen D.state rig.new) }
+{
+    let mut feed = Feed::new(Slot::First);
+    match read_ordered(rig, &mut feed, circuit) {
+        Ok(ordered) => {
+            let mut lines = Feed::new(Slot::First);
+            match evaluate_ordered(rig, ordered, &mut lines, stimulus, printer, sink) {
+                Ok(()) => Ending::Done,
+                Err(StepStop::Fault { kind, place }) => Ending::Fault { kind, place },
+                Err(_) => Ending::Failed,
+            }
+        }
+        Err(AigStop::Fault { kind, place }) => Ending::Fault { kind, place },
+        Err(_) => Ending::Failed,
+    }
+}
+
+/// Prints bytes, any other than a bit or a newline as its number.
+fn print_bytes(rt: &HostRuntime, bytes: &[u8]) -> Result<(), Fail> {
+    for byte in bytes {
+        match *byte {
+            b'0' => print!(rt; "0")?,
+            b'1' => print!(rt; "1")?,
+            b'\n' => println!(rt; "")?,
+            other => print!(rt; "<{other}>")?,
+        }
+    }
+    Ok(())
+}
+
+/// Prints the lines that the sink took for a circuit and a stimulus, and how it ended. Lines may be
+/// pending in the printer, so a newline more is sent after them, which isn't printed.
+pub(crate) fn print_evaluation(
+    rt: &HostRuntime,
+    title: &str,
+    circuit: &str,
+    stimulus: &str,
+) -> Result<(), Fail> {
+    let alloc = rt.alloc();
+    let mut circuit = shelf_of(alloc, circuit)?;
+    let mut stimulus = shelf_of(alloc, stimulus)?;
+    let mut sink = MemSink::new(alloc, PIECE, &[])?;
+    let mut printer = Printer::new();
+    let mut device = MemDevice::new(alloc, &[])?;
+    let mut rig = opened(alloc, BLOCKS, &mut device)?;
+    let ending = evaluate_texts(
+        &mut rig,
+        &mut circuit,
+        &mut stimulus,
+        &mut printer,
+        &mut sink,
+    );
+    let _cost = ended(rig);
+    printer.end_line(&mut sink)?;
+    println!(rt; "{title}")?;
+    if let Some((_newline, lines)) = sink.bytes().split_last() {
+        print_bytes(rt, lines)?;
+    }
+    match ending {
+        Ending::Done => println!(rt; "Done")?,
+        Ending::Fault { kind, place } => println!(rt; "{kind:?} {place}")?,
+        Ending::Failed => println!(rt; "Failed")?,
+    }
+    Ok(())
+}

@@ -1,0 +1,61 @@
+//! A circuit's edges between ranks, made of its text.
+ghost use Rattle.std.specs.Prelude.{◌≡◌, IfOk, IsTrue, true};
+ghost use Rattle.em_space.specs.Seen.{seen};
+ghost use Rattle.aig_text.specs.Ascii.{GivesParts};
+ghost use Rattle.aig_text.specs.Parts.{IsParts};
+ghost use Rattle.aig_edges.specs.Graph.{IsGraph, IsOrdered, OfStraightCircuit};
+ghost use Rattle.aig_trials.specs.Frames.{HasFrames, LeavesFrames};
+
+use aig_edges::{Graph, Ordered, check_and_build, straight};
+use aig_text::{AigStop, Parts, read_ascii, read_magic};
+use em_frames::Device;
+use em_io::{Feed, Shelf};
+use em_plain::ScanQueue;
+use em_space::Rig;
+
+/// Reads a circuit from its first byte.
+fn read_circuit<D: Device, H: Shelf>(
+    rig: &mut Rig<'_, D>,
+    feed: &mut Feed,
+    shelf: &mut H,
+) -> Result<Parts, AigStop>
+    requires ready { ((H.stand shelf.old).slot feed.old.slot).ready ≡ true }
+    requires none { feed.old.place ≡ 0 }
+    requires has { HasFrames (seen D.state rig.old) }
+    ensures leaves { LeavesFrames (seen D.state rig.old) (seen D.state rig.new) }
+    ensures parts { IfOk result (GivesParts (seen D.state rig.old) (seen D.state rig.new)) }
+{
+    read_magic(feed, shelf)?;
+    read_ascii(rig, feed, shelf)
+}
+
+/// Makes the graph of a circuit by a new queue.
+fn build<D: Device>(rig: &mut Rig<'_, D>, parts: Parts) -> Result<Graph, AigStop>
+    requires parts { IsParts (seen D.state rig.old) parts }
+    requires has { HasFrames (seen D.state rig.old) }
+    ensures leaves { LeavesFrames (seen D.state rig.old) (seen D.state rig.new) }
+    ensures is { IfOk result (IsGraph (seen D.state rig.new)) }
+    ensures straight { IfOk result (λ g. IsTrue (seen D.state rig.new).device.told
+        → OfStraightCircuit (seen D.state rig.new) g) }
+{
+    let queue = ScanQueue::new(rig)?;
+    check_and_build(rig, parts, queue)
+}
+
+/// Reads a circuit from its first byte, and makes its edges between ranks. All frames are back.
+pub fn read_ordered<D: Device, H: Shelf>(
+    rig: &mut Rig<'_, D>,
+    feed: &mut Feed,
+    shelf: &mut H,
+) -> Result<Ordered, AigStop>
+    requires ready { ((H.stand shelf.old).slot feed.old.slot).ready ≡ true }
+    requires none { feed.old.place ≡ 0 }
+    requires has { HasFrames (seen D.state rig.old) }
+    ensures leaves { LeavesFrames (seen D.state rig.old) (seen D.state rig.new) }
+    ensures is { IfOk result (IsOrdered (seen D.state rig.new)) }
+{
+    let parts = read_circuit(rig, feed, shelf)?;
+    let graph = build(rig, parts)?;
+    let ordered = straight(rig, graph)?;
+    Ok(ordered)
+}

@@ -1,0 +1,5 @@
+pub mod Effects
+pub mod Peek
+pub mod State
+pub mod Weaves
+pub mod Woven

@@ -1,0 +1,260 @@
+-- How an evaluation ends, from what its parts say.
+use Rattle.std.proofs.Common.{◌≡◌, ℕ, ◌<◌, ◌≤◌, Bool, true, List, [], ap, sym, subst, ◌∙◌, arith, IsTrue, Option, Some, None, Ok, Err}
+use Rattle.em_record.specs.Shape.{ShapeNumbers, payload_of}
+use Rattle.em_io.specs.Shelf.{IsUnopened, SlotState}
+use Rattle.em_io.specs.declared.shelf.Slot.{Slot}
+use Rattle.em_io.specs.declared.shelf.Slot.TheVariants.{First, Second}
+use Rattle.em_io.specs.Sink.{IsRule, SentPart}
+use Rattle.em_io.proofs.Sent.{part-of, sent-nothing}
+use Rattle.em_frames.specs.Device.{DeviceState}
+use Rattle.em_space.specs.Rig.{RigState, Touches}
+use Rattle.em_space.specs.declared.fault.EmFault.TheVariants as em
+use Rattle.em_space.proofs.Steps.{cause_after}
+use Rattle.aig_defs.specs.declared.circuit.Header.{Header}
+use Rattle.aig_defs.specs.declared.fault.AigKind.{AigKind}
+use Rattle.aig_defs.specs.Items.{Reads}
+use Rattle.aig_defs.specs.Stimulus.{output_lines, steps_begun, stimulus_of}
+use Rattle.aig_defs.specs.TextFault.{ascii_text, straight_fault}
+use Rattle.aig_defs.specs.Value.{run_of}
+use Rattle.aig_defs.proofs.StraightText.{straight_none}
+use Rattle.aig_defs.specs.Begun.{circuit_size}
+use Rattle.aig_edges.specs.declared.graph.Ordered.{Ordered}
+use Rattle.emtool.specs.Asked.{asked_of_eval}
+use Rattle.emtool.specs.EvalDue.{aig_status, eval_output, eval_status}
+use Rattle.emtool.specs.EvalSize.{circuit_read, eval_room, given_of, steps_read}
+use Rattle.emtool.specs.Evaluation.{CircuitCause, EndsSteps, FillsEval, FillsSteps, PrintsAll, SpellsEdges, StepsCause, steps_of}
+use Rattle.emtool.specs.Run.{Caused, Ended, GoesOn, Outside, stop_status}
+use Rattle.emtool.specs.RunStop.{FillsRun, RunCause}
+use Rattle.emtool.specs.Stop.{Faults, IfStopsFull, OnFault, fault_counts}
+use Rattle.emtool.specs.declared.status.Malform.TheVariants.{Text, Aig}
+use Rattle.emtool.specs.declared.status.Status.TheVariants.{Done}
+use Rattle.emtool.specs.declared.stop.Stop.{Stop}
+use Rattle.emtool.specs.declared.stop.Stop.TheVariants.{Fault, Read, Write, Em}
+use Rattle.emtool.proofs.EndLaws.{Stopped, done_whole, ended_due}
+use Rattle.emtool.proofs.Evaluating.{eval_room_grows, eval_room_rises, fault_due, lines_due, nothing_due, steps_counted, steps_due}
+
+-- a slot that is as one that wasn't opened is neither open nor lost
+pub still_unopened : (x y : SlotState) → x ≡ y → IsUnopened y → x.opened ≡ true → ⊥
+still_unopened x y e u h =
+    let z : y.opened ≡ true = subst (λ (v : SlotState). v.opened ≡ true) e h in cc (z, u.opened)
+
+pub still_there : (x y : SlotState) → x ≡ y → IsUnopened y → x.lost ≡ true → ⊥
+still_there x y e u h =
+    let z : y.lost ≡ true = subst (λ (v : SlotState). v.lost ≡ true) e h in cc (z, u.lost)
+
+-- The circuit wasn't read, or has a fault. `x` is what the slot had left when it was opened, and `y`
+-- the file's text.
+module _ (tells : Bool) (x y stimulus : List ℕ) (e : IsTrue tells → x ≡ y) where
+  pub circuit_cause : (faults later : Faults) (a c : RigState) (stop : Stop)
+      → CircuitCause tells x faults later a c stop
+      → RunCause tells (asked_of_eval y stimulus) faults later a c stop
+  circuit_cause faults later a c (Fault (Text kind) line) cause = absurd cause
+  circuit_cause faults later a c (Fault (Aig kind) place) cause = λ t d.
+      fault_due y stimulus kind place
+      (subst (λ (v : List ℕ). straight_fault v ≡ Some (kind, place)) (e t) (cause t d))
+  circuit_cause faults later a c Read cause = cause
+  circuit_cause faults later a c Write cause = absurd cause
+  circuit_cause faults later a c (Em fault) cause = cause
+
+  pub circuit_fills : (slots : Slot → SlotState) (c : RigState) (stop : Stop)
+      → 0 < payload_of c.pool.shape
+      → IfStopsFull stop (FillsEval tells (circuit_read (slots First) x) 0 c)
+      → IfStopsFull stop (FillsRun tells (asked_of_eval y stimulus) slots c)
+  circuit_fills slots c (Fault kind place) some f = tt
+  circuit_fills slots c Read some f = tt
+  circuit_fills slots c Write some f = tt
+  circuit_fills slots c (Em em.DeviceFault) some f = tt
+  circuit_fills slots c (Em (em.Damaged block)) some f = tt
+  circuit_fills slots c (Em (em.Full used)) some f = record {
+    paid = f.paid;
+    size = λ t d.
+        let size = circuit_read (slots First) y in
+        let more = eval_room_rises c.pool.shape size 0 (steps_read y (slots Second) stimulus) some
+        (omega arith) in
+        let most : used ≤ eval_room c.pool.shape size 0 =
+        subst (λ (v : List ℕ). used ≤ eval_room c.pool.shape (circuit_read (slots First) v) 0) (e t)
+        (f.size_is t) in
+        omega (arith, more, most);
+  }
+
+  module _ {IsState : List ℕ → Type 0} {took : List ℕ → List ℕ → List ℕ}
+      (rule : IsRule IsState took) (old new : Outside) (ok : IsState old.output)
+      (same : new.output ≡ old.output) where
+    -- nothing was printed
+    part_none : SentPart took old.output (eval_output y stimulus) new.output
+    part_none = part-of (sent-nothing rule ok (eval_output y stimulus) same)
+
+    pub circuit_stopped : (faults later : Faults) (a c : RigState) (stop : Stop)
+        → old.device ≡ a.device → CircuitCause tells x faults later a c stop
+        → Stopped tells took (asked_of_eval y stimulus) old new stop
+    circuit_stopped faults later a c (Fault (Text kind) line) before cause = absurd cause
+    circuit_stopped faults later a c (Fault (Aig kind) place) before cause = record {
+      fault = λ t d.
+          let first = cause t (subst (λ (v : DeviceState). IsTrue v.told) before d) in
+          same ∙ sym (rule.nothing old.output ok)
+          ∙ ap (took old.output) (sym (nothing_due y stimulus kind place
+          (subst (λ (v : List ℕ). straight_fault v ≡ Some (kind, place)) (e t) first)));
+      part = λ t d. part_none;
+    }
+    circuit_stopped faults later a c Read before cause =
+        record { fault = λ t d. tt; part = λ t d. part_none }
+    circuit_stopped faults later a c Write before cause = absurd cause
+    circuit_stopped faults later a c (Em fault) before cause =
+        record { fault = λ t d. tt; part = λ t d. part_none }
+
+-- The circuit was read, and steps were made: `z` is what the second slot had left when it was opened,
+-- and `w` that file's text.
+module _ (tells told : Bool) (x y z w : List ℕ) (m : RigState) (o : Ordered)
+    (e : IsTrue tells → x ≡ y) (f : IsTrue tells → z ≡ w)
+    (spells : IsTrue tells → SpellsEdges told x m o) where
+  reads_file : (t : IsTrue tells)
+      → ascii_text 0 y ≡ Reads (spells t).circuit (spells t).place []
+  reads_file t =
+      subst (λ (v : List ℕ). ascii_text 0 v ≡ Reads (spells t).circuit (spells t).place []) (e t)
+      (spells t).reads
+
+  -- the circuit has no fault
+  pub none_first : IsTrue tells → IsTrue told → straight_fault y ≡ None
+  none_first t d = straight_none y (spells t).circuit (spells t).place [] (reads_file t)
+      ((spells t).straight d)
+
+  -- the status is that of the stimulus's first fault, or of none
+  pub status_after : (fault : Option (AigKind × ℕ)) → IsTrue tells → IsTrue told
+      → (stimulus_of o.header.inputs z).fault ≡ fault → eval_status y w ≡ aig_status fault
+  status_after fault t d h =
+      let here : (stimulus_of o.header.inputs w).fault ≡ fault =
+      subst (λ (v : List ℕ). (stimulus_of o.header.inputs v).fault ≡ fault) (f t) h in
+      let own : (stimulus_of (spells t).circuit.header.inputs w).fault ≡ fault =
+      subst (λ (v : Header). (stimulus_of v.inputs w).fault ≡ fault) (sym (spells t).header) here in
+      steps_due y w (spells t).circuit (spells t).place [] (none_first t d) (reads_file t)
+      ∙ ap aig_status own
+
+  -- the output is the lines of the steps
+  pub lines_after : (t : IsTrue tells) → IsTrue told → eval_output y w
+      ≡ output_lines (run_of (spells t).circuit (stimulus_of o.header.inputs z).steps)
+  lines_after t d =
+      let c = (spells t).circuit in
+      lines_due y w c (spells t).place [] (none_first t d) (reads_file t)
+      ∙ ap (λ (v : Header). output_lines (run_of c (stimulus_of v.inputs w).steps)) (spells t).header
+      ∙ ap (λ (v : List ℕ). output_lines (run_of c (stimulus_of o.header.inputs v).steps)) (sym (f t))
+
+  pub steps_cause : (faults later : Faults) (a c : RigState) (stop : Stop)
+      → a.device.told ≡ told → Touches [] a m
+      → (IsTrue tells → EndsSteps (stimulus_of o.header.inputs z) (Err stop))
+      → StepsCause faults later m c stop
+      → RunCause tells (asked_of_eval y w) faults later a c stop
+  steps_cause faults later a c (Fault (Text kind) line) same touches ends cause =
+      λ t d. absurd (ends t)
+  steps_cause faults later a c (Fault (Aig kind) place) same touches ends cause = λ t d.
+      status_after (Some (kind, place)) t (subst (λ (b : Bool). IsTrue b) same d) (ends t)
+  steps_cause faults later a c Read same touches ends cause = cause
+  steps_cause faults later a c Write same touches ends cause = cause
+  steps_cause faults later a c (Em fault) same touches ends cause =
+      cause_after [] a m c fault touches cause
+
+  pub steps_fills : (slots : Slot → SlotState) (c : RigState) (stop : Stop)
+      → 0 < payload_of c.pool.shape
+      → (IsTrue tells → circuit_size o.header ≤ circuit_read (slots First) x)
+      → (IsTrue tells → m.most ≤ eval_room c.pool.shape (circuit_read (slots First) x) 0)
+      → IfStopsFull stop (FillsSteps tells m.most (circuit_size o.header)
+      (steps_of o.header.inputs z (slots Second)) c)
+      → IfStopsFull stop (FillsRun tells (asked_of_eval y w) slots c)
+  steps_fills slots c (Fault kind place) some size before p = tt
+  steps_fills slots c Read some size before p = tt
+  steps_fills slots c Write some size before p = tt
+  steps_fills slots c (Em em.DeviceFault) some size before p = tt
+  steps_fills slots c (Em (em.Damaged block)) some size before p = tt
+  steps_fills slots c (Em (em.Full used)) some size before p = record {
+    paid = p.paid;
+    size = λ t d.
+        let slot = slots Second in
+        let n = steps_of o.header.inputs z slot in
+        let count : steps_read y slot w ≡ n =
+        steps_counted y w (spells t).circuit (spells t).place [] slot (reads_file t)
+        ∙ ap (λ (v : Header). steps_begun v.inputs (given_of slot w) w) (spells t).header
+        ∙ ap (λ (v : List ℕ). steps_of o.header.inputs v slot) (sym (f t)) in
+        let large : circuit_size o.header ≤ circuit_read (slots First) y =
+        subst (λ (v : List ℕ). circuit_size o.header ≤ circuit_read (slots First) v) (e t) (size t) in
+        let read = circuit_read (slots First) y in
+        let grows = eval_room_grows c.pool.shape (circuit_size o.header) read n some large in
+        let rises = eval_room_rises c.pool.shape read 0 n some (omega arith) in
+        let first : m.most ≤ eval_room c.pool.shape read 0 =
+        subst (λ (v : List ℕ). m.most ≤ eval_room c.pool.shape (circuit_read (slots First) v) 0) (e t)
+        (before t) in
+        let most = p.size_is t in
+        rw count (omega (arith, grows, rises, first, most));
+  }
+
+  told_here : (old : Outside) → old.device.told ≡ told → IsTrue old.device.told → IsTrue told
+  told_here old same d = subst (λ (b : Bool). IsTrue b) same d
+
+  module _ {took : List ℕ → List ℕ → List ℕ} (old new : Outside)
+      (same : old.device.told ≡ told) where
+    pub steps_stopped : (stop : Stop) → ((t : IsTrue tells) → IsTrue told → PrintsAll took
+        (output_lines (run_of (spells t).circuit (stimulus_of o.header.inputs z).steps))
+        old.output new.output (Err stop))
+        → Stopped tells took (asked_of_eval y w) old new stop
+    steps_stopped stop p = record {
+      fault = λ t d. subst (λ (v : List ℕ). OnFault stop (new.output ≡ took old.output v))
+          (sym (lines_after t (told_here old same d))) (p t (told_here old same d)).all;
+      part = λ t d. subst (λ (v : List ℕ). SentPart took old.output v new.output)
+          (sym (lines_after t (told_here old same d))) (p t (told_here old same d)).part;
+    }
+
+    pub steps_done : {shape : ShapeNumbers} {blocks : ℕ}
+        → ((t : IsTrue tells) → IsTrue told → PrintsAll took
+        (output_lines (run_of (spells t).circuit (stimulus_of o.header.inputs z).steps))
+        old.output new.output (Ok tt))
+        → (IsTrue tells → EndsSteps (stimulus_of o.header.inputs z) (Ok tt))
+        → Ended tells took (asked_of_eval y w) shape blocks old new Done
+    steps_done p ends = ended_due (asked_of_eval y w) Done done_whole
+        (λ t d. sym (status_after None t (told_here old same d) (ends t)))
+        (λ t d. subst (λ (v : List ℕ). new.output ≡ took old.output v)
+        (sym (lines_after t (told_here old same d))) (p t (told_here old same d)).all)
+        (λ t d. subst (λ (v : List ℕ). SentPart took old.output v new.output)
+        (sym (lines_after t (told_here old same d))) (p t (told_here old same d)).part)
+
+-- An evaluation that stopped has its cause outside, if it names one. `m` is the rig before the steps.
+pub steps_caused : (old new : Outside) (read write : ℕ) (m c : RigState) (stop : Stop)
+    → GoesOn old new → old.read_faults ≤ read → old.write_faults ≤ write
+    → old.device.faults ≤ m.device.faults → new.device ≡ c.device
+    → StepsCause (fault_counts read write) (fault_counts new.read_faults new.write_faults) m c stop
+    → Caused old new (stop_status stop)
+steps_caused old new read write m c (Fault kind place) on r w d e x = record {
+  goes_on = on;
+  read = λ f. absurd (cc);
+  write = λ f. absurd (cc);
+  device = λ f. absurd (cc);
+}
+steps_caused old new read write m c Read on r w d e x = record {
+  goes_on = on;
+  read = λ f. omega (arith, r, x);
+  write = λ f. absurd (cc);
+  device = λ f. absurd (cc);
+}
+steps_caused old new read write m c Write on r w d e x = record {
+  goes_on = on;
+  read = λ f. absurd (cc);
+  write = λ f. omega (arith, w, x);
+  device = λ f. absurd (cc);
+}
+steps_caused old new read write m c (Em em.DeviceFault) on r w d e x = record {
+  goes_on = on;
+  read = λ f. absurd (cc);
+  write = λ f. absurd (cc);
+  device = λ f.
+      let same = ap (λ (v : DeviceState). v.faults) e in
+      omega (arith, d, x, same);
+}
+steps_caused old new read write m c (Em (em.Full used)) on r w d e x = record {
+  goes_on = on;
+  read = λ f. absurd (cc);
+  write = λ f. absurd (cc);
+  device = λ f. absurd (cc);
+}
+steps_caused old new read write m c (Em (em.Damaged block)) on r w d e x = record {
+  goes_on = on;
+  read = λ f. absurd (cc);
+  write = λ f. absurd (cc);
+  device = λ f. absurd (cc);
+}

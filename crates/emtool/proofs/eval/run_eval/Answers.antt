@@ -1,0 +1,248 @@
+use Rattle.std.proofs.Common.{rules, ◌≡◌, ◌∙◌, ◌<◌, [], ap, refl, Some, arith, IsTrue}
+use Rattle.em_record.specs.Shape.{payload_of}
+use Rattle.em_io.specs.declared.shelf.Slot.TheVariants.{First, Second}
+use Rattle.em_space.specs.Seen.{seen}
+use Rattle.em_space.proofs.Within.{touches_within}
+use Rattle.emtool.specs.Asked.{asked_of_eval}
+use Rattle.emtool.specs.Due.{text_in}
+use Rattle.emtool.specs.Stop.{fault_counts}
+use Rattle.emtool.specs.declared.status.Status.TheVariants.{Done, ReadFault}
+use Rattle.emtool.proofs.EndLaws.{ended_read, ended_stop}
+use Rattle.emtool.proofs.Evaluated.{circuit_cause, circuit_fills, circuit_stopped, none_first, steps_cause, steps_caused, steps_done, steps_fills, steps_stopped, still_there, still_unopened}
+use Rattle.emtool.proofs.Opening.{lost_opened, not_done, on_end, opens_eval, reads_both, text_left, text_some}
+use Rattle.emtool.proofs.eval.run_eval.Goals as goal
+
+-- the circuit isn't there, or the shelf failed
+pub returns-in_default-clause-runs : goal.returns-in_default-clause-runs
+returns-in_default-clause-runs g c =
+    let a = g.H.Shelf.stand c.args.shelf.now in
+    let b = g.H.Shelf.stand c.open.new.self in
+    let o = c.in_default.ensures in
+    let tells = g.H.Shelf.tells in
+    let told = (g.D.Device.state c.args.rig.now.device.now).told in
+    let circuit = c.args.circuit.now in
+    let stimulus = c.args.stimulus.now in
+    let fresh = c.requires.fresh in
+    let second = o.leaves.others Second (λ e. cc) in
+    record {
+      ended = ended_read g.met.W.Sink.rule _ _ _ _ _ _ (g.met.W.Sink.is_state c.args.out.now) refl;
+      caused = search rules;
+      opens = opens_eval tells told circuit stimulus a b ReadFault o.leaves.text
+          (λ t l. lost_opened (a.slot First) (b.slot First) (b.slot First) (a.text First circuit)
+          fresh.first.lost (o.lost t) refl l)
+          (λ t l. absurd (still_there (b.slot Second) (a.slot Second) second fresh.second l))
+          (λ t. tt) (λ t. tt)
+          (λ t d x. absurd (still_unopened (b.slot Second) (a.slot Second) second fresh.second x));
+      all_read = reads_both tells circuit stimulus b ReadFault tt tt;
+      no_usage = tt;
+      no_memory = tt;
+    }
+
+-- the circuit has a fault, or its reading stopped
+pub returns-in-Err-clause-runs : goal.returns-in-Err-clause-runs
+returns-in-Err-clause-runs g c =
+    let a = g.H.Shelf.stand c.args.shelf.now in
+    let b = g.H.Shelf.stand c.open.new.self in
+    let last = g.H.Shelf.stand c.read_circuit.new.shelf in
+    let s = seen g.D.Device.state c.args.rig.now in
+    let t = seen g.D.Device.state c.read_circuit.new.rig in
+    let o = c.in-Ok.ensures in
+    let r = c.in-Err.ensures in
+    let stop = c.in-Err.stop in
+    let tells = g.H.Shelf.tells in
+    let told = s.device.told in
+    let circuit = c.args.circuit.now in
+    let stimulus = c.args.stimulus.now in
+    let fresh = c.requires.fresh in
+    let x = (b.slot First).left in
+    let y = text_in a First (Some circuit) in
+    let w = text_in a Second (Some stimulus) in
+    let same : IsTrue tells → x ≡ y = λ z. text_left (a.text First circuit) x (o.whole z) in
+    let faults = fault_counts (g.H.Shelf.faults c.open.new.self) 0 in
+    let later = fault_counts (g.H.Shelf.faults c.read_circuit.new.shelf) 0 in
+    let low = r.goes.sound.shape.block_low in
+    let some : 0 < payload_of t.pool.shape = omega arith in
+    let reads = r.reads.reads in
+    let second = reads.leaves.others Second (λ e. cc) ∙ o.leaves.others Second (λ e. cc) in
+    let own = r.reads.answers in
+    record {
+      ended = rw (c.status_of.ensures.is)
+          (ended_stop tells (asked_of_eval y w) _ _ s t r.goes.touches r.goes.sound refl refl stop
+          faults later (circuit_cause tells x y w same faults later s t stop own.cause)
+          (circuit_fills tells x y w same last.slot t stop some own.full)
+          (circuit_stopped tells x y w same g.met.W.Sink.rule _ _
+          (g.met.W.Sink.is_state c.args.out.now) refl faults later s t stop refl own.cause));
+      caused = search rules;
+      opens = rw (c.status_of.ensures.is) (opens_eval tells told circuit stimulus a last _
+          (reads.leaves.text ∙ o.leaves.text)
+          (λ z l. lost_opened (a.slot First) (b.slot First) (last.slot First) (a.text First circuit)
+          fresh.first.lost (o.lost z) (reads.lost z) l)
+          (λ z l. absurd (still_there (last.slot Second) (a.slot Second) second fresh.second l))
+          (λ z. on_end _ _ (text_some (a.text First circuit) x (o.whole z)))
+          (λ z. not_done stop _)
+          (λ z d u. absurd (still_unopened (last.slot Second) (a.slot Second) second fresh.second u)));
+      all_read = rw (c.status_of.ensures.is)
+          (reads_both tells circuit stimulus last _ (not_done stop _) (not_done stop _));
+      no_usage = search rules;
+      no_memory = search rules;
+    }
+
+-- the stimulus isn't there, or the shelf failed
+pub returns-in_default-open-clause-runs : goal.returns-in_default-open-clause-runs
+returns-in_default-open-clause-runs g c =
+    let a = g.H.Shelf.stand c.args.shelf.now in
+    let b = g.H.Shelf.stand c.open.new.self in
+    let mid = g.H.Shelf.stand c.read_circuit.new.shelf in
+    let last = g.H.Shelf.stand c.open-2.new.self in
+    let s = seen g.D.Device.state c.args.rig.now in
+    let t = seen g.D.Device.state c.read_circuit.new.rig in
+    let o = c.in-Ok.ensures in
+    let r = c.in-Ok-read_circuit.ensures in
+    let p = c.in_default-open.ensures in
+    let tells = g.H.Shelf.tells in
+    let told = s.device.told in
+    let circuit = c.args.circuit.now in
+    let stimulus = c.args.stimulus.now in
+    let fresh = c.requires.fresh in
+    let x = (b.slot First).left in
+    let y = text_in a First (Some circuit) in
+    let w = text_in a Second (Some stimulus) in
+    let same : IsTrue tells → x ≡ y = λ z. text_left (a.text First circuit) x (o.whole z) in
+    let reads = r.reads.reads in
+    let first = p.leaves.others First (λ e. cc) in
+    let unopened = reads.leaves.others Second (λ e. cc) ∙ o.leaves.others Second (λ e. cc) in
+    let text = reads.leaves.text ∙ o.leaves.text in
+    record {
+      ended = ended_read g.met.W.Sink.rule _ _ _ _ _ _ (g.met.W.Sink.is_state c.args.out.now) refl;
+      caused = search rules;
+      opens = opens_eval tells told circuit stimulus a last ReadFault (p.leaves.text ∙ text)
+          (λ z l. lost_opened (a.slot First) (b.slot First) (last.slot First) (a.text First circuit)
+          fresh.first.lost (o.lost z) (ap (λ v. v.lost) first ∙ reads.lost z) l)
+          (λ z l. lost_opened (a.slot Second) (last.slot Second) (last.slot Second)
+          (a.text Second stimulus) fresh.second.lost (rw (← text, ← unopened) (p.lost z)) refl l)
+          (λ z. tt) (λ z. tt)
+          (λ z d u. none_first tells told x y w w t c.in-Ok-read_circuit.ordered same (λ v. refl)
+          r.reads.answers.spells z d);
+      all_read = reads_both tells circuit stimulus last ReadFault tt tt;
+      no_usage = tt;
+      no_memory = tt;
+    }
+
+-- all steps were made
+pub returns-in-Ok-evaluate-clause-runs : goal.returns-in-Ok-evaluate-clause-runs
+returns-in-Ok-evaluate-clause-runs g c =
+    let a = g.H.Shelf.stand c.args.shelf.now in
+    let b = g.H.Shelf.stand c.open.new.self in
+    let d = g.H.Shelf.stand c.open-2.new.self in
+    let last = g.H.Shelf.stand c.evaluate.new.shelf in
+    let s = seen g.D.Device.state c.args.rig.now in
+    let t = seen g.D.Device.state c.read_circuit.new.rig in
+    let o = c.in-Ok.ensures in
+    let r = c.in-Ok-read_circuit.ensures in
+    let p = c.in-Ok-open.ensures in
+    let v = c.in-Ok-evaluate.ensures.runs in
+    let edges = c.in-Ok-read_circuit.ordered in
+    let tells = g.H.Shelf.tells in
+    let told = s.device.told in
+    let circuit = c.args.circuit.now in
+    let stimulus = c.args.stimulus.now in
+    let fresh = c.requires.fresh in
+    let reads = r.reads.reads in
+    let text = reads.leaves.text ∙ o.leaves.text in
+    let unopened = reads.leaves.others Second (λ e. cc) ∙ o.leaves.others Second (λ e. cc) in
+    let first = v.reads.leaves.others First (λ e. cc) ∙ p.leaves.others First (λ e. cc) in
+    let x = (b.slot First).left in
+    let y = text_in a First (Some circuit) in
+    let z = (d.slot Second).left in
+    let w = text_in a Second (Some stimulus) in
+    let same : IsTrue tells → x ≡ y = λ e. text_left (a.text First circuit) x (o.whole e) in
+    let there : IsTrue tells → a.text Second stimulus ≡ Some z = λ e. rw (← text) (p.whole e) in
+    let given : IsTrue tells → z ≡ w = λ e. text_left (a.text Second stimulus) z (there e) in
+    let spells = r.reads.answers.spells in
+    record {
+      ended = steps_done tells told x y z w t edges same given spells _ _ refl
+          (λ e h. v.prints e (r.goes.touches.told ∙ h) (spells e).circuit ((spells e).ranks h)) v.ends;
+      caused = search rules;
+      opens = opens_eval tells told circuit stimulus a last Done
+          (v.reads.leaves.text ∙ p.leaves.text ∙ text)
+          (λ e l. lost_opened (a.slot First) (b.slot First) (last.slot First) (a.text First circuit)
+          fresh.first.lost (o.lost e) (ap (λ k. k.lost) first ∙ reads.lost e) l)
+          (λ e l. lost_opened (a.slot Second) (d.slot Second) (last.slot Second)
+          (a.text Second stimulus) fresh.second.lost (rw (← text, ← unopened) (p.lost e))
+          (v.reads.lost e) l)
+          (λ e. text_some (a.text First circuit) x (o.whole e))
+          (λ e. text_some (a.text Second stimulus) z (there e))
+          (λ e h u. none_first tells told x y z w t edges same given spells e h);
+      all_read = reads_both tells circuit stimulus last Done
+          (rw first r.reads.answers.all_read) v.end;
+      no_usage = tt;
+      no_memory = tt;
+    }
+
+-- the stimulus has a fault, or the steps stopped
+pub returns-in-Err-evaluate-clause-runs : goal.returns-in-Err-evaluate-clause-runs
+returns-in-Err-evaluate-clause-runs g c =
+    let a = g.H.Shelf.stand c.args.shelf.now in
+    let b = g.H.Shelf.stand c.open.new.self in
+    let d = g.H.Shelf.stand c.open-2.new.self in
+    let last = g.H.Shelf.stand c.evaluate.new.shelf in
+    let s = seen g.D.Device.state c.args.rig.now in
+    let t = seen g.D.Device.state c.read_circuit.new.rig in
+    let u = seen g.D.Device.state c.evaluate.new.rig in
+    let o = c.in-Ok.ensures in
+    let r = c.in-Ok-read_circuit.ensures in
+    let p = c.in-Ok-open.ensures in
+    let v = c.in-Err-evaluate.ensures.runs in
+    let edges = c.in-Ok-read_circuit.ordered in
+    let stop = c.in-Err-evaluate.stop in
+    let tells = g.H.Shelf.tells in
+    let told = s.device.told in
+    let circuit = c.args.circuit.now in
+    let stimulus = c.args.stimulus.now in
+    let fresh = c.requires.fresh in
+    let reads = r.reads.reads in
+    let own = r.reads.answers in
+    let text = reads.leaves.text ∙ o.leaves.text in
+    let unopened = reads.leaves.others Second (λ e. cc) ∙ o.leaves.others Second (λ e. cc) in
+    let first = v.reads.leaves.others First (λ e. cc) ∙ p.leaves.others First (λ e. cc) in
+    let x = (b.slot First).left in
+    let y = text_in a First (Some circuit) in
+    let z = (d.slot Second).left in
+    let w = text_in a Second (Some stimulus) in
+    let same : IsTrue tells → x ≡ y = λ e. text_left (a.text First circuit) x (o.whole e) in
+    let there : IsTrue tells → a.text Second stimulus ≡ Some z = λ e. rw (← text) (p.whole e) in
+    let given : IsTrue tells → z ≡ w = λ e. text_left (a.text Second stimulus) z (there e) in
+    let spells = own.spells in
+    let faults = fault_counts (g.H.Shelf.faults c.open-2.new.self) (g.W.Sink.faults c.args.out.now) in
+    let later = fault_counts (g.H.Shelf.faults c.evaluate.new.shelf)
+    (g.W.Sink.faults c.evaluate.new.out) in
+    let low = v.goes.sound.shape.block_low in
+    let some : 0 < payload_of u.pool.shape = omega arith in
+    let touches = touches_within s t u [] _ r.goes.touches own.blocks.within v.goes.touches in
+    record {
+      ended = rw (c.status_of-in-Err-evaluate.ensures.is)
+          (ended_stop tells (asked_of_eval y w) _ _ s u touches v.goes.sound refl refl stop faults later
+          (steps_cause tells told x y z w t edges same given spells faults later s u stop refl
+          r.goes.touches v.ends v.cause)
+          (steps_fills tells told x y z w t edges same given spells last.slot u stop some
+          (λ e. rw first (own.size e)) (λ e. rw (first, v.goes.touches.shape) (own.most e)) v.full)
+          (steps_stopped tells told x y z w t edges same given spells _ _ refl stop
+          (λ e h. v.prints e (r.goes.touches.told ∙ h) (spells e).circuit ((spells e).ranks h))));
+      caused = rw (c.status_of-in-Err-evaluate.ensures.is)
+          (steps_caused _ _ (g.H.Shelf.faults c.open-2.new.self) (g.W.Sink.faults c.args.out.now) t u
+          stop (search rules) (search rules) (search rules) (search rules) refl v.cause);
+      opens = rw (c.status_of-in-Err-evaluate.ensures.is) (opens_eval tells told circuit stimulus a last _
+          (v.reads.leaves.text ∙ p.leaves.text ∙ text)
+          (λ e l. lost_opened (a.slot First) (b.slot First) (last.slot First) (a.text First circuit)
+          fresh.first.lost (o.lost e) (ap (λ k. k.lost) first ∙ reads.lost e) l)
+          (λ e l. lost_opened (a.slot Second) (d.slot Second) (last.slot Second)
+          (a.text Second stimulus) fresh.second.lost (rw (← text, ← unopened) (p.lost e))
+          (v.reads.lost e) l)
+          (λ e. on_end _ _ (text_some (a.text First circuit) x (o.whole e)))
+          (λ e. not_done stop _)
+          (λ e h q. none_first tells told x y z w t edges same given spells e h));
+      all_read = rw (c.status_of-in-Err-evaluate.ensures.is)
+          (reads_both tells circuit stimulus last _ (not_done stop _) (not_done stop _));
+      no_usage = search rules;
+      no_memory = search rules;
+    }

@@ -1,0 +1,47 @@
+-- What an evaluation is due, by the texts of the circuit and of the stimulus: the status and the text
+-- on the output.
+use Rattle.std.specs.Prelude.{ℕ, Bool, List, [], Option, Some, None}
+use Rattle.aig_defs.specs.declared.fault.AigKind.{AigKind}
+use Rattle.aig_defs.specs.Circuit.{Circuit}
+use Rattle.aig_defs.specs.Items.{Reading, Reads, Fails}
+use Rattle.aig_defs.specs.Stimulus.{Stimulus, no_steps, output_lines, stimulus_of}
+use Rattle.aig_defs.specs.TextFault.{ascii_text, straight_fault}
+use Rattle.aig_defs.specs.Value.{run_of}
+use Rattle.emtool.specs.declared.status.Malform.TheVariants.{Aig}
+use Rattle.emtool.specs.declared.status.Status.{Status}
+use Rattle.emtool.specs.declared.status.Status.TheVariants.{Done, Malformed}
+
+-- the status for the first fault of a circuit or a stimulus, or for none
+abbrev pub aig_status : Option (AigKind × ℕ) → Status
+aig_status None = Done
+aig_status (Some fault) = Malformed (Aig fault.0) fault.1
+
+-- the steps of a stimulus for a circuit that was read, up to the stimulus's first fault
+abbrev pub steps_for : Reading Circuit → List ℕ → Stimulus
+steps_for (Reads c p x) stimulus = stimulus_of c.header.inputs stimulus
+steps_for (Fails kind place) stimulus = no_steps
+
+-- a line for each step: the outputs of a circuit that was read
+abbrev pub lines_for : Reading Circuit → List (List Bool) → List ℕ
+lines_for (Reads c p x) steps = output_lines (run_of c steps)
+lines_for (Fails kind place) steps = []
+
+-- what is due, if this is the circuit's fault
+abbrev pub eval_status_for : Option (AigKind × ℕ) → List ℕ → List ℕ → Status
+eval_status_for None circuit stimulus =
+    aig_status (steps_for (ascii_text 0 circuit) stimulus).fault
+eval_status_for (Some fault) circuit stimulus = Malformed (Aig fault.0) fault.1
+
+abbrev pub eval_output_for : Option (AigKind × ℕ) → List ℕ → List ℕ → List ℕ
+eval_output_for None circuit stimulus =
+    lines_for (ascii_text 0 circuit) (steps_for (ascii_text 0 circuit) stimulus).steps
+eval_output_for (Some fault) circuit stimulus = []
+
+-- the status: the circuit's first fault, else the stimulus's, else Done
+abbrev pub eval_status : List ℕ → List ℕ → Status
+eval_status circuit stimulus = eval_status_for (straight_fault circuit) circuit stimulus
+
+-- the output: nothing at a fault of the circuit, else the lines of the steps before the stimulus's
+-- first fault
+abbrev pub eval_output : List ℕ → List ℕ → List ℕ
+eval_output circuit stimulus = eval_output_for (straight_fault circuit) circuit stimulus

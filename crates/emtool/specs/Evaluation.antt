@@ -1,0 +1,249 @@
+-- An evaluation, from the circuit in the first slot over the steps of the stimulus in the second.
+use Rattle.std.specs.Prelude.{◌≡◌, ℕ, ◌+◌, ◌-◌, ◌*◌, ◌≤◌, ◌^◌, ◌⊎◌, Bool, List, [], false, max, IsTrue, Some, None, Result, Ok, Err, OnOk, IfErr}
+use Rattle.em_record.specs.Count.{Rose}
+use Rattle.em_record.specs.Shape.{fan_of}
+use Rattle.em_io.specs.Shelf.{Leaves, SlotState, Stand}
+use Rattle.em_io.specs.Sink.{Sent, SentPart}
+use Rattle.em_io.specs.declared.shelf.Shelf.{Ghosts as ShelfGhosts}
+use Rattle.em_io.specs.declared.shelf.Slot.TheVariants.{First, Second}
+use Rattle.em_io.specs.declared.sink.Sink.{Ghosts as SinkGhosts}
+use Rattle.em_space.specs.Ledger.{Session}
+use Rattle.em_space.specs.Queue.{Shares}
+use Rattle.em_space.specs.Rig.{RigState, Cause, Goes, Sound, Touches}
+use Rattle.em_space.specs.declared.queue.Queue.{Ghosts as QueueGhosts}
+use Rattle.em_chain.specs.Chain.{payload_in}
+use Rattle.em_chain.specs.Counts.{ceiling}
+use Rattle.aig_defs.specs.declared.circuit.Gate.{Gate}
+use Rattle.aig_defs.specs.Begun.{circuit_size}
+use Rattle.aig_defs.specs.Circuit.{Circuit}
+use Rattle.aig_defs.specs.Items.{Reads}
+use Rattle.aig_defs.specs.Stimulus.{Stimulus, output_lines, steps_begun, stimulus_of}
+use Rattle.aig_defs.specs.Straight.{IsStraight}
+use Rattle.aig_defs.specs.TextFault.{ascii_text, straight_fault}
+use Rattle.aig_defs.specs.Value.{run_from, run_of}
+use Rattle.aig_edges.specs.Graph.{IsOrdered, edge_count, ordered_blocks}
+use Rattle.aig_edges.specs.Ranking.{RanksFor}
+use Rattle.aig_edges.specs.declared.graph.Ordered.{Ordered}
+use Rattle.aig_forward.specs.Evaluator.{Evaluates, HasEvaluatorFrames, IsEvaluator, evaluator_blocks}
+use Rattle.aig_forward.specs.Outputs.{KeepsFront}
+use Rattle.aig_forward.specs.Step.{step_room}
+use Rattle.aig_forward.specs.declared.evaluator.Evaluator.{Evaluator}
+use Rattle.emtool.specs.EvalSize.{circuit_read, eval_room, given_of}
+use Rattle.emtool.specs.Opens.{IsAllRead}
+use Rattle.emtool.specs.Run.{IsReady, ReadsFirst}
+use Rattle.emtool.specs.Stop.{Faults, IfStopsFull, OnFault, fault_counts}
+use Rattle.emtool.specs.declared.status.Malform.TheVariants.{Text, Aig}
+use Rattle.emtool.specs.declared.stop.Stop.{Stop}
+use Rattle.emtool.specs.declared.stop.Stop.TheVariants.{Fault, Read, Write, Em}
+
+-- The text spells a circuit, whose header the edges have. If the device tells, it is in straight order,
+-- and the edges are those between its ranks.
+pub record SpellsEdges (told : Bool) (text : List ℕ) (t : RigState) (o : Ordered) : Type 0 where
+  pub circuit : Circuit
+  pub place : ℕ
+  pub reads : ascii_text 0 text ≡ Reads circuit place []
+  pub header : circuit.header ≡ o.header
+  pub straight : IsTrue told → IsStraight circuit
+  pub ranks : IsTrue told → RanksFor t o circuit
+
+-- Edges between ranks were made of the whole text, in a packed list, and all their blocks were stored.
+pub record MakesEdges {H : Type 0} (h : ShelfGhosts H) (s t : RigState) (shelf shelf_after : H)
+    (o : Ordered) : Type 0 where
+  pub is : IsOrdered t o
+  pub blocks : Session [] s t (ordered_blocks t o)
+  pub used : t.used ≡ o.edges.blocks
+  pub packed : o.edges.blocks ≤ ceiling (edge_count o.header) (payload_in t)
+  pub paid : (2 ^ 64 - 1 ≤ t.moves) ⊎ (t.used ≤ t.moves)
+  pub spells : IsTrue h.tells
+      → SpellsEdges s.device.told ((h.stand shelf).slot First).left t o
+  pub all_read : IsAllRead h.tells ((h.stand shelf_after).slot First)
+  pub size : IsTrue h.tells → circuit_size o.header
+      ≤ circuit_read ((h.stand shelf_after).slot First) ((h.stand shelf).slot First).left
+  pub most : IsTrue h.tells → t.most ≤ eval_room t.pool.shape
+      (circuit_read ((h.stand shelf_after).slot First) ((h.stand shelf).slot First).left) 0
+
+-- why no edges were made: the first fault of the text, if shelf and device tell; the shelf's count of
+-- faults rose; or what a call on the rig says
+abbrev pub CircuitCause : Bool → List ℕ → Faults → Faults → RigState → RigState → Stop → Type 0
+CircuitCause tells text faults after old new (Fault (Text kind) line) = ⊥
+CircuitCause tells text faults after old new (Fault (Aig kind) place) =
+    IsTrue tells → IsTrue old.device.told → straight_fault text ≡ Some (kind, place)
+CircuitCause tells text faults after old new Read = Rose faults.read after.read
+CircuitCause tells text faults after old new Write = ⊥
+CircuitCause tells text faults after old new (Em fault) = Cause old new fault
+
+-- What a full device says of an evaluation that read a circuit of this size and began so many steps.
+pub record FillsEval (tells : Bool) (size steps : ℕ) (new : RigState) (used : ℕ) : Type 0 where
+  pub paid : (2 ^ 64 - 1 ≤ new.moves) ⊎ (used ≤ new.moves + 2 * new.pool.shape.frames)
+  pub size_is : IsTrue tells → used ≤ eval_room new.pool.shape size steps
+
+-- What it says of the steps of an evaluation, if at most `before` blocks were in use before them.
+pub record FillsSteps (tells : Bool) (before size steps : ℕ) (new : RigState) (used : ℕ)
+    : Type 0 where
+  pub paid : (2 ^ 64 - 1 ≤ new.moves) ⊎ (used ≤ new.moves + 2 * new.pool.shape.frames)
+  pub size_is : IsTrue tells → used ≤ max before (eval_room new.pool.shape size steps)
+
+-- No edges were made.
+pub record StopsCircuit {H : Type 0} (h : ShelfGhosts H) (s t : RigState) (shelf shelf_after : H)
+    (stop : Stop) : Type 0 where
+  pub cause : CircuitCause h.tells ((h.stand shelf).slot First).left
+      (fault_counts (h.faults shelf) 0) (fault_counts (h.faults shelf_after) 0) s t stop
+  pub full : IfStopsFull stop (FillsEval h.tells
+      (circuit_read ((h.stand shelf_after).slot First) ((h.stand shelf).slot First).left) 0 t)
+
+abbrev pub AnswersCircuit : {H : Type 0} → ShelfGhosts H → RigState → RigState → H → H
+    → Result Ordered Stop → Type 0
+AnswersCircuit h s t shelf shelf_after (Ok o) = MakesEdges h s t shelf shelf_after o
+AnswersCircuit h s t shelf shelf_after (Err stop) = StopsCircuit h s t shelf shelf_after stop
+
+-- The circuit in the first slot was read, as far as the answer says, and nothing else of the shelf.
+pub record ReadsCircuit {H : Type 0} (h : ShelfGhosts H) (s t : RigState) (shelf shelf_after : H)
+    (result : Result Ordered Stop) : Type 0 where
+  pub answers : AnswersCircuit h s t shelf shelf_after result
+  pub reads : ReadsFirst h.tells (h.stand shelf) (h.stand shelf_after)
+  pub later : h.faults shelf ≤ h.faults shelf_after
+
+-- Of the shelf only the second slot was read; whether it is lost didn't change.
+pub record ReadsSecond (tells : Bool) (old new : Stand) : Type 0 where
+  pub leaves : Leaves Second old new
+  pub opened : (new.slot Second).opened ≡ (old.slot Second).opened
+  pub ready : (new.slot Second).ready ≡ (old.slot Second).ready
+  pub lost : IsTrue tells → (new.slot Second).lost ≡ (old.slot Second).lost
+
+-- the fault with which steps ended, if it was one of the stimulus
+abbrev pub EndsSteps : Stimulus → Result (Unit {0}) Stop → Type 0
+EndsSteps stimulus (Ok u) = stimulus.fault ≡ None
+EndsSteps stimulus (Err (Fault (Text kind) line)) = ⊥
+EndsSteps stimulus (Err (Fault (Aig kind) place)) = stimulus.fault ≡ Some (kind, place)
+EndsSteps stimulus (Err Read) = Unit {0}
+EndsSteps stimulus (Err Write) = Unit {0}
+EndsSteps stimulus (Err (Em fault)) = Unit {0}
+
+-- P of a result that is Ok or a fault of the input
+abbrev pub OnDue : Result (Unit {0}) Stop → Type 0 → Type 0
+OnDue (Ok u) P = P
+OnDue (Err stop) P = OnFault stop P
+
+-- P, if the output didn't fail
+abbrev pub UnlessWrite : Result (Unit {0}) Stop → Type 0 → Type 0
+UnlessWrite (Err Write) P = Unit {0}
+UnlessWrite other P = P
+
+-- What steps printed: all lines went out or are pending, if they ended as due; a front of them, unless
+-- the output failed; and even then a front went out.
+pub record PrintsLines (took : List ℕ → List ℕ → List ℕ) (lines old new pending : List ℕ)
+    (result : Result (Unit {0}) Stop) : Type 0 where
+  pub all : OnDue result (Sent took old lines new pending)
+  pub front : UnlessWrite result (KeepsFront took old lines new pending)
+  pub part : SentPart took old lines new
+
+-- why steps stopped before they ended as due: a count of faults that rose, or what a call on the rig
+-- says
+abbrev pub StepsCause : Faults → Faults → RigState → RigState → Stop → Type 0
+StepsCause faults after old new (Fault kind place) = Unit {0}
+StepsCause faults after old new Read = Rose faults.read after.read
+StepsCause faults after old new Write = Rose faults.write after.write
+StepsCause faults after old new (Em fault) = Cause old new fault
+
+-- An evaluation can begin: the blocks of these edges, in a packed list, are all that is in use, and were
+-- stored.
+pub record CanBegin (s : RigState) (o : Ordered) : Type 0 where
+  pub sound : Sound s
+  pub is : IsOrdered s o
+  pub ready : IsReady s.pool
+  pub alone : s.used ≡ o.edges.blocks
+  pub packed : o.edges.blocks ≤ ceiling (edge_count o.header) (payload_in s)
+  pub paid : (2 ^ 64 - 1 ≤ s.moves) ⊎ (s.used ≤ s.moves)
+
+-- An evaluator can make steps. It has made no call of its queue, and all blocks in use are its own.
+pub record CanRunSteps {Q : Type 0} (queue : QueueGhosts Q) (s : RigState) (e : Evaluator Q)
+    : Type 0 where
+  pub sound : Sound s
+  pub is : IsEvaluator queue s e
+  pub free : 2 * fan_of s.pool.shape + 10 ≤ s.pool.free
+  pub areas : 1 ≤ s.pool.free_areas
+  pub rack : s.pool.rack_out ≡ false
+  pub new : (queue.counts e.queue).n ≡ 0
+  pub alone : s.used ≡ e.given.blocks + (e.gates.blocks + e.state.blocks)
+  pub paid : (2 ^ 64 - 1 ≤ s.moves) ⊎ (s.used ≤ s.moves)
+
+-- how many steps were begun, by what is left of the second slot
+abbrev pub steps_of : ℕ → List ℕ → SlotState → ℕ
+steps_of inputs text slot = steps_begun inputs (given_of slot text) text
+
+-- Steps over the stimulus in the second slot, from each state of a circuit that the evaluator has.
+pub record PrintsSteps {H W Q : Type 0} (h : ShelfGhosts H) (w : SinkGhosts W) (queue : QueueGhosts Q)
+    (s t : RigState) (e d : Evaluator Q) (shelf shelf_after : H) (out out_after : W)
+    (pending : List ℕ) (result : Result (Unit {0}) Stop) : Type 0 where
+  pub sound : Sound t
+  pub touches : Touches (evaluator_blocks queue s e) s t
+  pub frames : HasEvaluatorFrames queue t d
+  pub shares : Shares (queue.counts e.queue) (queue.counts d.queue) s.pool t.pool
+  pub reads : ReadsSecond h.tells (h.stand shelf) (h.stand shelf_after)
+  pub read_later : h.faults shelf ≤ h.faults shelf_after
+  pub write_later : w.faults out ≤ w.faults out_after
+  pub ends : IsTrue h.tells
+      → EndsSteps (stimulus_of e.header.inputs ((h.stand shelf).slot Second).left) result
+  pub end : OnOk result (IsAllRead h.tells ((h.stand shelf_after).slot Second))
+  pub prints : IsTrue h.tells → IsTrue s.device.told → (c : Circuit) (order : List Gate)
+      (state : List Bool) → Evaluates queue s e c order state
+      → PrintsLines w.took (output_lines (run_from c state
+      (stimulus_of e.header.inputs ((h.stand shelf).slot Second).left).steps))
+      (w.state out) (w.state out_after) pending result
+  pub cause : IfErr result (StepsCause (fault_counts (h.faults shelf) (w.faults out))
+      (fault_counts (h.faults shelf_after) (w.faults out_after)) s t)
+  pub called : IsTrue h.tells → (queue.counts d.queue).n ≤ 2 * edge_count e.header
+      * steps_of e.header.inputs ((h.stand shelf).slot Second).left
+      ((h.stand shelf_after).slot Second)
+  pub most : t.most ≤ max s.most (s.used + ((queue.counts d.queue).most + step_room s e))
+  pub paid : (2 ^ 64 - 1 ≤ t.moves) ⊎ (t.used ≤ t.moves + 2 * t.pool.shape.frames)
+
+-- steps ended as due: all were made, or the stimulus has a fault
+abbrev pub AreDue : Result (Unit {0}) Stop → Type 0
+AreDue (Ok u) = Unit {0}
+AreDue (Err (Fault kind place)) = Unit {0}
+AreDue (Err Read) = ⊥
+AreDue (Err Write) = ⊥
+AreDue (Err (Em fault)) = ⊥
+
+-- the answer is as steps ended, or that the output failed after an end that was due
+abbrev pub EndsAs : Result (Unit {0}) Stop → Result (Unit {0}) Stop → ℕ → ℕ → Type 0
+EndsAs done result faults after =
+    (result ≡ done) ⊎ (AreDue done × (result ≡ Err Write) × Rose faults after)
+
+-- What was pending after steps that ended so was sent, unless the output had failed.
+pub record SendsRest {W : Type 0} (w : SinkGhosts W) (done : Result (Unit {0}) Stop)
+    (pending : List ℕ) (out out_after : W) (result : Result (Unit {0}) Stop) : Type 0 where
+  pub ends : EndsAs done result (w.faults out) (w.faults out_after)
+  pub all : OnDue result (w.state out_after ≡ w.took (w.state out) pending)
+  pub part : UnlessWrite done (SentPart w.took (w.state out) pending (w.state out_after))
+  pub none : (done ≡ Err Write) → out_after ≡ out
+  pub later : w.faults out ≤ w.faults out_after
+
+-- All lines went out, if steps ended as due; and in any case a front of them.
+pub record PrintsAll (took : List ℕ → List ℕ → List ℕ) (lines old new : List ℕ)
+    (result : Result (Unit {0}) Stop) : Type 0 where
+  pub all : OnDue result (new ≡ took old lines)
+  pub part : SentPart took old lines new
+
+-- An evaluation by these edges, which are all that is on the rig: as `PrintsSteps`, with nothing pending,
+-- from the state in which all latches are 0.
+pub record RunsSteps {H W : Type 0} (h : ShelfGhosts H) (w : SinkGhosts W) (s t : RigState)
+    (o : Ordered) (shelf shelf_after : H) (out out_after : W) (result : Result (Unit {0}) Stop)
+    : Type 0 where
+  pub goes : Goes (ordered_blocks s o) s t
+  pub reads : ReadsSecond h.tells (h.stand shelf) (h.stand shelf_after)
+  pub read_later : h.faults shelf ≤ h.faults shelf_after
+  pub write_later : w.faults out ≤ w.faults out_after
+  pub ends : IsTrue h.tells
+      → EndsSteps (stimulus_of o.header.inputs ((h.stand shelf).slot Second).left) result
+  pub end : OnOk result (IsAllRead h.tells ((h.stand shelf_after).slot Second))
+  pub prints : IsTrue h.tells → IsTrue s.device.told → (c : Circuit) → RanksFor s o c
+      → PrintsAll w.took (output_lines (run_of c
+      (stimulus_of o.header.inputs ((h.stand shelf).slot Second).left).steps))
+      (w.state out) (w.state out_after) result
+  pub cause : IfErr result (StepsCause (fault_counts (h.faults shelf) (w.faults out))
+      (fault_counts (h.faults shelf_after) (w.faults out_after)) s t)
+  pub full : IfErr result (λ stop. IfStopsFull stop (FillsSteps h.tells s.most
+      (circuit_size o.header) (steps_of o.header.inputs ((h.stand shelf).slot Second).left
+      ((h.stand shelf_after).slot Second)) t))

@@ -1,0 +1,149 @@
+//! The evaluation of a circuit on a stimulus, on an open rig:
+//!
+//!     circuit   text -> parts -> graph -> edges between ranks     (first slot)
+//!     stimulus  a line -> a step -> a line of the output          (second slot)
+//!
+//! The second slot is opened only after the whole circuit was read and found to be in straight
+//! order. Kept here: at each exit all frames are back, and the lines of the steps that were made were
+//! sent, unless the output failed (at a stop of shelf or rig the contract says a front of them). Left
+//! to the layers below: what a circuit, a step and a line are.
+
+ghost use Rattle.std.specs.Prelude.{◌≡◌, true, []};
+ghost use Rattle.em_io.specs.Shelf.{IsFresh};
+ghost use Rattle.em_space.specs.Rig.{Goes};
+ghost use Rattle.em_space.specs.Seen.{seen};
+ghost use Rattle.emtool.specs.Due.{names_of};
+ghost use Rattle.emtool.specs.Evaluation.{CanBegin, CanRunSteps, PrintsSteps, ReadsCircuit, RunsSteps, SendsRest};
+ghost use Rattle.emtool.specs.Run.{IsReady, RunsTask};
+ghost use Rattle.emtool.specs.Service.{IsUnused};
+
+use crate::job::Task;
+use crate::run::status_of;
+use crate::status::Status;
+use crate::stop::Stop;
+use aig_edges::{Ordered, check_and_build, straight};
+use aig_forward::{Evaluator, StepEnd};
+use aig_text::{read_ascii, read_magic};
+use em_frames::Device;
+use em_io::{Feed, Printer, Shelf, Sink, Slot};
+use em_plain::ScanQueue;
+use em_space::{Queue, Rig};
+
+/// Reads the circuit in the open first slot and makes its edges between ranks, on a rig of which no
+/// block is or was in use. After a stop blocks may stay in use.
+fn read_circuit<D: Device, H: Shelf>(rig: &mut Rig<'_, D>, shelf: &mut H) -> Result<Ordered, Stop>
+    requires unused { IsUnused (seen D.state rig.old) }
+    requires free { IsReady (seen D.state rig.old).pool }
+    requires ready { ((H.stand shelf.old).slot Slot.First).ready ≡ true }
+    ensures goes { Goes [] (seen D.state rig.old) (seen D.state rig.new) }
+    ensures reads { ReadsCircuit H.Shelf (seen D.state rig.old) (seen D.state rig.new)
+        shelf.old shelf.new result }
+{
+    let mut feed = Feed::new(Slot::First);
+    read_magic(&mut feed, shelf)?;
+    let parts = read_ascii(rig, &mut feed, shelf)?;
+    let queue = ScanQueue::new(rig)?;
+    let graph = check_and_build(rig, parts, queue)?;
+    Ok(straight(rig, graph)?)
+}
+
+/// Makes a step for each line of the stimulus in the open second slot, up to its end or its first
+/// fault. The lines of the output go to the printer, which may keep some.
+fn run_steps<D: Device, H: Shelf, W: Sink, Q: Queue>(
+    rig: &mut Rig<'_, D>,
+    evaluator: &mut Evaluator<Q>,
+    shelf: &mut H,
+    printer: &mut Printer,
+    out: &mut W,
+) -> Result<(), Stop>
+    requires can { CanRunSteps Q.Queue (seen D.state rig.old) evaluator.old }
+    requires ready { ((H.stand shelf.old).slot Slot.Second).ready ≡ true }
+    requires none { printer.old ≡ [] }
+    ensures steps { PrintsSteps H.Shelf W.Sink Q.Queue (seen D.state rig.old) (seen D.state rig.new)
+        evaluator.old evaluator.new shelf.old shelf.new out.old out.new printer.new result }
+{
+    let mut feed = Feed::new(Slot::Second);
+    loop {
+        match evaluator.step(rig, &mut feed, shelf, printer, out)? {
+            StepEnd::Printed => {}
+            StepEnd::End => return Ok(()),
+        }
+    }
+}
+
+/// Sends what is pending after steps that ended so. What came first decides: a failure here changes
+/// the end only if they were done, or stopped at a fault of the stimulus. After a failed write nothing
+/// is sent any more.
+fn send_rest<W: Sink>(
+    done: Result<(), Stop>,
+    printer: &mut Printer,
+    out: &mut W,
+) -> Result<(), Stop>
+    ensures sends { SendsRest W.Sink done printer.old out.old out.new result }
+{
+    if let Err(Stop::Write) = done {
+        return done;
+    }
+    let sent = printer.send_all(out);
+    match done {
+        Ok(()) | Err(Stop::Fault { .. }) => {
+            sent?;
+            done
+        }
+        Err(_) => done,
+    }
+}
+
+/// Evaluates a circuit, by its edges between ranks, on the stimulus in the open second slot. The
+/// evaluator and its queue are given up; their blocks stay in use.
+fn evaluate<D: Device, H: Shelf, W: Sink>(
+    rig: &mut Rig<'_, D>,
+    ordered: Ordered,
+    shelf: &mut H,
+    out: &mut W,
+) -> Result<(), Stop>
+    requires can { CanBegin (seen D.state rig.old) ordered }
+    requires ready { ((H.stand shelf.old).slot Slot.Second).ready ≡ true }
+    ensures runs { RunsSteps H.Shelf W.Sink (seen D.state rig.old) (seen D.state rig.new)
+        ordered shelf.old shelf.new out.old out.new result }
+{
+    let queue = ScanQueue::new(rig)?;
+    let mut evaluator = Evaluator::new(rig, ordered, queue)?;
+    let mut printer = Printer::new();
+    let done = run_steps(rig, &mut evaluator, shelf, &mut printer, out);
+    evaluator.abandon(rig);
+    send_rest(done, &mut printer, out)
+}
+
+/// Evaluates the circuit of the first name on the stimulus of the second, on an open rig of which
+/// no block is or was in use. The stimulus isn't opened if the circuit has a fault.
+pub fn run_eval<D: Device, H: Shelf, W: Sink>(
+    rig: &mut Rig<'_, D>,
+    shelf: &mut H,
+    circuit: &str,
+    stimulus: &str,
+    out: &mut W,
+) -> Status
+    requires unused { IsUnused (seen D.state rig.old) }
+    requires free { IsReady (seen D.state rig.old).pool }
+    requires none_moved { (seen D.state rig.old).moves ≡ 0 }
+    requires fresh { IsFresh (H.stand shelf.old) }
+    ensures goes { Goes [] (seen D.state rig.old) (seen D.state rig.new) }
+    ensures runs { RunsTask H.Shelf W.Sink Task.Eval (names_of Task.Eval circuit.now stimulus.now)
+        (seen D.state rig.old) (seen D.state rig.new) shelf.old out.old shelf.new out.new result }
+{
+    let Ok(()) = shelf.open(Slot::First, circuit) else {
+        return Status::ReadFault;
+    };
+    let ordered = match read_circuit(rig, shelf) {
+        Ok(ordered) => ordered,
+        Err(stop) => return status_of(stop),
+    };
+    let Ok(()) = shelf.open(Slot::Second, stimulus) else {
+        return Status::ReadFault;
+    };
+    match evaluate(rig, ordered, shelf, out) {
+        Ok(()) => Status::Done,
+        Err(stop) => status_of(stop),
+    }
+}
