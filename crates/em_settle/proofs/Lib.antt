@@ -1,0 +1,10 @@
+pub mod Keys
+pub mod States
+pub mod Lists
+pub mod Sorts
+pub mod Turns
+pub mod Merges
+pub mod Laws
+pub mod Bags
+pub mod MapRows
+pub mod BagRows

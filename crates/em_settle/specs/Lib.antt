@@ -1,0 +1,10 @@
+pub mod Keys
+pub mod States
+pub mod Rising
+pub mod Lists
+pub mod Laws
+pub mod Map
+pub mod Bag
+pub mod Orders
+pub mod MapLaws
+pub mod BagLaws

@@ -1,0 +1,10 @@
+pub mod Frames
+pub mod Paths
+pub mod Entries
+pub mod Emptied
+pub mod Whole
+pub mod Blocks
+pub mod Least
+pub mod Roots
+pub mod Removed
+pub mod DeviceRows

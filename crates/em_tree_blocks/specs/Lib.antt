@@ -1,0 +1,4 @@
+pub mod Node
+pub mod Reading
+pub mod Paths
+pub mod Effects
