@@ -1,0 +1,4 @@
+pub mod OrderLaws
+pub mod Sifting
+pub mod Heaps
+pub mod HeapRows

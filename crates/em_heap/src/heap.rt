@@ -1,0 +1,154 @@
+//! A heap in an area.
+//!
+//! ```text
+//! area:  | heap: the least record first, the others in a heap's order | after the heap |
+//!        0                                                          len         capacity
+//! ```
+//!
+//! Kept here: the first `len` records are a heap (`IsHeap`). Left to others: what stands after them.
+//! After `upper_half` these are the records that it took out, in order.
+ghost use Rattle.std.specs.Prelude.{◌≡◌, ℕ, ◌+◌, ◌-◌, ◌/◌, ◌<◌, ◌≤◌, [], ◌++◌, length, take, drop, slice_get, IfNone, IfSome, option_to_list};
+ghost use Rattle.em_record.specs.Order.{with_record, IsAscending};
+
+use crate::front;
+use em_frames::Area;
+use em_record::Record;
+use std::marker::Model;
+
+/// A heap of records in an area. It can't be dropped: its area goes back to a pool.
+pub struct Heap {
+    area: Area,
+    len: usize,
+}
+
+impl Model for Heap {
+    ghost use Rattle.std.specs.Prelude.{length, drop};
+    ghost use Rattle.em_heap.specs.Heap.{IsHeap, heap_items};
+    ghost use Rattle.em_heap.specs.State.{HeapState};
+
+    ghost Value = { HeapState };
+
+    ghost view = { λ h. record {
+      items = heap_items h.area h.len;
+      len = h.len;
+      capacity = length h.area;
+      behind = drop h.len h.area;
+    } };
+
+    ghost invariant = { λ h. IsHeap h.area h.len };
+}
+
+impl Heap {
+    /// A heap of no records.
+    pub fn new(area: Area) -> Heap
+        ensures { result ≡ record { items = []; len = 0; capacity = length area; behind = area } }
+    {
+        Heap { area, len: 0 }
+    }
+
+    /// The heap of the first `len` records of an area, which stand in order.
+    #[tactic(auto, using(em_record::proofs::Commutes::order_ascending))]
+    pub fn filled(area: Area, len: usize) -> Heap
+        requires within { len ≤ length area }
+        requires ascending { IsAscending (take len area) }
+        ensures { result ≡ record {
+          items = take len area;
+          len = len;
+          capacity = length area;
+          behind = drop len area;
+        } }
+    {
+        Heap { area, len }
+    }
+
+    /// The number of its records. A heap of n records is their list in order.
+    pub fn len(&self) -> usize
+        ensures value { result ≡ self.now.len }
+        ensures items { result ≡ length self.now.items }
+        ensures within { result ≤ self.now.capacity }
+        ensures ascends { IsAscending self.now.items }
+    {
+        self.len
+    }
+
+    /// The number of records that the area has room for.
+    pub fn capacity(&self) -> usize
+        ensures { result ≡ self.now.capacity }
+    {
+        self.area.records().len()
+    }
+
+    /// Adds a record.
+    pub fn push(&mut self, item: Record)
+        requires room { self.old.len < self.old.capacity }
+        ensures { self.new ≡ record self.old {
+          items = with_record item self.old.items;
+          len = self.old.len + 1;
+          behind = self.new.behind;
+        } }
+    {
+        front::push(self.area.records_mut(), self.len, item);
+        self.len += 1;
+    }
+
+    /// The least of its records, or `None` if it has none.
+    pub fn peek(&self) -> Option<Record>
+        ensures first { result ≡ slice_get self.now.items 0 }
+        ensures none { IfNone result (self.now.len ≡ 0) }
+        ensures some { IfSome result (λ _. 0 < self.now.len) }
+    {
+        if self.len == 0 {
+            return None;
+        }
+        Some(front::peek(self.area.records(), self.len))
+    }
+
+    /// Takes the least of its records, or answers `None` if it has none.
+    pub fn pop(&mut self) -> Option<Record>
+        ensures first { result ≡ slice_get self.old.items 0 }
+        ensures none { IfNone result (self.old.len ≡ 0) }
+        ensures some { IfSome result (λ _. 0 < self.old.len) }
+        ensures items { self.old.items ≡ option_to_list result ++ self.new.items }
+        ensures len { self.new.len ≡ self.old.len - 1 }
+        ensures capacity { self.new.capacity ≡ self.old.capacity }
+    {
+        if self.len == 0 {
+            return None;
+        }
+        let least = front::pop(self.area.records_mut(), self.len);
+        self.len -= 1;
+        Some(least)
+    }
+
+    /// Keeps the least half of its records, rounded up, and answers the number of the others. These
+    /// stand after it in order, as `behind` gives them.
+    pub fn upper_half(&mut self) -> usize
+        ensures items { self.old.items ≡ self.new.items ++ take result self.new.behind }
+        ensures count { result ≡ self.old.len / 2 }
+        ensures len { self.new.len ≡ self.old.len - result }
+        ensures room { self.new.len + result ≤ self.new.capacity }
+        ensures capacity { self.new.capacity ≡ self.old.capacity }
+    {
+        let len = self.len;
+        let keep = front::halve(self.area.records_mut(), len);
+        self.len = keep;
+        len - keep
+    }
+
+    /// The first `count` records after the heap.
+    pub fn behind(&self, count: usize) -> &[Record]
+        requires room { self.now.len + count ≤ self.now.capacity }
+        ensures items { result.now ≡ take count self.now.behind }
+        ensures len { length result.now ≡ count }
+    {
+        &self.area.records()[self.len..self.len + count]
+    }
+
+    /// Gives its area back.
+    pub fn into_area(self) -> Area
+        ensures { length result ≡ self.capacity }
+    {
+        let Heap { area, len: _len } = self;
+        area
+    }
+}
