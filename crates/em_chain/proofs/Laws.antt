@@ -19,7 +19,7 @@ use Rattle.em_chain.specs.declared.chain.Chain.{Chain}
 use Rattle.em_chain.proofs.Blocks.{distinct_last, contents_append}
 use Rattle.em_chain.proofs.Lists.{follow, follow_all, last_block}
 use Rattle.em_chain.proofs.Views.{view_of, view_stays, packs}
-use Rattle.em_chain.proofs.Writers.{linked_at, pending_at}
+use Rattle.em_chain.proofs.Appending.{linked_at, pending_at}
 
 -- A chain over a call that leaves its blocks alone.
 pub chain_stays : (held : List ℕ) (s t : RigState) (c : Chain) → Touches held s t

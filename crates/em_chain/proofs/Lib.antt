@@ -1,3 +1,4 @@
+pub mod Appending
 pub mod Beside
 pub mod Blocks
 pub mod Counts
@@ -16,5 +17,11 @@ pub mod Sessions
 pub mod Tight
 pub mod Views
 pub mod Withins
-pub mod Writers
+pub mod WritersAppending
+pub mod WritersMaking
+pub mod WritersMembers
+pub mod WritersOpening
+pub mod WritersSession
+pub mod WritersStored
+pub mod WritersTaking
 pub mod Writings

@@ -23,7 +23,7 @@ use Rattle.em_chain.specs.declared.writer.Writer.{Writer}
 use Rattle.em_chain.proofs.Counts.{blocks_by, writer_blocks_are}
 use Rattle.em_chain.proofs.Keeps.{payload_kept}
 use Rattle.em_chain.proofs.Readers.{one_less}
-use Rattle.em_chain.proofs.Writers.{pos_of}
+use Rattle.em_chain.proofs.Appending.{pos_of}
 
 -- No call yet,
 pub wrote_none : {s : RigState} {w : Writer} → IsWriter s w → Wrote s s w w []

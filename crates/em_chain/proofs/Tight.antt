@@ -22,7 +22,7 @@ use Rattle.em_chain.proofs.Counts.{more_by}
 use Rattle.em_chain.proofs.Lists.{items_push, last_block, run_front}
 use Rattle.em_chain.proofs.Readers.{full_next, length_payload}
 use Rattle.em_chain.proofs.Sessions.{owed_least, owed_most}
-use Rattle.em_chain.proofs.Writers.{linked_at, pending_at}
+use Rattle.em_chain.proofs.Appending.{linked_at, pending_at}
 
 -- What is stored of a list that is being written, and its last block.
 record Ahead (s : RigState) (w : Writer) : Type 0 where

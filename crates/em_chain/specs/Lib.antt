@@ -11,4 +11,7 @@ pub mod Session
 pub mod View
 pub mod Within
 pub mod Writer
+pub mod Writers
+pub mod WritersSession
+pub mod WritersStored
 pub mod Writes

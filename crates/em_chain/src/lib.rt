@@ -6,9 +6,11 @@ mod block;
 mod chain;
 mod discarding;
 mod joining;
+mod member;
 mod parting;
 mod reader;
 mod writer;
+mod writers;
 
 pub use chain::Chain;
 pub use discarding::discard;
@@ -16,3 +18,4 @@ pub use joining::join;
 pub use parting::part_at;
 pub use reader::Reader;
 pub use writer::Writer;
+pub use writers::Writers;

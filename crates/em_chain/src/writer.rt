@@ -25,13 +25,13 @@ use em_space::{EmFault, Rig};
 /// last block stands until the next one begins. It can't be dropped: `finish` makes a chain of it,
 /// and after a fault `abandon` gives its frame back.
 pub struct Writer {
-    head: u64,
-    skip: u64,
-    tail: u64,
-    count: u64,
-    blocks: u64,
-    fill: u64,
-    frame: Frame,
+    pub(crate) head: u64,
+    pub(crate) skip: u64,
+    pub(crate) tail: u64,
+    pub(crate) count: u64,
+    pub(crate) blocks: u64,
+    pub(crate) fill: u64,
+    pub(crate) frame: Frame,
 }
 
 impl Writer {

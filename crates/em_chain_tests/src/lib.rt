@@ -2,9 +2,13 @@
 //! compared with them, for the tests of the crates above.
 #![tactic(auto)]
 
+mod groups;
 mod lists;
 
+pub use groups::deal;
 pub use lists::{extend, scans, takes, write};
 
 #[cfg(test)]
 mod chains;
+#[cfg(test)]
+mod grouped;

@@ -1,4 +1,3 @@
-pub mod OrderLaws
 pub mod Sifting
 pub mod Heaps
 pub mod HeapRows

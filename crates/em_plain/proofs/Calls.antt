@@ -16,7 +16,7 @@ use Rattle.em_chain.specs.Writes.{Appends, AppendCosts}
 use Rattle.em_chain.specs.declared.writer.Writer.{Writer}
 use Rattle.em_chain.proofs.Counts.{writer_blocks_are}
 use Rattle.em_chain.proofs.Withins.{within_grows}
-use Rattle.em_chain.proofs.Writers.{pos_of}
+use Rattle.em_chain.proofs.Appending.{pos_of}
 use Rattle.em_chain.proofs.Paying.{append_pays}
 use Rattle.em_plain.specs.Least.{TakesLeast}
 use Rattle.em_plain.specs.ScanQueue.{IsScanQueue, QueueHasFrame, counted, counts_of, settled}

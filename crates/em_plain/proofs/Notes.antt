@@ -9,7 +9,7 @@ use Rattle.std.proofs.lemmas.Nat.{mul-le}
 use Rattle.em_chain.specs.Chain.{payload_in}
 use Rattle.em_chain.specs.Counts.{ceiling}
 use Rattle.em_chain.specs.Writer.{CanGrow}
-use Rattle.em_chain.proofs.Writers.{pos_of}
+use Rattle.em_chain.proofs.Appending.{pos_of}
 use Rattle.em_chain.specs.Writes.{Appends, AppendCosts}
 use Rattle.em_chain.proofs.Counts.{writer_blocks_are}
 use Rattle.em_chain.proofs.Withins.{within_grows}

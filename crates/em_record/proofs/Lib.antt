@@ -3,3 +3,4 @@ pub mod Commutes
 pub mod Lacking
 pub mod Levels
 pub mod Order
+pub mod OrderLaws

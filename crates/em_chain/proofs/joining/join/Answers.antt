@@ -3,7 +3,7 @@ use Rattle.em_space.specs.Seen.{seen}
 use Rattle.em_chain.specs.Chain.{chain_blocks}
 use Rattle.em_chain.proofs.Laws.{chain_stays}
 use Rattle.em_chain.proofs.Joins.{joins_touch, touches_right, joins_ok}
-use Rattle.em_chain.proofs.Writers.{pos_of}
+use Rattle.em_chain.proofs.Appending.{pos_of}
 use Rattle.em_chain.proofs.joining.join.Goals as goal
 
 pub returns-in_err-second-clause-goes : goal.returns-in_err-second-clause-goes

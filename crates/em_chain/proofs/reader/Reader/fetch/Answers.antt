@@ -6,7 +6,7 @@ use Rattle.em_space.specs.Free.{header}
 use Rattle.em_space.specs.Seen.{seen}
 use Rattle.em_chain.specs.Reader.{rest_of}
 use Rattle.em_space.proofs.Steps.{untold_by}
-use Rattle.em_chain.proofs.Writers.{pos_of}
+use Rattle.em_chain.proofs.Appending.{pos_of}
 use Rattle.em_chain.proofs.Readers.{fetched, first_passes, head_is}
 use Rattle.em_chain.proofs.reader.Reader.fetch.Goals as goal
 

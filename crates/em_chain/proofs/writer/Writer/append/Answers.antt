@@ -2,7 +2,7 @@ use Rattle.std.proofs.Common.{List, arith, length, ap}
 use Rattle.em_record.specs.declared.record.Record.{Record}
 use Rattle.em_space.specs.Seen.{seen}
 use Rattle.em_chain.proofs.Sessions.{append_costs}
-use Rattle.em_chain.proofs.Writers.{put_is, pos_of}
+use Rattle.em_chain.proofs.Appending.{put_is, pos_of}
 use Rattle.em_chain.proofs.writer.Writer.append.Goals as goal
 
 pub returns-clause-appends : goal.returns-clause-appends

@@ -5,7 +5,7 @@ use Rattle.em_space.specs.Seen.{seen}
 use Rattle.em_space.proofs.Steps.{touches_then}
 use Rattle.em_space.proofs.Held.{in_use_kept}
 use Rattle.em_chain.proofs.Keeps.{stored_at}
-use Rattle.em_chain.proofs.Writers.{gives_last, last_used, pos_of}
+use Rattle.em_chain.proofs.Appending.{gives_last, last_used, pos_of}
 use Rattle.em_chain.proofs.Laws.{finish_is}
 use Rattle.em_chain.proofs.writer.Writer.finish.Goals as goal
 

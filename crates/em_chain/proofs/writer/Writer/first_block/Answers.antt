@@ -1,5 +1,5 @@
 use Rattle.em_space.specs.Seen.{seen}
-use Rattle.em_chain.proofs.Writers.{first_is}
+use Rattle.em_chain.proofs.Appending.{first_is}
 use Rattle.em_chain.proofs.writer.Writer.first_block.Goals as goal
 
 pub returns-clause-appends : goal.returns-clause-appends

@@ -2,7 +2,7 @@ use Rattle.std.proofs.Common.{◌-◌, ◌∷◌, [], rules, arith, ◌∙◌}
 use Rattle.em_space.specs.Seen.{seen}
 use Rattle.em_space.proofs.Steps.{touches_after}
 use Rattle.em_chain.proofs.Keeps.{stored_at}
-use Rattle.em_chain.proofs.Writers.{goes_last, next_is, new_in_use, last_in_use}
+use Rattle.em_chain.proofs.Appending.{goes_last, next_is, new_in_use, last_in_use}
 use Rattle.em_chain.proofs.writer.Writer.next_block.Goals as goal
 
 pub returns-in_err-store-clause-goes : goal.returns-in_err-store-clause-goes

@@ -8,7 +8,7 @@ use Rattle.em_space.specs.Seen.{seen}
 use Rattle.em_space.proofs.Steps.{touches_then, untold_by}
 use Rattle.em_space.proofs.Held.{in_use_kept}
 use Rattle.em_chain.proofs.Keeps.{tells_on}
-use Rattle.em_chain.proofs.Writers.{pos_of}
+use Rattle.em_chain.proofs.Appending.{pos_of}
 use Rattle.em_chain.proofs.Laws.{resume_by, tail_leads, tail_within, last_passes}
 use Rattle.em_chain.proofs.writer.Writer.resume.Goals as goal
 
