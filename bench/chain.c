@@ -26,7 +26,7 @@ static int write_all(const char *name, uint64_t count) {
     int good = 1;
     size_t filled = 0;
     for (uint64_t i = 0; good && i < count; i++) {
-        block[filled++] = (struct record){i, i * UINT64_C(2654435761), 1, 0};
+        block[filled++] = (struct record){i * UINT64_C(11400714819323198485), i + 1, 1, 0};
         if (filled == BLOCK || i + 1 == count) {
             good = fwrite(block, sizeof *block, filled, file) == filled;
             filled = 0;

@@ -2,7 +2,7 @@ use Rattle.std.proofs.Common.{◌∙◌, ap, arith}
 use Rattle.em_space.specs.Seen.{seen}
 use Rattle.em_space.proofs.Within.{within_then}
 use Rattle.em_chain.proofs.Withins.{within_ends}
-use Rattle.chain_bench.specs.Numbered.{sum_from}
+use Rattle.chain_bench.specs.Sums.{sum_from}
 use Rattle.chain_bench.proofs.Laws.{goes_taking}
 use Rattle.chain_bench.proofs.chains.take_all.Goals as goal
 

@@ -4,7 +4,7 @@ use Rattle.em_space.specs.Seen.{seen}
 use Rattle.em_chain.specs.Chain.{chain_blocks}
 use Rattle.em_chain.specs.Reader.{IsReader, reader_items, rest_of}
 use Rattle.em_space.specs.Held.{Within}
-use Rattle.chain_bench.specs.Numbered.{sum_from}
+use Rattle.chain_bench.specs.Sums.{sum_from}
 use Rattle.chain_bench.proofs.chains.take_all.Given as goal
 
 abbrev pub invariant-loop-item : goal.invariant-loop-item

@@ -1,0 +1,13 @@
+pub mod Groups
+pub mod Dealt
+pub mod Rounds
+pub mod Around
+pub mod AllDealt
+pub mod Poured
+pub mod Framed
+pub mod Emptied
+pub mod Grouped
+pub mod Shared
+pub mod Told
+pub mod Entries
+pub mod Returned

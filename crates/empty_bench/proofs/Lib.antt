@@ -1,0 +1,4 @@
+pub mod Ranges
+pub mod Entries
+pub mod Weights
+pub mod Emptying
