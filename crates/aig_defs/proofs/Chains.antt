@@ -58,7 +58,7 @@ uses_count c l =
     omega (arith, both, a, b, l.latches, l.outputs)
 
 -- the word a of a definition is its variable
-defs_words : {A : Type 0} (record_of : ℕ → A → Record) (literal : A → ℕ) (j : ℕ) (section : List A)
+pub defs_words : {A : Type 0} (record_of : ℕ → A → Record) (literal : A → ℕ) (j : ℕ) (section : List A)
     → ((j : ℕ) (a : A) → (record_of j a).a ≡ literal a / 2)
     → map (λ (r : Record). r.a) (numbered record_of j section) ≡ variables (map literal section)
 defs_words record_of literal j [] f = refl

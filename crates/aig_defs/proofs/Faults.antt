@@ -58,16 +58,16 @@ least_none (x ∷ xs) e u h = cc (e)
 abbrev pub Lists : (ℕ → Type 0) → List ℕ → Type 0
 Lists P xs = (u : ℕ) → (has xs u ≡ true) ↔ P u
 
-is_least : (P : ℕ → Type 0) (xs : List ℕ) (v : ℕ) → Lists P xs → reduce min xs ≡ Some v
+pub is_least : (P : ℕ → Type 0) (xs : List ℕ) (v : ℕ) → Lists P xs → reduce min xs ≡ Some v
     → IsLeast P v
 is_least P xs v l e =
     let p = least_of xs v e in
     record { is = (l v).0 p.is; below = λ u less h. omega (arith, p.below u ((l u).1 h), less) }
 
-is_nowhere : (P : ℕ → Type 0) (xs : List ℕ) → Lists P xs → reduce min xs ≡ None → Nowhere P
+pub is_nowhere : (P : ℕ → Type 0) (xs : List ℕ) → Lists P xs → reduce min xs ≡ None → Nowhere P
 is_nowhere P xs l e v h = least_none xs e v ((l v).1 h)
 
-least_unique : (P : ℕ → Type 0) (u v : ℕ) → IsLeast P u → IsLeast P v → u ≡ v
+pub least_unique : (P : ℕ → Type 0) (u v : ℕ) → IsLeast P u → IsLeast P v → u ≡ v
 least_unique P u v p q = elim (cases_order u v) [
   | inl same ↦ same
   | inr apart ↦ elim apart [
@@ -76,12 +76,12 @@ least_unique P u v p q = elim (cases_order u v) [
   ]
 ]
 
-least_some : (P : ℕ → Type 0) (xs : List ℕ) (v : ℕ) → Lists P xs → IsLeast P v → (o : Option ℕ)
+pub least_some : (P : ℕ → Type 0) (xs : List ℕ) (v : ℕ) → Lists P xs → IsLeast P v → (o : Option ℕ)
     → reduce min xs ≡ o → reduce min xs ≡ Some v
 least_some P xs v l p None e = absurd (is_nowhere P xs l e v p.is)
 least_some P xs v l p (Some u) e = e ∙ ap Some (least_unique P u v (is_least P xs u l e) p)
 
-nowhere_none : (P : ℕ → Type 0) (xs : List ℕ) → Lists P xs → Nowhere P → (o : Option ℕ)
+pub nowhere_none : (P : ℕ → Type 0) (xs : List ℕ) → Lists P xs → Nowhere P → (o : Option ℕ)
     → reduce min xs ≡ o → reduce min xs ≡ None
 nowhere_none P xs l n None e = e
 nowhere_none P xs l n (Some v) e = absurd (n v (is_least P xs v l e).is)
@@ -98,7 +98,7 @@ pub counted_has : (us : List ℕ) (v : ℕ) → 1 ≤ length (filter (λ u. eqb 
 counted_has [] v h = absurd (omega (arith, h))
 counted_has (u ∷ us) v h = count_by (eqb u v) u v us refl (counted_has us v) h
 
-twice_lists : (c : Circuit) → Lists (IsTwice c) (twice c)
+pub twice_lists : (c : Circuit) → Lists (IsTwice c) (twice c)
 twice_lists c v = (
   λ h. leb-true _ _ (filter_from (λ v. leb 2 (definition_count c v)) (definitions c) v h).1,
   λ t. filter_into (λ v. leb 2 (definition_count c v)) (definitions c) v (le-leb _ _ t)
@@ -115,7 +115,7 @@ undefined_parts c v u t =
     let parts : (eqb v 0 ≡ false) × (has (definitions c) v ≡ false) = or_parts _ _ (not-true _ t) in
     record { used = u; nonzero = eqb-false v 0 parts.0; undefined = λ d. let e = parts.1 in cc }
 
-undefined_lists : (c : Circuit) → Lists (IsUndefined c) (undefined c)
+pub undefined_lists : (c : Circuit) → Lists (IsUndefined c) (undefined c)
 undefined_lists c v = (
   λ h.
       let both = filter_from (no_definition c) (uses c) v h in
@@ -146,7 +146,7 @@ first_of_three a b d =
     option_or (option_map (λ v. (Twice, v)) a)
     (option_or (option_map (λ v. (Undefined, v)) b) (option_map (λ v. (Cyclic, v)) d))
 
-kind_of : (kind kind2 : AigKind) (v v2 : ℕ)
+pub kind_of : (kind kind2 : AigKind) (v v2 : ℕ)
     → ◌≡◌ {A = Option (AigKind × ℕ)} (Some (kind, v)) (Some (kind2, v2))
     → (kind ≡ kind2) × (v ≡ v2)
 kind_of kind kind2 v v2 e =

@@ -146,7 +146,7 @@ closed_by false true true e f h = cc
 closed_by false true false e f h = cc
 closed_by false false c e f h = cc
 
-passed_more : (gs : List Gate) (set : List ℕ) (v : ℕ) → has set v ≡ true
+pub passed_more : (gs : List Gate) (set : List ℕ) (v : ℕ) → has set v ≡ true
     → has (pass gs set) v ≡ true
 passed_more gs set v h =
     let p = pass_grows gs set in

@@ -9,14 +9,14 @@ use Rattle.aig_defs.specs.TextFault.{text_fault}
 use Rattle.aig_defs.proofs.TextRows.{and_gate, and_gate_text, toggle, half_adder, binary_adder, shift, constant, empty, binary_and}
 
 -- bits that are written as digits, and those of the lines of some steps
-abbrev bits : List ℕ → List Bool
+abbrev pub bits : List ℕ → List Bool
 bits digits = map (λ digit. digit == 49) digits
 
-abbrev lines : List (List ℕ) → List (List Bool)
+abbrev pub lines : List (List ℕ) → List (List Bool)
 lines steps = map bits steps
 
 -- the bits of two inputs in all four ways
-abbrev all_pairs : List (List Bool)
+abbrev pub all_pairs : List (List Bool)
 all_pairs = lines (codes "00" ∷ codes "01" ∷ codes "10" ∷ codes "11" ∷ [])
 
 and_gate_run : run_of and_gate all_pairs

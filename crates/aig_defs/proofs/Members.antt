@@ -1,6 +1,8 @@
 -- Elements of lists: numbers by their test, and any others by their places.
-use Rattle.std.proofs.Common.{◌⊎◌, inl, inr, ◌≡◌, ◌<◌, Bool, true, false, cond, eqb, List, [], ◌∷◌, ◌++◌, ℕ, zero, suc, sym, ap, ◌∙◌, refl, arith, length, get_or, filter, Contains}
+use Rattle.std.proofs.Common.{◌⊎◌, inl, inr, ◌≡◌, ◌<◌, ◌/◌, Bool, true, false, cond, eqb, List, [], ◌∷◌, ◌++◌, ℕ, zero, suc, sym, ap, ◌∙◌, refl, arith, length, get_or, filter, Contains}
 use Rattle.std.proofs.lemmas.Bool.{eqb-true, eq-eqb, or_cases, or_left, or_right}
+use Rattle.aig_defs.specs.declared.circuit.Gate.{Gate}
+use Rattle.aig_defs.specs.Circuit.{variables, left_sides}
 use Rattle.aig_defs.specs.Founded.{has}
 
 -- a number is the first of some, or one of the others
@@ -84,3 +86,45 @@ contains_rest x y xs c = (suc c.0, omega (arith, c.1), c.2)
 
 pub contains_none : {X : Type 0} (y : X) → Contains [] y → ⊥
 contains_none y c = absurd (omega (arith, c.1))
+
+-- an element of two lists one after the other
+pub contains_left : {X : Type 0} (xs ys : List X) (x : X) → Contains xs x → Contains (xs ++ ys) x
+contains_left [] ys x i = absurd (contains_none x i)
+contains_left (y ∷ xs) ys x i = elim (contains_cases y x xs i) [
+  | inl same ↦ contains_first y x (xs ++ ys) same
+  | inr j ↦ contains_rest y x (xs ++ ys) (contains_left xs ys x j)
+]
+
+pub contains_right : {X : Type 0} (xs ys : List X) (x : X) → Contains ys x → Contains (xs ++ ys) x
+contains_right [] ys x i = i
+contains_right (y ∷ xs) ys x i = contains_rest y x (xs ++ ys) (contains_right xs ys x i)
+
+pub contains_either : {X : Type 0} (xs ys : List X) (x : X) → Contains (xs ++ ys) x
+    → Contains xs x ⊎ Contains ys x
+contains_either [] ys x i = inr i
+contains_either (y ∷ xs) ys x i = elim (contains_cases y x (xs ++ ys) i) [
+  | inl same ↦ inl (contains_first y x xs same)
+  | inr j ↦ elim (contains_either xs ys x j) [
+    | inl k ↦ inl (contains_rest y x xs k)
+    | inr k ↦ inr k
+  ]
+]
+
+-- a gate of a variable
+pub record HasGate (gs : List Gate) (v : ℕ) : Type 0 where
+  pub gate : Gate
+  pub is : Contains gs gate
+  pub variable : gate.lhs / 2 ≡ v
+
+pub gate_with : (gs : List Gate) (v : ℕ) → has (variables (left_sides gs)) v ≡ true → HasGate gs v
+gate_with [] v h = cc
+gate_with (g ∷ gs) v h = elim (has_cases (g.lhs / 2) v (variables (left_sides gs)) h) [
+  | inl same ↦ record { gate = g; is = contains_first g g gs refl; variable = same }
+  | inr rest ↦
+      let other = gate_with gs v rest in
+      record {
+        gate = other.gate;
+        is = contains_rest g other.gate gs other.is;
+        variable = other.variable;
+      }
+]

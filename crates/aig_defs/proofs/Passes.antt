@@ -1,7 +1,7 @@
 -- The number of passes is the least after which another one adds nothing, and there are no more
 -- passes than gates.
-use Rattle.std.proofs.Common.{inl, inr, ◌≡◌, ◌≢◌, ◌+◌, ◌-◌, ◌<◌, ◌≤◌, ◌/◌, ◌↔◌, Bool, true, false, cond, eqb, ltb, List, [], ◌∷◌, ℕ, zero, suc, sym, ap, ◌∙◌, refl, subst, arith, length, Contains}
-use Rattle.std.proofs.lemmas.Bool.{not-true, eqb-true, eqb-false, cases_order}
+use Rattle.std.proofs.Common.{inl, inr, ◌≡◌, ◌≢◌, ◌+◌, ◌-◌, ◌<◌, ◌≤◌, ◌/◌, ◌↔◌, Bool, true, false, cond, eqb, ltb, ◌&&◌, not, List, [], ◌∷◌, ℕ, zero, suc, sym, ap, ◌∙◌, refl, subst, arith, length, Contains}
+use Rattle.std.proofs.lemmas.Bool.{not-true, and_left, not_from_true, eqb-true, eqb-false, cases_order}
 use Rattle.std.proofs.lemmas.List.{length-append}
 use Rattle.aig_defs.specs.declared.circuit.Gate.{Gate}
 use Rattle.aig_defs.specs.Circuit.{Circuit}
@@ -206,3 +206,19 @@ all_still c =
 pub founded_iff : (c : Circuit) (v : ℕ) → (has (passed c (length c.gates)) v ≡ true) ↔ IsFounded c v
 founded_iff c v =
     (passed_founded c (length c.gates) v, passed_complete c (length c.gates) (all_still c) v)
+
+-- a pass over gates that are all in the set leaves it
+leaves_by : (present : Bool) (set : List ℕ) (g : Gate) → has set (g.lhs / 2) ≡ present
+    → present ≡ true → after_gate set g ≡ set
+leaves_by present set g e t =
+    let there = e ∙ t in
+    let off = not_from_true _ there in
+    ap (λ b. cond b (g.lhs / 2 ∷ set) set)
+    (and_left (not (has set (g.lhs / 2))) (has set (g.rhs0 / 2) && has set (g.rhs1 / 2)) off)
+
+pub pass_leaves : (gs : List Gate) (set : List ℕ)
+    → ((g : Gate) → Contains gs g → has set (g.lhs / 2) ≡ true) → pass gs set ≡ set
+pass_leaves [] set f = refl
+pass_leaves (g ∷ gs) set f =
+    let here = leaves_by _ set g refl (f g (contains_first g g gs refl)) in
+    ap (pass gs) here ∙ pass_leaves gs set (λ h i. f h (contains_rest g h gs i))

@@ -4,7 +4,6 @@
 use Rattle.std.specs.Prelude.{◌≡◌, ℕ, ◌+◌, ◌*◌, ◌/◌, ◌%◌, ◌==◌, Bool, true, List, [], ◌∷◌, ◌++◌, length, get_or, All, Contains, if◌then◌else◌}
 use Rattle.em_record.specs.declared.record.Record.{Record}
 use Rattle.em_record.specs.Order.{in_order}
-use Rattle.aig_defs.specs.declared.circuit.Header.{Header}
 use Rattle.aig_defs.specs.declared.circuit.Gate.{Gate}
 use Rattle.aig_defs.specs.Circuit.{Circuit, IsCircuit, variables, currents, nexts, left_sides}
 use Rattle.aig_defs.specs.Founded.{has}
@@ -91,20 +90,3 @@ pub record IsOrder (c : Circuit) (order : List Gate) : Type 0 where
   pub all : (g : Gate) → Contains c.gates g → Contains order g
   pub follow : AllFollow (given_literals c) order
   pub ends : All (IsDefinedBy (ranked c order)) (ends c)
-
--- In a straight circuit the rank of a variable is the variable: the rank of what uses a literal, by
--- the class of the edge, and the variable or position that the edge leads to.
-abbrev pub straight_rank : Header → ℕ → ℕ → ℕ
-straight_rank h class t =
-    if class == 2 then 1 + h.inputs + h.latches + h.gates + t
-    else if class == 3 then 1 + h.inputs + 2 * h.latches + h.gates + t
-    else t
-
--- the edge between ranks of an edge of a straight circuit's graph
-abbrev pub straight_edge : Header → Record → Record
-straight_edge h e = record {
-  a = e.a;
-  b = 2 * straight_rank h (e.b % 4) (e.b / 4) + (if e.b % 4 == 1 then 1 else 0);
-  c = e.c;
-  d = 0;
-}

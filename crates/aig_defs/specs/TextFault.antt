@@ -1,14 +1,13 @@
 -- The first fault of a circuit's text: in words, and computed.
-use Rattle.std.specs.Prelude.{ℕ, List, Option, Some, None, if◌then◌else◌}
+use Rattle.std.specs.Prelude.{ℕ, List, Option, Some}
 use Rattle.aig_defs.specs.declared.fault.AigKind.{AigKind}
-use Rattle.aig_defs.specs.declared.fault.AigKind.TheVariants.{Unordered}
 use Rattle.aig_defs.specs.declared.form.Form.{Form}
 use Rattle.aig_defs.specs.declared.form.Form.TheVariants.{Ascii}
 use Rattle.aig_defs.specs.Circuit.{Circuit}
 use Rattle.aig_defs.specs.Items.{Reading, Reads, Fails, Item, ◌>>◌}
 use Rattle.aig_defs.specs.Order.{ascii_magic, after_magic, circuit_text, Spells, Breaks}
 use Rattle.aig_defs.specs.Faults.{IsFaultOf, IsFaultless, circuit_fault}
-use Rattle.aig_defs.specs.Straight.{is_straight}
+use Rattle.aig_defs.specs.Rising.{upward_fault}
 
 -- the first fault of a text: it breaks so, or it spells a circuit whose first fault this is
 pub data IsFaultOfText (x : List ℕ) (kind : AigKind) (place : ℕ) : Type 0 where
@@ -37,12 +36,13 @@ text_fault x = reading_fault (circuit_text 0 x)
 abbrev pub ascii_text : Item Circuit
 ascii_text = ascii_magic >> after_magic Ascii
 
--- the fault of a reading, else Unordered if the circuit that was read isn't straight
-abbrev pub straight_reading : Reading Circuit → Option (AigKind × ℕ)
-straight_reading (Reads c p x) = if is_straight c then None else Some (Unordered, 0)
-straight_reading (Fails kind place) = Some (kind, place)
+-- the fault of a reading, else the first fault of the circuit that was read, as long as only rising
+-- circuits are evaluated
+abbrev pub upward_reading : Reading Circuit → Option (AigKind × ℕ)
+upward_reading (Reads c p x) = upward_fault c
+upward_reading (Fails kind place) = Some (kind, place)
 
--- the first fault of a text, or none, as long as only the ASCII form and straight circuits can be
--- read
-abbrev pub straight_fault : List ℕ → Option (AigKind × ℕ)
-straight_fault x = straight_reading (ascii_text 0 x)
+-- the first fault of a text, or none, as long as only the ASCII form can be read, and only rising
+-- circuits are evaluated
+abbrev pub upward_text_fault : List ℕ → Option (AigKind × ℕ)
+upward_text_fault x = upward_reading (ascii_text 0 x)

@@ -86,7 +86,8 @@ past_stops {s} {t} {u} {r} {q} {n} {e} h g = record {
   cause = block_cause_after s t u e h.goes.touches g.cause;
 }
 
-nil_of : {A : Type 0} (xs : List A) → length xs ≡ 0 → xs ≡ []
+-- an empty list by its length
+pub nil_of : {A : Type 0} (xs : List A) → length xs ≡ 0 → xs ≡ []
 nil_of [] e = refl
 nil_of (x ∷ xs) e = absurd (omega arith)
 
@@ -164,10 +165,3 @@ stops_then {s = s} {t = t} {u = u} {e = e} h g = record {
   looks = looks_then h g.looks;
   cause = block_cause_after s t u e h.goes.touches g.cause;
 }
-
--- and the second list's answer is handed on.
-pub all_then : {A : Type 0} {m : ℕ} {s t : RigState} (n : ℕ) (u : RigState) (P Q : A → Type 0)
-    (result : Result A EmFault) → Looks m s t → LooksAll n t u P result
-    → (IsTrue s.device.told → (x : A) → P x → Q x) → LooksAll (m + n) s u Q result
-all_then n u P Q (Ok x) h g f = (looks_then h g.0, λ z. f z x (g.1 (h.goes.touches.told ∙ z)))
-all_then n u P Q (Err e) h g f = stops_then h g

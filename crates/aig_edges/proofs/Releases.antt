@@ -1,5 +1,6 @@
 -- The blocks of chains are released, one chain after another.
-use Rattle.std.proofs.Common.{◌≡◌, ℕ, ◌+◌, ◌<◌, ◌≤◌, List, [], ◌++◌, IsTrue, IfErr, Result, Ok, Err, ap, sym, ◌∙◌, arith}
+use Rattle.std.proofs.Common.{◌≡◌, ℕ, ◌+◌, ◌<◌, ◌≤◌, ◌*◌, List, [], ◌++◌, IsTrue, IfErr, Result, Ok, Err, ap, sym, ◌∙◌, arith}
+use Rattle.std.proofs.lemmas.List.{append-nil}
 use Rattle.em_space.specs.Held.{Apart, Holds}
 use Rattle.em_space.specs.Ledger.{Account, both, Runs, Stops}
 use Rattle.em_space.specs.Rig.{RigState, Goes, Touches, BlockCause}
@@ -7,14 +8,14 @@ use Rattle.em_space.specs.declared.fault.EmFault.{EmFault}
 use Rattle.em_space.proofs.Ledgers.{full_by, full_never}
 use Rattle.em_space.proofs.Lists.{apart_left, apart_right, apart_sym, distinct_apart}
 use Rattle.em_space.proofs.Paying.{pays_kept, pays_more}
-use Rattle.em_space.proofs.Runs.{runs_as, runs_first, runs_of, runs_then, runs_wider, stops_after, stops_first, stops_wider}
+use Rattle.em_space.proofs.Runs.{runs_as, runs_first, runs_of, runs_second, runs_then, runs_wider, stops_after, stops_first, stops_second, stops_wider}
 use Rattle.em_space.proofs.Steps.{block_cause}
 use Rattle.em_chain.specs.Chain.{IsChain, ChainStays, chain_blocks}
 use Rattle.em_chain.specs.Row.{Frees}
 use Rattle.em_chain.specs.declared.chain.Chain.{Chain}
 use Rattle.em_chain.proofs.Laws.{chain_stays}
 use Rattle.aig_text.specs.Draft.{chains_blocks}
-use Rattle.aig_edges.specs.Ranking.{ReleasesAll, releasing}
+use Rattle.aig_edges.specs.Ranking.{ReleasesAll, releasing, stored_account}
 
 -- other accounts of as many blocks, with as many moves to come at least
 pub runs_by : {p q : ℕ} {ks js : List ℕ} {a b : Account} {s t : RigState} (x y : Account) → p ≤ q
@@ -179,3 +180,62 @@ all_gone f g h (Ok u) x y go k c =
     runs_wider (omega arith) (runs_then x.runs (runs_then y.runs (discard_runs h u go k)))
 all_gone f g h (Err e) x y go k c = stops_wider (omega arith) (omega arith) (omega arith)
     (stops_after x.runs (stops_after y.runs (discard_stops h (Err e) e go k c)))
+
+-- A list was made beside values that stayed,
+pub made_beside : {p b q : ℕ} {js : List ℕ} {s t : RigState} (m k : ℕ) (ys zs : List ℕ)
+    → (IsTrue s.device.told → Holds s ys)
+    → Runs p [] js (stored_account 0 q) (stored_account b 0) s t
+    → (IsTrue s.device.told → zs ≡ ys)
+    → Runs (p + m) ys (js ++ zs) (stored_account m (q + k)) (stored_account (b + m) k) s t
+made_beside {p} {b} {q} {js} m k ys zs h r e =
+    runs_by {p = p + m} {a = both (stored_account 0 q) (stored_account m k)}
+    {b = both (stored_account b 0) (stored_account m k)}
+    (stored_account m (q + k)) (stored_account (b + m) k)
+    (omega arith) (omega arith) (omega arith) (omega arith) (omega arith) (omega arith)
+    (runs_as (js ++ zs) (runs_first ys (stored_account m k) h r)
+    (λ z. ap (λ (l : List ℕ). js ++ l) (e z)))
+
+-- or it wasn't.
+pub unmade_beside : {p q : ℕ} {s t : RigState} {e : EmFault} (m k : ℕ) (ys : List ℕ)
+    → Stops p 0 1 [] (stored_account 0 q) s t e
+    → Stops (p + m) 0 1 ys (stored_account m (q + k)) s t e
+unmade_beside {p} {q} m k ys h =
+    stops_by {p = p + m} {l = 0} {m = 0} {u = 1}
+    {a = both (stored_account 0 q) (stored_account m k)}
+    (stored_account m (q + k)) (omega arith) (omega arith) (omega arith) (omega arith)
+    (stops_first ys (stored_account m k) h)
+
+-- Values beside a list were released, and the list stayed.
+pub record ReleasedBeside (s t : RigState) (c : Chain) (m : ℕ) (ys : List ℕ) : Type 0 where
+  pub stays : ChainStays s t c
+  pub runs : Runs (c.blocks + m) (chain_blocks s c ++ ys) (chain_blocks t c)
+      (stored_account (c.blocks + m) (2 * m)) (stored_account c.blocks 0) s t
+
+pub released_beside : {m : ℕ} {ys : List ℕ} {s t : RigState} (c : Chain) → IsChain s c
+    → (IsTrue s.device.told → Holds s (chain_blocks s c ++ ys))
+    → Runs m ys [] (releasing m) (releasing 0) s t → ReleasedBeside s t c m ys
+released_beside {m} {ys} {s} {t} c i n h =
+    let cs = chain_blocks s c in
+    let st = chain_stays ys s t c h.session.touches
+    (λ z. distinct_apart cs ys ((n z).distinct z)) i in
+    record {
+      stays = st;
+      runs = runs_by {p = c.blocks + m} {a = both (stored_account c.blocks 0) (releasing m)}
+          {b = both (stored_account c.blocks 0) (releasing 0)}
+          (stored_account (c.blocks + m) (2 * m)) (stored_account c.blocks 0)
+          (omega arith) (omega arith) (omega arith) (omega arith) (omega arith) (omega arith)
+          (runs_as (chain_blocks t c) (runs_second cs (stored_account c.blocks 0) n h)
+          (λ z. st.blocks z ∙ sym (append-nil cs)));
+    }
+
+-- They weren't released.
+pub unreleased_beside : {m : ℕ} {ys : List ℕ} {s t : RigState} {e : EmFault} (c : Chain)
+    → Stops m 0 0 ys (releasing m) s t e
+    → Stops (c.blocks + m) 0 0 (chain_blocks s c ++ ys) (stored_account (c.blocks + m) (2 * m)) s t
+    e
+unreleased_beside {m} {s = s} c h =
+    stops_by {p = c.blocks + m} {l = 0} {m = 0} {u = 0}
+    {a = both (stored_account c.blocks 0) (releasing m)}
+    (stored_account (c.blocks + m) (2 * m))
+    (omega arith) (omega arith) (omega arith) (omega arith)
+    (stops_second (chain_blocks s c) (stored_account c.blocks 0) h)

@@ -10,7 +10,6 @@ use Rattle.aig_defs.specs.declared.circuit.Header.{Header}
 use Rattle.aig_defs.specs.Circuit.{Circuit, IsCircuit, IsHeader}
 use Rattle.aig_defs.specs.Graph.{graph_edges, graph_gates, graph_sources}
 use Rattle.aig_defs.specs.Ranks.{IsOrder, ordered_edges}
-use Rattle.aig_defs.specs.Straight.{IsStraight}
 use Rattle.aig_text.specs.Draft.{chains_blocks}
 use Rattle.aig_text.specs.Parts.{IsChainOf}
 use Rattle.aig_edges.specs.declared.graph.Graph.{Graph}
@@ -40,12 +39,6 @@ pub record IsGraphOf (s : RigState) (g : Graph) (c : Circuit) : Type 0 where
 pub record OfSomeGraph (s : RigState) (g : Graph) : Type 0 where
   pub circuit : Circuit
   pub is : IsGraphOf s g circuit
-
--- It is that of some circuit in straight order.
-pub record OfStraightCircuit (s : RigState) (g : Graph) : Type 0 where
-  pub circuit : Circuit
-  pub is : IsGraphOf s g circuit
-  pub straight : IsStraight circuit
 
 -- A graph: three chains, as long as the header says, whose blocks are apart. If the device tells,
 -- they are those of a circuit.

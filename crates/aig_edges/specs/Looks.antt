@@ -1,18 +1,11 @@
 -- What reading a list by a reader over it does: no block is taken, freed or changed.
-use Rattle.std.specs.Prelude.{◌≡◌, ℕ, ◌+◌, ◌≤◌, [], Bool, true, false, Result, Ok, Err, IsTrue}
+use Rattle.std.specs.Prelude.{◌≡◌, ℕ, ◌+◌, ◌≤◌, [], false, Result, Ok, Err, IsTrue}
 use Rattle.em_record.specs.declared.record.Record.{Record}
 use Rattle.em_space.specs.Rig.{RigState, Goes, BlockCause}
 use Rattle.em_space.specs.declared.fault.EmFault.{EmFault}
-use Rattle.em_chain.specs.Chain.{chain_items}
 use Rattle.em_chain.specs.Reader.{IsReader, owed}
 use Rattle.em_chain.specs.Reads.{Reads}
 use Rattle.em_chain.specs.declared.reader.Reader.{Reader}
-use Rattle.aig_defs.specs.Circuit.{Circuit}
-use Rattle.aig_defs.specs.Straight.{is_straight}
-use Rattle.aig_text.specs.Ascii.{ArePartsOf}
-use Rattle.aig_text.specs.declared.parts.Parts.{Parts}
-use Rattle.aig_edges.specs.Rules.{all_meet}
-use Rattle.aig_edges.specs.declared.rules.Rule.TheVariants.{Definitions}
 
 -- At most this many moves were made, and nothing but reading was done.
 pub record Looks (most : ℕ) (s t : RigState) : Type 0 where
@@ -54,9 +47,3 @@ abbrev pub LooksAll : {A : Type 0} → ℕ → RigState → RigState → (A → 
     → Type 0
 LooksAll most s t P (Ok x) = Looks most s t × (IsTrue s.device.told → P x)
 LooksAll most s t P (Err fault) = StopsLooking most s t fault
-
--- The answer says whether a circuit is in straight order, if the parts are its own. If it says so, the
--- definitions are numbered.
-pub record TellsStraight (s : RigState) (p : Parts) (answer : Bool) : Type 0 where
-  pub is : (c : Circuit) → ArePartsOf s p c → answer ≡ is_straight c
-  pub numbered : answer ≡ true → all_meet Definitions 0 (chain_items s p.defs) ≡ true

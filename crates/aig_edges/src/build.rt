@@ -1,12 +1,12 @@
-//! Makes the graph of a circuit's edges, which a queue puts in order:
+//! Makes the graph of a circuit's edges, whose lists a queue puts in order, one after another:
 //!
-//!     defs  [1 2 3 | 4 5]  is cut: those of inputs and latches are the sources, the others go
-//!     gates [g h]          stay, and two edges of each go into the queue
-//!     uses  [u v w]        are taken, and one edge of each goes into the queue
-//!     edges [e f ..]       come out of the queue in order
+//!     defs     [5 1 4 2]  are sorted, and read once: no variable may come twice
+//!     gates    [h g]      are sorted
+//!     edges    [e f ..]   of the sorted gates and of the uses are sorted
+//!     sources  [1 2]      and edges are what comparing definitions and edges writes
 //!
-//! Kept here: queue and lists have no block in common, and at each fault the queue is abandoned.
-//! Left to the queue: the order of the edges.
+//! Kept here: queue and lists have no block in common, and at each stop the queue is abandoned.
+//! Left to the queue: the order of each list. Left to `comparing`: which faults there are.
 
 ghost use Rattle.std.specs.Prelude.{◌≡◌, ◌+◌, ◌*◌, ◌++◌, IfOk, IsTrue, OnOk};
 ghost use Rattle.em_space.specs.Held.{Holds};
@@ -14,22 +14,27 @@ ghost use Rattle.em_space.specs.Rig.{Cause, Sound};
 ghost use Rattle.em_space.specs.Seen.{seen};
 ghost use Rattle.aig_text.specs.Ascii.{IfEm};
 ghost use Rattle.aig_text.specs.Parts.{IsParts, parts_blocks};
-ghost use Rattle.aig_edges.specs.Build.{BeginsBuild, BuildCosts, Builds, BuildsTo, OfStraightParts, StopsBuilding, StoresBuilt, UsesUp, build_moves, build_peak, parts_size};
-ghost use Rattle.aig_edges.specs.Graph.{edge_count};
+ghost use Rattle.aig_edges.specs.Build.{UsesUp, parts_size};
+ghost use Rattle.aig_edges.specs.BuildUpward.{BeginsSorting, BuildsUpward, SortCosts, StopsUpward, StoresSorted, sort_calls, sort_moves, sort_peak, sort_run};
+ghost use Rattle.aig_edges.specs.Making.{BuildsTo};
 
-use crate::cutting::cut_sources;
+use crate::comparing::{Compared, compare};
 use crate::graph::Graph;
-use crate::looking::is_straight;
-use crate::pushing::{pop_edges, push_edges};
+use crate::looking::twice;
+use crate::sorting::{Sorted, sort, sort_edges};
 use aig_defs::AigKind;
 use aig_text::{AigStop, Parts};
 use em_frames::Device;
-use em_space::{EmFault, Queue, Rig};
+use em_space::{Queue, Rig};
 
-/// Checks that a circuit is in straight order, and gives its graph. The queue, which has no item, is
-/// used up, and on Ok the parts' blocks are the graph's or were released. It stops with `Unordered`
-/// at place 0 if the circuit isn't in straight order, before anything is changed; with `Em` if a call
-/// on the rig or of the queue gave up; and never with `Read`.
+/// Checks that a circuit can be evaluated upwards by its variables, and gives its graph. The
+/// circuit's lines may stand in any order. The queue, which has no item, is used up, and on Ok the
+/// parts' blocks are the graph's or were released.
+///
+/// It stops with the first of these faults that the circuit has, at the least such variable: `Twice`
+/// if a variable is defined twice, `Undefined` if one is used and not defined, `Unordered` if a gate
+/// has an operand that is a gate's variable and isn't below its own. It stops with `Em` if a call on
+/// the rig or of the queue gave up, and never with `Read`.
 pub fn check_and_build<D: Device, Q: Queue>(
     rig: &mut Rig<'_, D>,
     parts: Parts,
@@ -38,69 +43,51 @@ pub fn check_and_build<D: Device, Q: Queue>(
     requires sound { Sound (seen D.state rig.old) }
     requires parts { IsParts (seen D.state rig.old) parts }
     requires queue { Q.IsQueue queue (seen D.state rig.old) }
-    requires begins { BeginsBuild (edge_count parts.header) (Q.counts queue)
-        (seen D.state rig.old) }
+    requires begins { BeginsSorting parts.header (Q.counts queue) (seen D.state rig.old) }
     requires holds { IsTrue (seen D.state rig.old).device.told
         → Holds (seen D.state rig.old) (Q.blocks queue (seen D.state rig.old)
         ++ parts_blocks (seen D.state rig.old) parts) }
     ensures uses_up { UsesUp (Q.blocks queue (seen D.state rig.old)
         ++ parts_blocks (seen D.state rig.old) parts)
         (Q.counts queue) (seen D.state rig.old) (seen D.state rig.new) }
-    ensures builds { IfOk result (Builds (Q.blocks queue (seen D.state rig.old)
+    ensures builds { IfOk result (BuildsUpward (Q.blocks queue (seen D.state rig.old)
         ++ parts_blocks (seen D.state rig.old) parts)
         (seen D.state rig.old) (seen D.state rig.new) parts) }
-    ensures stops { StopsBuilding (seen D.state rig.old) parts result }
-    ensures costs { BuildCosts Q.Queue (2 * edge_count parts.header)
-        (build_moves (seen D.state rig.old) parts) (parts_size parts)
-        (build_peak (seen D.state rig.old) parts)
+    ensures stops { StopsUpward (seen D.state rig.old) parts result }
+    ensures costs { SortCosts Q.Queue (sort_calls parts.header) (sort_run parts.header)
+        (sort_moves (seen D.state rig.old) parts) (parts_size parts)
+        (sort_peak (seen D.state rig.old) parts)
         (Q.counts queue) (seen D.state rig.old) (seen D.state rig.new) }
-    ensures stores { StoresBuilt (Q.counts queue) (seen D.state rig.old) (seen D.state rig.new)
+    ensures stores { StoresSorted (Q.counts queue) (seen D.state rig.old) (seen D.state rig.new)
         parts result }
     ensures cause { IfEm result (Cause (seen D.state rig.old) (seen D.state rig.new)) }
 {
-    match is_straight(rig, &parts) {
-        Ok(true) => {}
-        Ok(false) => {
-            queue.abandon(rig);
-            return Err(AigStop::Fault {
-                kind: AigKind::Unordered,
-                place: 0,
-            });
-        }
-        Err(fault) => {
-            queue.abandon(rig);
-            return Err(AigStop::Em(fault));
-        }
-    }
     match build(rig, parts, &mut queue) {
         Ok(graph) => {
             queue.end(rig)?;
             Ok(graph)
         }
-        Err(fault) => {
+        Err(stop) => {
             queue.abandon(rig);
-            Err(AigStop::Em(fault))
+            Err(stop)
         }
     }
 }
 
-/// The graph of a circuit in straight order. A fault is that of a call of the queue or of one on a
-/// list; after it the queue may only be abandoned.
+/// The graph of a circuit. A stop is the circuit's fault, or that of a call of the queue or of one
+/// on a list; after it the queue may only be abandoned.
 fn build<D: Device, Q: Queue>(
     rig: &mut Rig<'_, D>,
     parts: Parts,
     queue: &mut Q,
-) -> Result<Graph, EmFault>
+) -> Result<Graph, AigStop>
     requires sound { Sound (seen D.state rig.old) }
     requires parts { IsParts (seen D.state rig.old) parts }
     requires queue { Q.IsQueue queue.old (seen D.state rig.old) }
-    requires begins { BeginsBuild (edge_count parts.header) (Q.counts queue.old)
-        (seen D.state rig.old) }
+    requires begins { BeginsSorting parts.header (Q.counts queue.old) (seen D.state rig.old) }
     requires holds { IsTrue (seen D.state rig.old).device.told
         → Holds (seen D.state rig.old) (Q.blocks queue.old (seen D.state rig.old)
         ++ parts_blocks (seen D.state rig.old) parts) }
-    requires straight { IsTrue (seen D.state rig.old).device.told
-        → OfStraightParts (seen D.state rig.old) parts }
     ensures frames { Q.HasItsFrames queue.new (seen D.state rig.new) }
     ensures queue { OnOk result (Q.IsQueue queue.new (seen D.state rig.new)) }
     ensures builds { BuildsTo Q.Queue queue.old queue.new (seen D.state rig.old)
@@ -112,13 +99,16 @@ fn build<D: Device, Q: Queue>(
         gates,
         uses,
     } = parts;
-    let sources = cut_sources(rig, defs, header.inputs + header.latches)?;
-    push_edges(rig, queue, &gates, uses)?;
-    let edges = pop_edges(
-        rig,
-        queue,
-        2 * header.gates + header.latches + header.outputs,
-    )?;
+    let defs = sort(rig, queue, defs, Sorted::Definitions)?;
+    if let Some(place) = twice(rig, &defs)? {
+        return Err(AigStop::Fault {
+            kind: AigKind::Twice,
+            place,
+        });
+    }
+    let gates = sort(rig, queue, gates, Sorted::Gates)?;
+    let edges = sort_edges(rig, queue, &gates, uses)?;
+    let Compared { sources, edges } = compare(rig, defs, edges, header.inputs + header.latches)?;
     Ok(Graph {
         header,
         gates,

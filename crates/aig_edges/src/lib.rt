@@ -3,12 +3,12 @@
 #![tactic(auto)]
 
 mod build;
-mod cutting;
+mod comparing;
 mod graph;
 mod looking;
 mod pushing;
 mod ranking;
-mod rules;
+mod sorting;
 mod stop;
 
 pub use build::check_and_build;

@@ -1,16 +1,13 @@
 //! Reading lists of which nothing is taken.
 
-ghost use Rattle.std.specs.Prelude.{◌≡◌, ◌<◌, ◌≤◌, ◌+◌, ◌^◌, IsTrue, false, true};
+ghost use Rattle.std.specs.Prelude.{◌≡◌, ◌<◌, None, false};
 ghost use Rattle.em_space.specs.Rig.{Sound};
 ghost use Rattle.em_space.specs.Seen.{seen};
 ghost use Rattle.em_chain.specs.Chain.{IsChain, chain_items};
 ghost use Rattle.em_chain.specs.Reader.{IsReader, ReaderHasFrame, owed, reader_items, rest_of};
-ghost use Rattle.aig_text.specs.Parts.{IsParts};
-ghost use Rattle.aig_edges.specs.Looks.{LooksAll, LooksNext, TellsStraight};
-ghost use Rattle.aig_edges.specs.Rules.{all_meet};
+ghost use Rattle.aig_edges.specs.Looks.{LooksAll, LooksNext};
+ghost use Rattle.aig_edges.specs.Repeats.{TellsTwice, first_repeat, is_variable};
 
-use crate::rules::{Rule, meets};
-use aig_text::Parts;
 use em_chain::{Chain, Reader};
 use em_frames::Device;
 use em_record::Record;
@@ -36,62 +33,53 @@ pub(crate) fn next_record<D: Device>(
     Ok(item)
 }
 
-/// Whether a circuit is in straight order.
-pub(crate) fn is_straight<D: Device>(rig: &mut Rig<'_, D>, parts: &Parts) -> Result<bool, EmFault>
+/// The least variable that sorted definitions define twice, if there is one.
+pub(crate) fn twice<D: Device>(rig: &mut Rig<'_, D>, defs: &Chain) -> Result<Option<u64>, EmFault>
     requires sound { Sound (seen D.state rig.old) }
-    requires is { IsParts (seen D.state rig.old) parts.now }
+    requires is { IsChain (seen D.state rig.old) defs.now }
     requires free { 1 < (seen D.state rig.old).pool.free }
-    ensures done { LooksAll (parts.now.defs.blocks + parts.now.gates.blocks)
-        (seen D.state rig.old) (seen D.state rig.new)
-        (TellsStraight (seen D.state rig.old) parts.now) result }
+    ensures done { LooksAll defs.now.blocks (seen D.state rig.old) (seen D.state rig.new)
+        (TellsTwice (seen D.state rig.old) defs.now) result }
 {
-    let header = parts.header;
-    if header.max != header.inputs + header.latches + header.gates {
-        return Ok(false);
-    }
-    if !all_meet(rig, &parts.defs, Rule::Definitions)? {
-        return Ok(false);
-    }
-    all_meet(rig, &parts.gates, Rule::Gates)
-}
-
-/// Whether all records of a list meet a rule.
-fn all_meet<D: Device>(rig: &mut Rig<'_, D>, chain: &Chain, rule: Rule) -> Result<bool, EmFault>
-    requires sound { Sound (seen D.state rig.old) }
-    requires is { IsChain (seen D.state rig.old) chain.now }
-    requires free { 1 < (seen D.state rig.old).pool.free }
-    ensures done { LooksAll chain.now.blocks (seen D.state rig.old) (seen D.state rig.new)
-        (λ answer. answer ≡ all_meet rule 0 (chain_items (seen D.state rig.old) chain.now))
-        result }
-{
-    let mut reader = Reader::over(rig, chain);
-    let found = rest_meets(rig, &mut reader, chain.len(), rule);
+    let mut reader = Reader::over(rig, defs);
+    let found = rest_repeats(rig, &mut reader, defs.len());
     reader.abandon(rig);
     found
 }
 
-/// Whether the `count` records of a reader meet a rule, of which the first one has the number 0.
-fn rest_meets<D: Device>(
+/// Whether a variable was read before and is that of this record.
+fn repeats(before: Option<u64>, item: Record) -> bool
+    ensures { result ≡ is_variable before item }
+{
+    match before {
+        Some(variable) => variable == item.a,
+        None => false,
+    }
+}
+
+/// The first word a that two records one after the other have, of the `count` records of a reader.
+fn rest_repeats<D: Device>(
     rig: &mut Rig<'_, D>,
     reader: &mut Reader,
     count: u64,
-    rule: Rule,
-) -> Result<bool, EmFault>
+) -> Result<Option<u64>, EmFault>
     requires sound { Sound (seen D.state rig.old) }
     requires is { IsReader (seen D.state rig.old) reader.old }
     requires over { reader.old.taking ≡ false }
     requires count { (rest_of reader.old).count ≡ count }
     requires free { 0 < (seen D.state rig.old).pool.free }
     ensures done { LooksAll (owed reader.old) (seen D.state rig.old) (seen D.state rig.new)
-        (λ answer. answer ≡ all_meet rule 0 (reader_items (seen D.state rig.old) reader.old))
+        (λ answer. answer ≡ first_repeat None (reader_items (seen D.state rig.old) reader.old))
         result }
     ensures frame { ReaderHasFrame (seen D.state rig.new) reader.new }
 {
-    for number in 0..count {
+    let mut before = None;
+    for _ in 0..count {
         let item = next_record(rig, reader)?;
-        if !meets(rule, number, item) {
-            return Ok(false);
+        if repeats(before, item) {
+            return Ok(before);
         }
+        before = Some(item.a);
     }
-    Ok(true)
+    Ok(None)
 }

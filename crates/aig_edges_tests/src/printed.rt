@@ -69,10 +69,10 @@ fn print_chain<D: Device>(rt: &HostRuntime, rig: &mut Rig<'_, D>, edges: &Chain)
     Ok(())
 }
 
-/// Prints the line of a circuit that has no edges between ranks, with the blocks that stay in use.
-fn print_stop(rt: &HostRuntime, title: &str, stop: AigStop, used: u64) -> Result<(), Fail> {
+/// Prints the line of a circuit that has no edges between ranks.
+fn print_stop(rt: &HostRuntime, title: &str, stop: AigStop) -> Result<(), Fail> {
     match stop {
-        AigStop::Fault { kind, place } => println!(rt; "{title}: {kind:?} {place}, blocks {used}")?,
+        AigStop::Fault { kind, place } => println!(rt; "{title}: {kind:?} {place}")?,
         AigStop::Read => println!(rt; "{title}: the shelf failed")?,
         AigStop::Em(_) => println!(rt; "{title}: the device failed")?,
     }
@@ -98,7 +98,7 @@ fn print_ranks<D: Device>(
             print!(rt; "{title}: passes {passes}, blocks {used}, edges")?;
             print_chain(rt, rig, &ordered.edges)
         }
-        Err(stop) => print_stop(rt, title, stop, rig.used()),
+        Err(stop) => print_stop(rt, title, stop),
     }
 }
 

@@ -96,10 +96,11 @@ impl<Q: Queue> Evaluator<Q> {
     /// The slot was opened with Ok, at most 2^50 bytes of it were taken, and 2f + 10 single frames, an
     /// area and the rack are free. The line of outputs may be pending in the printer. `Fault` is the
     /// stimulus's first fault, and nothing was printed. `Read` and `Write` come only if the count of faults
-    /// of shelf or sink rose, and `Em` if a call on the rig gave up: then a front of the line went out or
-    /// is pending. After a stop only `abandon` may be called. At most `step_moves` moves are made beside
-    /// those of the queue, in at most two calls of it for each edge. A call of the queue comes only if a
-    /// line was read.
+    /// of shelf or sink rose, and `Em` if a call on the rig gave up: then, over a device and a shelf that
+    /// tell, a front of the line went out or is pending. After a stop only `abandon` may be called.
+    ///
+    /// The queue is called at most twice for each edge, and only if a byte of the stimulus was taken. Its
+    /// calls in all, with these, are below 2^98. Beside its moves at most `step_moves` are made.
     pub fn step<D: Device, H: Shelf, W: Sink>(
         &mut self,
         rig: &mut Rig<'_, D>,
@@ -178,8 +179,9 @@ impl<Q: Queue> Evaluator<Q> {
         Ok(())
     }
 
-    /// Releases all blocks, and gives the queue's frames back, after a fault too. Beside the
-    /// queue's moves it makes at most two for each block of the chains.
+    /// Releases all blocks, and gives the queue's frames back. After a fault the frames are back too, and
+    /// blocks may stay in use. It makes at most two moves for each block of the chains, beside what is
+    /// left of the queue's allowance, if it has one.
     pub fn end<D: Device>(self, rig: &mut Rig<'_, D>) -> Result<(), EmFault>
         requires sound { Sound (seen D.state rig.old) }
         requires is { IsEvaluator Q.Queue (seen D.state rig.old) self }

@@ -23,6 +23,15 @@ const TRUE: &str = "aag 0 0 0 1 0\n1\n";
 /// Nothing at all.
 const EMPTY: &str = "aag 0 0 0 0 0\n";
 
+/// A half adder, of which all lines are backwards: the second input comes first.
+const BACKWARDS: &str = "aag 5 2 0 2 3\n4\n2\n10\n6\n10 7 9\n8 3 5\n6 2 4\n";
+
+/// A latch with a greater variable than the gate that reads it. After the first 1 it stays 1.
+const ABOVE: &str = "aag 3 1 1 1 1\n2\n6 5\n6\n4 3 7\n";
+
+/// A half adder with a gate that uses gates of greater variables.
+const HALF_ADDER: &str = "aag 7 2 0 2 3\n2\n4\n6\n12\n6 13 15\n12 2 4\n14 3 5\n";
+
 fn main(rt: HostRuntime) -> Result<(), Fail> {
     print_evaluation(&rt, "an and gate", AND, "00\n01\n10\n11\n")?;
     print_evaluation(&rt, "a toggle", TOGGLE, "\n\n\n")?;
@@ -33,5 +42,8 @@ fn main(rt: HostRuntime) -> Result<(), Fail> {
     print_evaluation(&rt, "a carriage return", AND, "11\r\n")?;
     print_evaluation(&rt, "a letter", AND, "1x\n")?;
     print_evaluation(&rt, "no newline", AND, "11")?;
-    print_evaluation(&rt, "an empty stimulus", AND, "")
+    print_evaluation(&rt, "an empty stimulus", AND, "")?;
+    print_evaluation(&rt, "a half adder backwards", BACKWARDS, "00\n01\n10\n11\n")?;
+    print_evaluation(&rt, "a latch above its gate", ABOVE, "0\n1\n0\n0\n")?;
+    print_evaluation(&rt, "a gate of greater gates", HALF_ADDER, "00\n")
 }

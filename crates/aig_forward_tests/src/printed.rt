@@ -26,7 +26,7 @@ const PIECE: usize = 3;
 enum Ending {
     /// Nothing is left of the stimulus.
     Done,
-    /// The circuit or the stimulus has this fault. The place is a byte's offset.
+    /// The circuit or the stimulus has this fault. The place is a byte's offset, or a variable.
     Fault { kind: AigKind, place: u64 },
     /// The device, the shelf or the sink failed.
     Failed,

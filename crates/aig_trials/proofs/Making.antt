@@ -8,8 +8,9 @@ use Rattle.em_chain.specs.Effects.{LendsFrame}
 use Rattle.aig_text.specs.Parts.{IsParts, parts_blocks}
 use Rattle.aig_text.specs.declared.parts.Parts.{Parts}
 use Rattle.aig_text.proofs.PartsLaws.{parts_stay}
-use Rattle.aig_edges.specs.Build.{Builds}
-use Rattle.aig_edges.specs.Graph.{CanBuild, OfStraightCircuit}
+use Rattle.aig_edges.specs.BuildUpward.{BuildsUpward}
+use Rattle.aig_edges.specs.Graph.{CanBuild}
+use Rattle.aig_edges.specs.RankUpward.{OfUpwardCircuit}
 use Rattle.aig_edges.specs.declared.graph.Graph.{Graph}
 use Rattle.aig_trials.specs.Frames.{HasFrames}
 
@@ -33,18 +34,18 @@ pub parts_held : (t : RigState) (p : Parts) (ks : List ℕ) → ks ≡ [] → Is
 parts_held t p ks none i told =
     subst (λ (js : List ℕ). Holds t (js ++ parts_blocks t p)) (sym none) (i.blocks told)
 
--- The graph is that of a circuit in straight order.
-pub straight_built : {E : Type 0} (held : List ℕ) (t u : RigState) (p : Parts)
+-- The graph is that of a circuit that can be evaluated upwards.
+pub upward_built : {E : Type 0} (held : List ℕ) (t u : RigState) (p : Parts)
     (r : Result Graph E) → IsParts t p → u.device.told ≡ t.device.told
-    → IfOk r (Builds held t u p)
-    → IfOk r (λ (g : Graph). IsTrue u.device.told → OfStraightCircuit u g)
-straight_built held t u p (Err e) i same b = tt
-straight_built held t u p (Ok g) i same b = λ told.
+    → IfOk r (BuildsUpward held t u p)
+    → IfOk r (λ (g : Graph). IsTrue u.device.told → OfUpwardCircuit u g)
+upward_built held t u p (Err e) i same b = tt
+upward_built held t u p (Ok g) i same b = λ told.
     let back = sym same ∙ told in
     let k = i.stands back in
     let f = b.stands back in
     record {
       circuit = k.circuit;
       is = f.is k.circuit k.are;
-      straight = f.straight k.circuit k.are;
+      upward = f.upward k.circuit k.are;
     }

@@ -3,7 +3,8 @@ ghost use Rattle.std.specs.Prelude.{◌≡◌, IfOk, IsTrue, true};
 ghost use Rattle.em_space.specs.Seen.{seen};
 ghost use Rattle.aig_text.specs.Ascii.{GivesParts};
 ghost use Rattle.aig_text.specs.Parts.{IsParts};
-ghost use Rattle.aig_edges.specs.Graph.{IsGraph, IsOrdered, OfStraightCircuit};
+ghost use Rattle.aig_edges.specs.Graph.{IsGraph, IsOrdered};
+ghost use Rattle.aig_edges.specs.RankUpward.{OfUpwardCircuit};
 ghost use Rattle.aig_trials.specs.Frames.{HasFrames, LeavesFrames};
 
 use aig_edges::{Graph, Ordered, check_and_build, straight};
@@ -35,8 +36,8 @@ fn build<D: Device>(rig: &mut Rig<'_, D>, parts: Parts) -> Result<Graph, AigStop
     requires has { HasFrames (seen D.state rig.old) }
     ensures leaves { LeavesFrames (seen D.state rig.old) (seen D.state rig.new) }
     ensures is { IfOk result (IsGraph (seen D.state rig.new)) }
-    ensures straight { IfOk result (λ g. IsTrue (seen D.state rig.new).device.told
-        → OfStraightCircuit (seen D.state rig.new) g) }
+    ensures upward { IfOk result (λ g. IsTrue (seen D.state rig.new).device.told
+        → OfUpwardCircuit (seen D.state rig.new) g) }
 {
     let queue = ScanQueue::new(rig)?;
     check_and_build(rig, parts, queue)

@@ -1,5 +1,5 @@
 -- How the reading of a circuit ends: with edges between ranks, or a stop.
-use Rattle.std.proofs.Common.{◌≡◌, ℕ, ◌+◌, ◌-◌, ◌≤◌, ◌^◌, ◌⊎◌, inl, inr, ⊎_elim, Bool, [], ap, sym, ◌∙◌, arith, IsTrue, Result, Ok, IsErrAnd}
+use Rattle.std.proofs.Common.{◌≡◌, ℕ, ◌+◌, ◌-◌, ◌*◌, ◌≤◌, ◌^◌, ◌⊎◌, inl, inr, ⊎_elim, Bool, [], ap, sym, ◌∙◌, arith, IsTrue, Result, Ok, IsErrAnd}
 use Rattle.em_record.specs.Shape.{ShapeNumbers}
 use Rattle.em_io.specs.Feed.{Fed}
 use Rattle.em_io.specs.declared.shelf.Shelf.{Ghosts as ShelfGhosts}
@@ -18,7 +18,8 @@ use Rattle.aig_defs.specs.Begun.{circuit_size}
 use Rattle.aig_text.specs.Source.{Source, left, source}
 use Rattle.aig_text.proofs.Lines.{of_error}
 use Rattle.aig_edges.specs.Graph.{IsOrdered, edge_count, graph_blocks, graph_size, ordered_blocks}
-use Rattle.aig_edges.specs.Ranking.{RanksAll, ranked_room, stored_account, straight_moves}
+use Rattle.aig_edges.specs.RankUpward.{RanksEach, upward_moves}
+use Rattle.aig_edges.specs.Ranking.{ranked_room, stored_account}
 use Rattle.aig_edges.specs.declared.graph.Graph.{Graph}
 use Rattle.aig_edges.specs.declared.graph.Ordered.{Ordered}
 use Rattle.emtool.specs.EvalSize.{eval_room}
@@ -43,12 +44,12 @@ stopped_by h feed last shelf after s t stop result is r stops =
     })
 
 -- No edges were made of the graph.
-pub straight_stops : {tells : Bool} {a d : Source} {s v : RigState} {g : Graph} (w : RigState)
+pub ranks_stop : {tells : Bool} {a d : Source} {s v : RigState} {g : Graph} (w : RigState)
     (fault : EmFault) → IsUnused s → HasGraph tells a d s v g → Goes (graph_blocks v g) v w
-    → Halts (graph_size g + ranked_room v g) 0 1
-    (stored_account (graph_size g) (straight_moves v g)) v w fault
+    → Halts (graph_size g + 2 * ranked_room v g) 0 1
+    (stored_account (graph_size g) (upward_moves v g)) v w fault
     → Cause v w fault → StopsAt tells a d s w (Em fault)
-straight_stops {tells} {a} {d} {s} {v} {g} w fault unused h goes halts cause =
+ranks_stop {tells} {a} {d} {s} {v} {g} w fault unused h goes halts cause =
     stops_em 1 fault unused goes.sound (cause_after [] s v w fault h.session.touches cause)
     (owes_of_pays 0 1 1 (pays_then h.pays halts.pays halts.later) (omega arith)) (omega arith) most
   where
@@ -74,9 +75,9 @@ module _ {H : Type 0} (h : ShelfGhosts H) (feed last : Fed) (shelf after : H)
     (goes : Goes (graph_blocks v g) v w) (ordered : IsOrdered w o)
     (session : Session (graph_blocks v g) v w (ordered_blocks w o)) (header : o.header ≡ g.header)
     (room : o.edges.blocks ≡ ranked_room v g)
-    (ranks : IsTrue v.device.told → RanksAll v w g o)
-    (spends : Spends (graph_size g + ranked_room v g)
-    (stored_account (graph_size g) (straight_moves v g)) (stored_account o.edges.blocks 0) v w) where
+    (ranks : IsTrue v.device.told → RanksEach v w g o)
+    (spends : Spends (graph_size g + 2 * ranked_room v g)
+    (stored_account (graph_size g) (upward_moves v g)) (stored_account o.edges.blocks 0) v w) where
   abbrev a : Source
   a = source h feed shelf
 
@@ -92,9 +93,9 @@ module _ {H : Type 0} (h : ShelfGhosts H) (feed last : Fed) (shelf after : H)
         place = sp.place;
         reads = sp.reads;
         header = sp.header ∙ sym header;
-        straight = sp.straight;
+        upward = sp.upward;
         ranks = λ told. ranks (k.session.touches.told ∙ told) sp.circuit (sp.is told)
-            (sp.straight told);
+            (sp.upward told);
       }
 
   -- at no moment more blocks were in use than fit

@@ -18,18 +18,16 @@ use Rattle.em_chain.specs.Counts.{ceiling}
 use Rattle.em_chain.specs.Effects.{LendsFrame, Unmoved}
 use Rattle.em_plain.specs.ScanQueue.{QueueHasFrame, counts_of, fresh_counts}
 use Rattle.em_plain.specs.declared.scan_queue.ScanQueue.{ScanQueue}
-use Rattle.em_queued.specs.Queued.{Called}
 use Rattle.aig_defs.specs.declared.fault.AigKind.{AigKind}
-use Rattle.aig_defs.specs.declared.fault.AigKind.TheVariants.{Unordered}
 use Rattle.aig_defs.specs.declared.form.Form.TheVariants.{Ascii}
 use Rattle.aig_defs.specs.declared.circuit.Header.{Header}
 use Rattle.aig_defs.specs.Begun.{circuit_size}
 use Rattle.aig_defs.specs.Circuit.{Circuit, IsCircuit}
 use Rattle.aig_defs.specs.Items.{Reads}
-use Rattle.aig_defs.specs.Straight.{IsStraight}
-use Rattle.aig_defs.specs.TextFault.{ascii_text, straight_fault}
+use Rattle.aig_defs.specs.Rising.{IsUpward}
+use Rattle.aig_defs.specs.TextFault.{ascii_text, upward_text_fault}
 use Rattle.aig_defs.proofs.Ranges.{spelled_is}
-use Rattle.aig_defs.proofs.StraightText.{ascii_spells, crooked_unordered, straight_breaks}
+use Rattle.aig_defs.proofs.RisingText.{ascii_spells, upward_breaks, upward_faulty}
 use Rattle.aig_text.specs.Ascii.{ArePartsOf, GivesParts, IfEm, StandsFor, TakesAtMost, size_given}
 use Rattle.aig_text.specs.Parts.{IsParts, parts_blocks}
 use Rattle.aig_text.specs.Source.{Source, left}
@@ -39,8 +37,10 @@ use Rattle.aig_text.specs.declared.stop.AigStop.TheVariants as stop
 use Rattle.aig_text.proofs.Circuits.{ReadsAscii}
 use Rattle.aig_text.proofs.PartsLaws.{parts_of, parts_stay}
 use Rattle.aig_text.proofs.Texts.{size_whole}
-use Rattle.aig_edges.specs.Build.{Builds, StopsBuilding, StoresBuilt, UsesUp, build_peak, parts_size}
-use Rattle.aig_edges.specs.Graph.{IsGraph, IsGraphOf, OfStraightCircuit, edge_count, graph_blocks, graph_size}
+use Rattle.aig_edges.specs.Build.{UsesUp, parts_size}
+use Rattle.aig_edges.specs.BuildUpward.{BuildsUpward, CalledInRuns, StopsUpward, StoresSorted, sort_calls, sort_peak, sort_run}
+use Rattle.aig_edges.specs.Graph.{IsGraph, IsGraphOf, edge_count, graph_blocks, graph_size}
+use Rattle.aig_edges.specs.RankUpward.{OfUpwardCircuit}
 use Rattle.aig_edges.specs.Ranking.{ranked_room}
 use Rattle.aig_edges.specs.declared.graph.Graph.{Graph}
 use Rattle.emtool.specs.EvalSize.{eval_room}
@@ -69,7 +69,7 @@ fills_paid {s} {t} n used unused owes same few =
 
 -- a call on the rig gave up, on a rig of which no block was in use at first
 pub stops_em : {tells : Bool} {a d : Source} {s t : RigState} (n : ℕ) (fault : EmFault)
-    → IsUnused s → Sound t → Cause s t fault → Owes n s t → n ≤ t.pool.shape.frames + 1
+    → IsUnused s → Sound t → Cause s t fault → Owes n s t → n ≤ t.pool.shape.frames + 2
     → (IsTrue tells → t.most ≤ eval_room t.pool.shape (read_of a d) 0)
     → StopsAt tells a d s t (Em fault)
 stops_em n em.DeviceFault unused sound cause owes few most = record { cause = cause; full = tt }
@@ -91,7 +91,7 @@ stops_em n (em.Damaged block) unused sound cause owes few most =
 pub ascii_stops : {tells : Bool} {a b d : Source} {s t : RigState} (e : AigStop) → IsUnused s
     → ReadsOn tells a b d → ReadsAscii tells b d s t (Err e) → StopsAt tells a d s t (circuit_stop e)
 ascii_stops {a = a} (stop.Fault kind place) unused r h = record {
-  cause = λ z told. straight_breaks (text_of a) kind place (text_after r z ∙ h.gives z);
+  cause = λ z told. upward_breaks (text_of a) kind place (text_after r z ∙ h.gives z);
   full = tt;
 }
 ascii_stops stop.Read unused r h =
@@ -237,16 +237,16 @@ pub build_most : {tells : Bool} {a d : Source} {s u : RigState} {p : Parts} (v :
     (last : ScanQueue) (then : RigState) (c : QueueCounts) → HasParts tells a d s u p
     → c ≡ fresh_counts 1 0
     → QueueHasFrame then last → then.pool.shape ≡ u.pool.shape
-    → Called (2 * edge_count p.header) c (counts_of last)
+    → CalledInRuns (sort_calls p.header) (sort_run p.header) c (counts_of last)
     → v.most + (c.blocks + parts_size p) ≤ max (u.most + (c.blocks + parts_size p))
-    (u.used + (last.most + build_peak u p))
+    (u.used + (last.most + sort_peak u p))
     → v.pool.shape ≡ u.pool.shape → IsTrue tells
     → v.most ≤ eval_room v.pool.shape (read_of a d) 0
 build_most {tells} {a} {d} {s} {u} {p} v last then c h fresh frame shape called most same z =
     let low = h.sound.shape.block_low in
     let some : 0 < payload_of u.pool.shape = omega (arith, low) in
     let n : c.n ≡ 0 = ap (λ (x : QueueCounts). x.n) fresh in
-    let few : last.calls ≤ 2 * edge_count p.header = omega (arith, called.n, n) in
+    let few : last.calls ≤ sort_calls p.header = omega (arith, called.n, n) in
     let fits = build_fits u.pool.shape p.header some last.calls p.defs.blocks p.gates.blocks
     p.uses.blocks few h.fill.defs h.fill.gates h.fill.uses in
     let held : last.most ≤ ceiling last.calls (payload_of u.pool.shape) + 1 =
@@ -262,42 +262,39 @@ build_most {tells} {a} {d} {s} {u} {p} v last then c h fresh frame shape called 
 -- no graph was made
 pub build_stops : {tells : Bool} {a d : Source} {s u v : RigState} {p : Parts} {held : List ℕ}
     (c : QueueCounts) (e : AigStop) → IsUnused s → HasParts tells a d s u p
-    → c ≡ fresh_counts 1 0 → UsesUp held c u v → StopsBuilding u p (Err e)
-    → IfEm {A = Graph} (Err e) (Cause u v) → Pays c.unstored (u.pool.shape.frames + 1) u v
+    → c ≡ fresh_counts 1 0 → UsesUp held c u v → StopsUpward u p (Err e)
+    → IfEm {A = Graph} (Err e) (Cause u v) → Pays c.unstored (u.pool.shape.frames + 2) u v
     → (IsTrue tells → v.most ≤ eval_room v.pool.shape (read_of a d) 0)
     → StopsAt tells a d s v (circuit_stop e)
 build_stops {a = a} {u = u} {p = p} c (stop.Fault kind place) unused h fresh up stops cause pays most =
     record {
       cause = λ z told.
-          let text = text_of a in
           let sp = h.spells z in
-          let first = crooked_unordered text sp.circuit sp.place [] sp.reads
-          (λ st. stops.refused (h.session.touches.told ∙ told) sp.circuit (sp.are told) st) in
-          subst (λ (k : AigKind). straight_fault text ≡ Some (k, place)) (sym stops.kind_is)
-          (subst (λ (n : ℕ). straight_fault text ≡ Some (Unordered, n)) (sym stops.place_is) first);
+          upward_faulty (text_of a) sp.circuit sp.place [] kind place sp.reads
+          (stops.found (h.session.touches.told ∙ told) sp.circuit (sp.are told));
       full = tt;
     }
 build_stops c stop.Read unused h fresh up stops cause pays most = absurd stops
 build_stops {s = s} {u = u} {v = v} c (stop.Em fault) unused h fresh up stops cause pays most =
     let none : c.unstored ≡ 0 = ap (λ (x : QueueCounts). x.unstored) fresh in
-    let own : Pays 0 (u.pool.shape.frames + 1) u v =
-    subst (λ (n : ℕ). Pays n (u.pool.shape.frames + 1) u v) none pays in
+    let own : Pays 0 (u.pool.shape.frames + 2) u v =
+    subst (λ (n : ℕ). Pays n (u.pool.shape.frames + 2) u v) none pays in
     let all = pays_then h.pays own up.touches.moves in
     let frames : v.pool.shape.frames ≡ u.pool.shape.frames =
     ap (λ (x : ShapeNumbers). x.frames) up.touches.shape in
-    stops_em (u.pool.shape.frames + 1) fault unused up.sound
+    stops_em (u.pool.shape.frames + 2) fault unused up.sound
     (cause_after [] s u v fault h.session.touches cause)
-    (owes_of_pays 0 (u.pool.shape.frames + 1) (u.pool.shape.frames + 1) all (omega arith))
+    (owes_of_pays 0 (u.pool.shape.frames + 2) (u.pool.shape.frames + 2) all (omega arith))
     (omega (arith, frames)) most
 
--- The text spells a circuit, which has the graph's header. If the device tells, it is straight, and
--- the graph is its own.
+-- The text spells a circuit, which has the graph's header. If the device tells, it can be evaluated
+-- upwards, and the graph is its own.
 pub record SpellsGraph (told : Bool) (text : List ℕ) (v : RigState) (g : Graph) : Type 0 where
   pub circuit : Circuit
   pub place : ℕ
   pub reads : ascii_text 0 text ≡ Reads circuit place []
   pub header : circuit.header ≡ g.header
-  pub straight : IsTrue told → IsStraight circuit
+  pub upward : IsTrue told → IsUpward circuit
   pub is : IsTrue told → IsGraphOf v g circuit
 
 -- The graph was made, and its blocks are all that is in use.
@@ -308,10 +305,10 @@ pub record HasGraph (tells : Bool) (a d : Source) (s v : RigState) (g : Graph) :
   pub used : v.used ≡ graph_size g
   pub pays : Pays 0 0 s v
   pub peak : IsTrue tells
-      → graph_size g + ranked_room v g ≤ eval_room v.pool.shape (read_of a d) 0
+      → graph_size g + 2 * ranked_room v g ≤ eval_room v.pool.shape (read_of a d) 0
   pub most : IsTrue tells → v.most ≤ eval_room v.pool.shape (read_of a d) 0
   pub spells : IsTrue tells → SpellsGraph s.device.told (text_of a) v g
-  pub straight : IsTrue v.device.told → OfStraightCircuit v g
+  pub upward : IsTrue v.device.told → OfUpwardCircuit v g
   pub size : IsTrue tells → read_of a d ≡ circuit_size g.header
 
 -- The queue was used up: all frames are back, and no block that was in use at first was changed.
@@ -340,24 +337,20 @@ graph_goes {s = s} {u = u} {v = v} {p = p} c h fresh none up =
 module _ {tells : Bool} {a d : Source} {s u v : RigState} {p : Parts} {ks : List ℕ}
     (c : QueueCounts) (g : Graph) (h : HasParts tells a d s u p) (fresh : c ≡ fresh_counts 1 0)
     (none : ks ≡ []) (up : UsesUp (ks ++ parts_blocks u p) c u v)
-    (builds : Builds (ks ++ parts_blocks u p) u v p g) where
+    (builds : BuildsUpward (ks ++ parts_blocks u p) u v p g) where
   -- its blocks weren't in use at first
   graph_session : Session [] s v (graph_blocks v g)
   graph_session = session_trans h.session
       (subst (λ (l : List ℕ). Session (l ++ parts_blocks u p) u v (graph_blocks v g)) none builds.blocks)
 
-  -- graph and edges between ranks fit
+  -- graph and two lists of edges between ranks fit
   graph_peak : IsTrue tells
-      → graph_size g + ranked_room v g ≤ eval_room v.pool.shape (read_of a d) 0
+      → graph_size g + 2 * ranked_room v g ≤ eval_room v.pool.shape (read_of a d) 0
   graph_peak z =
       let low = h.sound.shape.block_low in
       let some : 0 < payload_of u.pool.shape = omega (arith, low) in
-      let sources = builds.sources in
-      let last : g.sources.blocks
-      ≤ ceiling (p.header.inputs + p.header.latches + p.header.gates) (payload_of u.pool.shape) + 1 =
-      omega (arith, sources, h.fill.defs) in
       let fits = ranks_fit u.pool.shape p.header some g.gates.blocks g.edges.blocks g.sources.blocks
-      (builds.gates ∙ h.fill.gates) builds.edges last in
+      builds.gates builds.edges builds.sources in
       let ranked : ranked_room v g ≡ ceiling (edge_count p.header) (payload_of u.pool.shape) =
       ap (λ (k : Header). ceiling (edge_count k) (payload_in v)) builds.header
       ∙ ap (λ (x : ShapeNumbers). ceiling (edge_count p.header) (payload_of x)) up.touches.shape in
@@ -376,25 +369,25 @@ module _ {tells : Bool} {a d : Source} {s u v : RigState} {p : Parts} {ks : List
         place = sp.place;
         reads = sp.reads;
         header = sp.header ∙ sym builds.header;
-        straight = λ told. (builds.stands (h.session.touches.told ∙ told)).straight sp.circuit
+        upward = λ told. (builds.stands (h.session.touches.told ∙ told)).upward sp.circuit
             (sp.are told);
         is = λ told. (builds.stands (h.session.touches.told ∙ told)).is sp.circuit (sp.are told);
       }
 
-  -- that circuit is straight
-  graph_straight : IsTrue v.device.told → OfStraightCircuit v g
-  graph_straight told =
+  -- that circuit can be evaluated upwards
+  graph_upward : IsTrue v.device.told → OfUpwardCircuit v g
+  graph_upward told =
       let before : IsTrue u.device.told = sym up.touches.told ∙ told in
       let some = h.is.stands before in
       let stands = builds.stands before in
       record {
         circuit = some.circuit;
         is = stands.is some.circuit some.are;
-        straight = stands.straight some.circuit some.are;
+        upward = stands.upward some.circuit some.are;
       }
 
   -- The graph was made.
-  pub has_graph : StoresBuilt c u v p (Ok g)
+  pub has_graph : StoresSorted c u v p (Ok g)
       → (IsTrue tells → v.most ≤ eval_room v.pool.shape (read_of a d) 0)
       → HasGraph tells a d s v g
   has_graph stores most =
@@ -410,6 +403,6 @@ module _ {tells : Bool} {a d : Source} {s u v : RigState} {p : Parts} {ks : List
         peak = graph_peak;
         most = most;
         spells = graph_spelled;
-        straight = graph_straight;
+        upward = graph_upward;
         size = λ z. h.size z ∙ ap (λ (k : Header). circuit_size k) (sym builds.header);
       }

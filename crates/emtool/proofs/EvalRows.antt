@@ -1,7 +1,7 @@
 -- Worked evaluations: what is due of them, and their size.
 use Rattle.std.specs.Prelude.{◌≡◌, ℕ, List, [], ◌∷◌, true, false, codes, map, refl}
 use Rattle.em_io.specs.Shelf.{SlotState}
-use Rattle.aig_defs.specs.declared.fault.AigKind.TheVariants.{Extension, LiteralRange, StimLength, Unordered}
+use Rattle.aig_defs.specs.declared.fault.AigKind.TheVariants.{Extension, LiteralRange, StimLength, Twice, Undefined, Unordered}
 use Rattle.emtool.specs.EvalDue.{eval_output, eval_status}
 use Rattle.emtool.specs.EvalSize.{circuit_read, passes_read, steps_read}
 use Rattle.emtool.specs.declared.status.Malform.TheVariants.{Aig}
@@ -15,6 +15,15 @@ conjunction = codes "aag 3 2 0 1 1\n2\n4\n6\n6 2 4\n"
 -- a latch of which the next bit is its negation
 abbrev toggle : List ℕ
 toggle = codes "aag 1 0 1 2 0\n2 3\n2\n3\n"
+
+-- the same as the conjunction by two gates, of which the greater one comes first
+abbrev late_line : List ℕ
+late_line = codes "aag 4 2 0 1 2\n2\n4\n8\n8 6 2\n6 2 4\n"
+
+-- a latch with a greater variable than the gate that reads it, which is 1 after the first 1 of the
+-- input
+abbrev above : List ℕ
+above = codes "aag 3 1 1 1 1\n2\n6 5\n6\n4 3 7\n"
 
 -- circuit and stimulus, and the status and the output that are due
 abbrev Row : Type 0
@@ -32,7 +41,14 @@ evaluations : Hold (
     ∷ ((toggle, codes "\n\n\n"), (Done, codes "01\n10\n01\n"))
     ∷ ((codes "aag 3 2 0 1 1 0\n", codes "00\n"), (Malformed (Aig Extension) 13, []))
     ∷ ((codes "aag 3 2 0 1 1\n2\n4\n9\n6 2 4\n", []), (Malformed (Aig LiteralRange) 18, []))
-    ∷ ((codes "aag 5 1 0 1 1\n2\n6\n6 2 10\n", codes "0\n"), (Malformed (Aig Unordered) 0, []))
+    ∷ ((late_line, codes "00\n01\n10\n11\n"), (Done, codes "0\n0\n0\n1\n"))
+    ∷ ((above, codes "0\n1\n0\n0\n"), (Done, codes "0\n0\n1\n1\n"))
+    ∷ ((codes "aag 5 1 0 1 1\n2\n6\n6 2 10\n", codes "0\n"), (Malformed (Aig Undefined) 5, []))
+    ∷ ((codes "aag 5 1 0 1 2\n2\n6\n6 2 10\n6 2 2\n", []), (Malformed (Aig Twice) 3, []))
+    ∷ (
+      (codes "aag 4 1 0 1 3\n2\n4\n4 2 6\n6 2 8\n8 2 6\n", codes "0\n"),
+      (Malformed (Aig Unordered) 2, []),
+    )
     ∷ [])
 evaluations = refl
 

@@ -14,9 +14,9 @@ use Rattle.aig_defs.specs.declared.circuit.Header.{Header}
 use Rattle.aig_defs.specs.declared.fault.AigKind.{AigKind}
 use Rattle.aig_defs.specs.Items.{Reads}
 use Rattle.aig_defs.specs.Stimulus.{output_lines, steps_begun, stimulus_of}
-use Rattle.aig_defs.specs.TextFault.{ascii_text, straight_fault}
+use Rattle.aig_defs.specs.TextFault.{ascii_text, upward_text_fault}
 use Rattle.aig_defs.specs.Value.{run_of}
-use Rattle.aig_defs.proofs.StraightText.{straight_none}
+use Rattle.aig_defs.proofs.RisingText.{upward_text_none}
 use Rattle.aig_defs.specs.Begun.{circuit_size}
 use Rattle.aig_edges.specs.declared.graph.Ordered.{Ordered}
 use Rattle.emtool.specs.Asked.{asked_of_eval}
@@ -51,7 +51,7 @@ module _ (tells : Bool) (x y stimulus : List ℕ) (e : IsTrue tells → x ≡ y)
   circuit_cause faults later a c (Fault (Text kind) line) cause = absurd cause
   circuit_cause faults later a c (Fault (Aig kind) place) cause = λ t d.
       fault_due y stimulus kind place
-      (subst (λ (v : List ℕ). straight_fault v ≡ Some (kind, place)) (e t) (cause t d))
+      (subst (λ (v : List ℕ). upward_text_fault v ≡ Some (kind, place)) (e t) (cause t d))
   circuit_cause faults later a c Read cause = cause
   circuit_cause faults later a c Write cause = absurd cause
   circuit_cause faults later a c (Em fault) cause = cause
@@ -93,7 +93,7 @@ module _ (tells : Bool) (x y stimulus : List ℕ) (e : IsTrue tells → x ≡ y)
           let first = cause t (subst (λ (v : DeviceState). IsTrue v.told) before d) in
           same ∙ sym (rule.nothing old.output ok)
           ∙ ap (took old.output) (sym (nothing_due y stimulus kind place
-          (subst (λ (v : List ℕ). straight_fault v ≡ Some (kind, place)) (e t) first)));
+          (subst (λ (v : List ℕ). upward_text_fault v ≡ Some (kind, place)) (e t) first)));
       part = λ t d. part_none;
     }
     circuit_stopped faults later a c Read before cause =
@@ -114,9 +114,9 @@ module _ (tells told : Bool) (x y z w : List ℕ) (m : RigState) (o : Ordered)
       (spells t).reads
 
   -- the circuit has no fault
-  pub none_first : IsTrue tells → IsTrue told → straight_fault y ≡ None
-  none_first t d = straight_none y (spells t).circuit (spells t).place [] (reads_file t)
-      ((spells t).straight d)
+  pub none_first : IsTrue tells → IsTrue told → upward_text_fault y ≡ None
+  none_first t d = upward_text_none y (spells t).circuit (spells t).place [] (reads_file t)
+      ((spells t).upward d)
 
   -- the status is that of the stimulus's first fault, or of none
   pub status_after : (fault : Option (AigKind × ℕ)) → IsTrue tells → IsTrue told

@@ -46,8 +46,8 @@ asked_of_file kind text = record {
   most_told = counts_pairs kind;
 }
 
--- What an evaluation asks, by the texts of the circuit and of the stimulus. Whether the circuit is in
--- straight order is found from what the device gives back.
+-- What an evaluation asks, by the texts of the circuit and of the stimulus. Whether the circuit has
+-- a fault is found from what the device gives back.
 abbrev pub asked_of_eval : List ℕ → List ℕ → Asked
 asked_of_eval circuit stimulus = record {
   status = eval_status circuit stimulus;

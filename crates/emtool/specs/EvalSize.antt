@@ -51,8 +51,8 @@ passes_read circuit = passes_after (ascii_text 0 circuit)
 abbrev pub eval_cost : ShapeNumbers → ℕ → ℕ → ℕ → ℕ
 eval_cost shape size steps passes = (steps + passes + 2) * cost shape (2 * size)
 
--- The most blocks that an evaluation may hold: those of its queue, which has at most 2E calls for the
--- graph, or 2E for each step; and those of at most eight lists of E records.
+-- The most blocks that an evaluation may hold: those of its queue, which has at most 4E calls for
+-- the graph, or 2E for each step; and those of at most eight lists of E records.
 abbrev pub eval_room : ShapeNumbers → ℕ → ℕ → ℕ
 eval_room shape size steps = 3 * (ceiling ((steps + 1) * (2 * size)) (payload_of shape) + 2)
     + 8 * (ceiling size (payload_of shape) + 2)

@@ -17,12 +17,12 @@ use Rattle.aig_defs.specs.declared.circuit.Gate.{Gate}
 use Rattle.aig_defs.specs.Begun.{circuit_size}
 use Rattle.aig_defs.specs.Circuit.{Circuit}
 use Rattle.aig_defs.specs.Items.{Reads}
+use Rattle.aig_defs.specs.Rising.{IsUpward}
 use Rattle.aig_defs.specs.Stimulus.{Stimulus, output_lines, steps_begun, stimulus_of}
-use Rattle.aig_defs.specs.Straight.{IsStraight}
-use Rattle.aig_defs.specs.TextFault.{ascii_text, straight_fault}
+use Rattle.aig_defs.specs.TextFault.{ascii_text, upward_text_fault}
 use Rattle.aig_defs.specs.Value.{run_from, run_of}
 use Rattle.aig_edges.specs.Graph.{IsOrdered, edge_count, ordered_blocks}
-use Rattle.aig_edges.specs.Ranking.{RanksFor}
+use Rattle.aig_edges.specs.RankUpward.{RanksUpwards}
 use Rattle.aig_edges.specs.declared.graph.Ordered.{Ordered}
 use Rattle.aig_forward.specs.Evaluator.{Evaluates, HasEvaluatorFrames, IsEvaluator, evaluator_blocks}
 use Rattle.aig_forward.specs.Outputs.{KeepsFront}
@@ -36,15 +36,15 @@ use Rattle.emtool.specs.declared.status.Malform.TheVariants.{Text, Aig}
 use Rattle.emtool.specs.declared.stop.Stop.{Stop}
 use Rattle.emtool.specs.declared.stop.Stop.TheVariants.{Fault, Read, Write, Em}
 
--- The text spells a circuit, whose header the edges have. If the device tells, it is in straight order,
--- and the edges are those between its ranks.
+-- The text spells a circuit, whose header the edges have. If the device tells, it can be evaluated
+-- upwards, and the edges are those between its ranks.
 pub record SpellsEdges (told : Bool) (text : List ℕ) (t : RigState) (o : Ordered) : Type 0 where
   pub circuit : Circuit
   pub place : ℕ
   pub reads : ascii_text 0 text ≡ Reads circuit place []
   pub header : circuit.header ≡ o.header
-  pub straight : IsTrue told → IsStraight circuit
-  pub ranks : IsTrue told → RanksFor t o circuit
+  pub upward : IsTrue told → IsUpward circuit
+  pub ranks : IsTrue told → RanksUpwards t o circuit
 
 -- Edges between ranks were made of the whole text, in a packed list, and all their blocks were stored.
 pub record MakesEdges {H : Type 0} (h : ShelfGhosts H) (s t : RigState) (shelf shelf_after : H)
@@ -67,7 +67,7 @@ pub record MakesEdges {H : Type 0} (h : ShelfGhosts H) (s t : RigState) (shelf s
 abbrev pub CircuitCause : Bool → List ℕ → Faults → Faults → RigState → RigState → Stop → Type 0
 CircuitCause tells text faults after old new (Fault (Text kind) line) = ⊥
 CircuitCause tells text faults after old new (Fault (Aig kind) place) =
-    IsTrue tells → IsTrue old.device.told → straight_fault text ≡ Some (kind, place)
+    IsTrue tells → IsTrue old.device.told → upward_text_fault text ≡ Some (kind, place)
 CircuitCause tells text faults after old new Read = Rose faults.read after.read
 CircuitCause tells text faults after old new Write = ⊥
 CircuitCause tells text faults after old new (Em fault) = Cause old new fault
@@ -238,7 +238,7 @@ pub record RunsSteps {H W : Type 0} (h : ShelfGhosts H) (w : SinkGhosts W) (s t 
   pub ends : IsTrue h.tells
       → EndsSteps (stimulus_of o.header.inputs ((h.stand shelf).slot Second).left) result
   pub end : OnOk result (IsAllRead h.tells ((h.stand shelf_after).slot Second))
-  pub prints : IsTrue h.tells → IsTrue s.device.told → (c : Circuit) → RanksFor s o c
+  pub prints : IsTrue h.tells → IsTrue s.device.told → (c : Circuit) → RanksUpwards s o c
       → PrintsAll w.took (output_lines (run_of c
       (stimulus_of o.header.inputs ((h.stand shelf).slot Second).left).steps))
       (w.state out) (w.state out_after) result

@@ -58,14 +58,14 @@ moves_of run = run.new.device.moves - run.old.device.moves
 abbrev pub room_of : Run → ℕ
 room_of run = stated_room run.due.job run.due.texts run.new.stand.slot
 
--- If the input was read to its end or to its first fault, status and output are the ones due.
+-- If the status is Done or Malformed, status and output are the ones due.
 abbrev pub GivesDue : Result Run Usage → Status → Type 0
 GivesDue (Ok run) status = IsTold run
     → OnEnd status ((status ≡ run.due.asked.status)
     × (run.new.output ≡ run.took run.old.output run.due.asked.output))
 GivesDue (Err usage) status = Unit {0}
 
--- If the input was read to its end or to its first fault, the status is the one due, whether the
+-- If the status is Done or Malformed, the status is the one due, whether the
 -- device tells its contents or not, unless the task says otherwise.
 abbrev pub EndsAsDue : Result Run Usage → Status → Type 0
 EndsAsDue (Ok run) status = IsTrue run.tells

@@ -32,7 +32,7 @@ abbrev pub OnDone : Status → Type 0 → Type 0
 OnDone Done P = P
 OnDone other P = Unit {0}
 
--- P, where the input was read to its end or to its first fault
+-- P, if the status is Done or Malformed
 abbrev pub OnEnd : Status → Type 0 → Type 0
 OnEnd Done P = P
 OnEnd (Malformed kind place) P = P

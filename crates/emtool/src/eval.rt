@@ -3,10 +3,10 @@
 //!     circuit   text -> parts -> graph -> edges between ranks     (first slot)
 //!     stimulus  a line -> a step -> a line of the output          (second slot)
 //!
-//! The second slot is opened only after the whole circuit was read and found to be in straight
-//! order. Kept here: at each exit all frames are back, and the lines of the steps that were made were
-//! sent, unless the output failed (at a stop of shelf or rig the contract says a front of them). Left
-//! to the layers below: what a circuit, a step and a line are.
+//! The second slot is opened only after the whole circuit was read and found to have no fault. Kept
+//! here: at each exit all frames are back, and the lines of the steps that were made were sent,
+//! unless the output failed (at a stop of shelf or rig the contract says a front of them). Left to
+//! the layers below: what a circuit, a step and a line are.
 
 ghost use Rattle.std.specs.Prelude.{◌≡◌, true, []};
 ghost use Rattle.em_io.specs.Shelf.{IsFresh};

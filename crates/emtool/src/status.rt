@@ -43,8 +43,8 @@ pub struct Usage {
 pub enum Malform {
     /// A line of a command file; the place is the line's number, from 1.
     Text(TextKind),
-    /// A circuit or a stimulus. The place is a byte's offset; for `Twice`, `Undefined` and `Cyclic`
-    /// it is the variable.
+    /// A circuit or a stimulus. The place is a byte's offset; for `Twice`, `Undefined`, `Cyclic` and
+    /// `Unordered` it is the variable.
     Aig(AigKind),
 }
 
@@ -65,11 +65,12 @@ pub enum Status {
     DeviceFault,
     /// The device has `used` blocks, and a block more was needed.
     Full { used: u64 },
-    /// There was no memory for the frames, or for what the device keeps. Nothing was read or
-    /// printed.
+    /// There was no memory for the frames, or for what the device keeps. Nothing was read, and nothing
+    /// printed on the output.
     NoMemory,
-    /// The block of this number, which was read, isn't laid out as it was left. It never comes over
-    /// a device that tells its contents.
+    /// The block of this number isn't laid out as it was left, or a list in the scratch device has
+    /// another number of records than it should; 0 stands for a block if no one is to blame. It never
+    /// comes over a device that tells its contents.
     Damaged { block: u64 },
 }
 

@@ -4,6 +4,7 @@ ghost use Rattle.std.specs.Prelude.{◌≡◌};
 
 mod damaged;
 mod each_call;
+mod each_evaluation;
 mod next_block;
 
 use crate::print_text;
@@ -17,7 +18,7 @@ use std::test::Fail;
 /// The file of a map, of 42 bytes.
 const MAP: &[u8] = b"put 5 10\nget 5\nput 5 11\nget 5\ndel 5\nget 5\n";
 
-/// A stimulus of two steps for two inputs: the file `s` of each run.
+/// A stimulus of two steps for two inputs: the file `s` of each run that gives no other one.
 const STEPS: &[u8] = b"11\n01\n";
 
 /// The words of the runs of several blocks.
@@ -75,13 +76,27 @@ fn run(
     run_over(&mut device, rt, words, text, fails)
 }
 
-/// The same over a device that isn't begun yet. A read of the shelf gives at most 3 bytes, a call of
-/// the output takes at most 3, and one of the error stream at most 7.
+/// The same over a device that isn't begun yet.
 fn run_over<D: Device>(
     device: &mut D,
     rt: &HostRuntime,
     words: &[&str],
     text: &[u8],
+    fails: Fails<'_>,
+) -> Result<(Status, MemSink, MemSink), Fail>
+    requires device { (D.state device.old).blocks ≡ 0 }
+{
+    run_on(device, rt, words, text, STEPS, fails)
+}
+
+/// The same on a shelf that has this text as the file `s`. A read of the shelf gives at most 3
+/// bytes, a call of the output takes at most 3, and one of the error stream at most 7.
+fn run_on<D: Device>(
+    device: &mut D,
+    rt: &HostRuntime,
+    words: &[&str],
+    text: &[u8],
+    stimulus: &[u8],
     fails: Fails<'_>,
 ) -> Result<(Status, MemSink, MemSink), Fail>
     requires device { (D.state device.old).blocks ≡ 0 }
@@ -93,7 +108,7 @@ fn run_over<D: Device>(
     }
     let mut shelf = MemShelf::new(alloc, 3, fails.shelf)?;
     shelf.add("a", text)?;
-    shelf.add("s", STEPS)?;
+    shelf.add("s", stimulus)?;
     let mut out = MemSink::new(alloc, 3, fails.out)?;
     let mut err = MemSink::new(alloc, 7, fails.err)?;
     let status = emtool(

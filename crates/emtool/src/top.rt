@@ -136,8 +136,8 @@ pub fn emtool<D: Device, H: Shelf, W: Sink, E: Sink>(
     ensures as_before { OnUsage result
         ((device.new ≡ device.old) × (shelf.new ≡ shelf.old) × (out.new ≡ out.old)) }
 
-    // Answers: if the input was read to its end or to its first fault, status and output are what
-    // is due; and the device has the sizes of the job.
+    // Answers: if the status is Done or Malformed, status and output are what is due; and at every
+    // status but Usage, DeviceFault and NoMemory the device has the sizes of the job.
     ensures answers { GivesDue (run_of D.Device H.Shelf W.Sink
         words.now device.old shelf.old out.old device.new shelf.new out.new) result }
     ensures due { EndsAsDue (run_of D.Device H.Shelf W.Sink
@@ -169,8 +169,8 @@ pub fn emtool<D: Device, H: Shelf, W: Sink, E: Sink>(
     ensures goes_on { GoesOn (outside H.Shelf W.Sink (D.state device.old) shelf.old out.old)
         (outside H.Shelf W.Sink (D.state device.new) shelf.new out.new) }
 
-    // Completeness: if nothing failed and the device has the stated room, the status is the one
-    // due.
+    // Completeness: if nothing failed, shelf and device tell, and the device has the stated room,
+    // the status is the one due, or NoMemory.
     ensures complete { Completes (run_of D.Device H.Shelf W.Sink
         words.now device.old shelf.old out.old device.new shelf.new out.new) result }
 

@@ -1,28 +1,41 @@
 //! Runs in which one call of the device, of the shelf or of the output fails: each call in turn, from
 //! the first to the last that a run makes.
 //!
-//! A table says how many bytes the output took at each failing call: `(3, 8)` stands for three calls in
-//! a row at which it took 8. It ends with the last call that a run makes: the next one isn't made, so a
-//! run in which that one is to fail is done. A block has 127 records beside its header.
-use crate::tests::{MAP, Part, failing, repeated, run_over};
+//! A table says how many bytes the output took at each failing call: `(3, 8)` stands for three
+//! calls in a row at which it took 8. It ends with the last call that a run makes: the next one
+//! isn't made, so a run in which that one is to fail ends as a run in which nothing fails. A block
+//! has 127 records beside its header.
+use crate::tests::{MAP, Part, failing, repeated, run_on};
 use em_frames::MemDevice;
 use std::test::Fail;
 
-/// A command file or a circuit, the words of its run, and the lines that it is answered by. After a
-/// call of the device that fails at most `later` others come.
+/// A command file, or a circuit with its stimulus, and the words of its run. A run in which nothing
+/// fails ends with the code, and the output took the lines. After a call of the device that fails
+/// at most `later` others come.
 #[derive(Drop)]
-struct File<'a> {
-    words: &'a [&'a str],
-    text: &'a [u8],
-    lines: &'a [u8],
-    later: u64,
+pub(crate) struct File<'a> {
+    pub(crate) words: &'a [&'a str],
+    pub(crate) text: &'a [u8],
+    pub(crate) stimulus: &'a [u8],
+    pub(crate) lines: &'a [u8],
+    pub(crate) code: u8,
+    pub(crate) later: u64,
+}
+
+/// A command file that has no fault.
+fn command_file<'a>(words: &'a [&'a str], text: &'a [u8], lines: &'a [u8]) -> File<'a> {
+    File {
+        words,
+        text,
+        stimulus: b"",
+        lines,
+        code: 0,
+        later: 0,
+    }
 }
 
 /// The words of a map file's run.
 const MAP_WORDS: [&str; 4] = ["map", "--block=128", "--frames=64", "a"];
-
-/// The words of an evaluation.
-const EVAL_WORDS: [&str; 5] = ["eval", "--block=128", "--frames=64", "a", "s"];
 
 /// The words of a queue file's run.
 const QUEUE_WORDS: [&str; 4] = ["queue", "--block=128", "--frames=64", "a"];
@@ -65,7 +78,7 @@ fn ends_so(
     let calls = [call];
     let fails = failing(part, &calls);
     let mut device = MemDevice::new(rt.alloc(), fails.device)?;
-    let (status, out, _) = run_over(&mut device, rt, file.words, file.text, fails)?;
+    let (status, out, _) = run_on(&mut device, rt, file.words, file.text, file.stimulus, fails)?;
     let sent = out.bytes();
     let most = call.saturating_add(file.later);
     let moves = device.moves();
@@ -75,7 +88,7 @@ fn ends_so(
 
 /// Runs a file with each call of a part failing in turn. Answers the first call at which a run doesn't
 /// end as the table says.
-fn first_wrong(
+pub(crate) fn first_wrong(
     rt: &HostRuntime,
     file: &File<'_>,
     part: Part,
@@ -90,89 +103,10 @@ fn first_wrong(
             call = call.saturating_add(1);
         }
     }
-    if ends_so(rt, file, part, call, 0, file.lines.len())? {
+    if ends_so(rt, file, part, call, file.code, file.lines.len())? {
         return Ok(None);
     }
     Ok(Some(call))
-}
-
-/// A circuit with two inputs, an output and a gate, and so with three edges. Each list fits one block.
-/// The line of the first step is pending when the second one fails, and is sent then.
-///
-/// The device: 77 calls, of which these work on the circuit:
-///
-///     0       begins it
-///     1-3     store definitions, gates and uses, all three of them also if one fails
-///     4-5     load definitions and gates, to see that they are in straight order
-///     6-9     load the definitions, store those of the inputs, load and release the others
-///     10-13   load the gates, take a block for the queue, load the uses and release them
-///     14-25   three pops, of 4, 4 and 3 calls; the first item takes a block for the edges
-///     26      stores the edges
-///     27-31   load the edges once for each edge between ranks; the first takes a block; store these
-///     32-37   load and release gates, edges and sources
-///     38-40   load the edges between ranks, take a block for those from inputs, and store it
-///
-/// After call 9 a block is taken by one call, since a freed one is there each time. A pop stores, loads
-/// and releases the queue's block, and takes one if items are left. Then each step makes 18 calls:
-///
-///     2   take a block for the inputs' bits, and store it
-///     4   load the edges from inputs and the bits, take a block for the messages, release the bits
-///     1   loads the edge from the gate
-///     7   pop the gate's two messages, by 4 and 3
-///     1   takes a block for the output's message
-///     3   pop it
-///
-/// The shelf: 15 calls. After the one that opens the circuit its 26 bytes want 9 reads, and its end one
-/// more. Then one call opens the stimulus; each of its two lines is one read, and its end one more. The
-/// output: two calls, both at the end, for 3 bytes and for 1.
-#[test]
-fn an_evaluation_ends_at_each_failing_call(rt: HostRuntime) -> Result<(), Fail> {
-    let file = File {
-        words: &EVAL_WORDS,
-        text: b"aag 3 2 0 1 1\n2\n4\n6\n6 2 4\n",
-        lines: b"1\n0\n",
-        later: 2,
-    };
-    let device = [(59, 0), (18, 2)];
-    assert_eq!(rt; first_wrong(&rt, &file, Part::Device, &device)?, None);
-    let shelf = [(13, 0), (1, 2), (1, 4)];
-    assert_eq!(rt; first_wrong(&rt, &file, Part::Shelf, &shelf)?, None);
-    let output = [(1, 0), (1, 3)];
-    assert_eq!(rt; first_wrong(&rt, &file, Part::Output, &output)?, None);
-    Ok(())
-}
-
-/// The circuit has a latch too, which the gate sets and the output shows, and so four edges. The device:
-/// 103 calls, of which the first 47 work on the circuit. They are those of the circuit without a latch,
-/// but for these:
-///
-///     14-28   four pops, of 4, 3, 4 and 3 calls; the second takes a block that is new, by no call
-///     30-35   load the edges four times in place of three
-///     45-46   take a block for the latch's bit, and store it
-///
-/// Then each step makes 28 calls:
-///
-///     4   take a block for the inputs' bits, store it, load and store it to link the latch's bit
-///     6   load the edges from inputs and latch, and two blocks of bits; take a block; release two
-///     1   loads the edge from the gate
-///     8   pop the gate's two messages, each by 4, since that of the output is left
-///     6   pop the latch's message, by 4; take a block for its bit, and store it
-///     3   pop the output's message
-///
-/// The shelf: 16 calls, since the text has 30 bytes and wants 10 reads.
-#[test]
-fn an_evaluation_with_a_latch_ends_at_each_failing_call(rt: HostRuntime) -> Result<(), Fail> {
-    let file = File {
-        words: &EVAL_WORDS,
-        text: b"aag 4 2 1 1 1\n2\n4\n6 8\n6\n8 2 4\n",
-        lines: b"0\n1\n",
-        later: 2,
-    };
-    let device = [(75, 0), (28, 2)];
-    assert_eq!(rt; first_wrong(&rt, &file, Part::Device, &device)?, None);
-    let shelf = [(14, 0), (1, 2), (1, 4)];
-    assert_eq!(rt; first_wrong(&rt, &file, Part::Shelf, &shelf)?, None);
-    Ok(())
 }
 
 /// The device: 10 calls. Call 0 begins it, 1 writes the one block of so small a file, and 2 reads it in
@@ -183,12 +117,7 @@ fn an_evaluation_with_a_latch_ends_at_each_failing_call(rt: HostRuntime) -> Resu
 /// output: one call for each line.
 #[test]
 fn a_map_ends_at_each_failing_call(rt: HostRuntime) -> Result<(), Fail> {
-    let file = File {
-        words: &MAP_WORDS,
-        text: MAP,
-        lines: b"10\n11\n-\n",
-        later: 0,
-    };
+    let file = command_file(&MAP_WORDS, MAP, b"10\n11\n-\n");
     assert_eq!(rt; first_wrong(&rt, &file, Part::Device, &[(10, 0)])?, None);
     assert_eq!(rt; first_wrong(&rt, &file, Part::Shelf, &[(16, 0)])?, None);
     let lines = [(1, 0), (1, 3), (1, 6)];
@@ -201,12 +130,7 @@ fn a_map_ends_at_each_failing_call(rt: HostRuntime) -> Result<(), Fail> {
 /// line would begin.
 #[test]
 fn a_map_of_the_ends_ends_at_each_failing_call(rt: HostRuntime) -> Result<(), Fail> {
-    let file = File {
-        words: &MAP_WORDS,
-        text: ENDS,
-        lines: b"-\n8\n7\n",
-        later: 0,
-    };
+    let file = command_file(&MAP_WORDS, ENDS, b"-\n8\n7\n");
     assert_eq!(rt; first_wrong(&rt, &file, Part::Device, &[(9, 0)])?, None);
     assert_eq!(rt; first_wrong(&rt, &file, Part::Shelf, &[(30, 0)])?, None);
     let lines = [(1, 0), (1, 2), (1, 4)];
@@ -227,12 +151,7 @@ fn a_map_of_several_blocks_ends_at_each_failing_call(rt: HostRuntime) -> Result<
     let gets = repeated(alloc, b"get 1\n", 128, b"")?;
     text.extend_from_slice(&gets)?;
     let lines = repeated(alloc, b"2\n", 128, b"")?;
-    let file = File {
-        words: &MAP_WORDS,
-        text: &text,
-        lines: &lines,
-        later: 0,
-    };
+    let file = command_file(&MAP_WORDS, &text, &lines);
     let device = [(141, 0), (1, 254)];
     assert_eq!(rt; first_wrong(&rt, &file, Part::Device, &device)?, None);
     assert_eq!(rt; first_wrong(&rt, &file, Part::Shelf, &[(261, 0)])?, None);
@@ -252,12 +171,7 @@ fn a_map_of_several_blocks_ends_at_each_failing_call(rt: HostRuntime) -> Result<
 /// 7 calls, two for each line of 4 bytes.
 #[test]
 fn a_queue_ends_at_each_failing_call(rt: HostRuntime) -> Result<(), Fail> {
-    let file = File {
-        words: &QUEUE_WORDS,
-        text: QUEUE,
-        lines: b"4 1\n4 2\n4 0\n-\n",
-        later: 0,
-    };
+    let file = command_file(&QUEUE_WORDS, QUEUE, b"4 1\n4 2\n4 0\n-\n");
     let device = [(5, 0), (4, 4), (3, 8)];
     assert_eq!(rt; first_wrong(&rt, &file, Part::Device, &device)?, None);
     let shelf = [(9, 0), (4, 4), (1, 8), (2, 12), (1, 14)];
@@ -273,12 +187,7 @@ fn a_queue_ends_at_each_failing_call(rt: HostRuntime) -> Result<(), Fail> {
 #[test]
 fn a_queue_of_several_blocks_ends_at_each_failing_call(rt: HostRuntime) -> Result<(), Fail> {
     let text = repeated(rt.alloc(), b"push 1 2\n", 128, b"pop\npop\n")?;
-    let file = File {
-        words: &QUEUE_WORDS,
-        text: &text,
-        lines: b"1 2\n1 2\n",
-        later: 0,
-    };
+    let file = command_file(&QUEUE_WORDS, &text, b"1 2\n1 2\n");
     let device = [(7, 0), (4, 4)];
     assert_eq!(rt; first_wrong(&rt, &file, Part::Device, &device)?, None);
     Ok(())
@@ -291,12 +200,7 @@ fn a_queue_of_several_blocks_ends_at_each_failing_call(rt: HostRuntime) -> Resul
 /// The shelf: 34 calls, 32 of them for 94 bytes. The output: 6 calls, two for the last line.
 #[test]
 fn a_stab_file_ends_at_each_failing_call(rt: HostRuntime) -> Result<(), Fail> {
-    let file = File {
-        words: &STAB_WORDS,
-        text: STAB,
-        lines: b"-\n0\n-\n1\n0 2\n",
-        later: 0,
-    };
+    let file = command_file(&STAB_WORDS, STAB, b"-\n0\n-\n1\n0 2\n");
     assert_eq!(rt; first_wrong(&rt, &file, Part::Device, &[(11, 0)])?, None);
     assert_eq!(rt; first_wrong(&rt, &file, Part::Shelf, &[(34, 0)])?, None);
     let lines = [(1, 0), (1, 2), (1, 4), (1, 6), (1, 8), (1, 11)];
@@ -314,12 +218,7 @@ fn a_stab_file_of_several_blocks_ends_at_each_failing_call(rt: HostRuntime) -> R
     let stabs = repeated(alloc, b"stab 1\n", 128, b"")?;
     text.extend_from_slice(&stabs)?;
     let lines = repeated(alloc, b"0\n", 128, b"")?;
-    let file = File {
-        words: &STAB_WORDS,
-        text: &text,
-        lines: &lines,
-        later: 0,
-    };
+    let file = command_file(&STAB_WORDS, &text, &lines);
     let device = [(141, 0), (1, 252)];
     assert_eq!(rt; first_wrong(&rt, &file, Part::Device, &device)?, None);
     Ok(())

@@ -1,149 +1,391 @@
-use Rattle.std.proofs.Common.{arith, Result}
+use Rattle.std.proofs.Common.{Result, arith}
 use Rattle.em_space.specs.Seen.{seen}
-use Rattle.em_space.specs.declared.fault.EmFault.{EmFault}
+use Rattle.em_space.proofs.Held.{apart_none}
 use Rattle.em_space.proofs.Queues.{out_same}
 use Rattle.em_queued.proofs.Queued.{unstored_frames}
-use Rattle.aig_edges.specs.Build.{BuildsTo}
+use Rattle.aig_text.specs.declared.stop.AigStop.{AigStop}
+use Rattle.aig_text.proofs.Lines.{of_error}
+use Rattle.aig_edges.specs.Making.{BuildsTo}
 use Rattle.aig_edges.specs.declared.graph.Graph.{Graph}
-use Rattle.aig_edges.proofs.Builds.{built, can_pop, can_push, cut_beside, cut_refused, defs_apart, popped_beside, pops_refused, pushed_beside, pushes_refused}
-use Rattle.aig_edges.proofs.Looks.{of_fault}
+use Rattle.aig_edges.proofs.Graphed.{built, queue_apart}
+use Rattle.aig_edges.proofs.Halted.{compare_goes, compare_none}
+use Rattle.aig_edges.proofs.Made.{all_stand, can_compare, can_sort_defs, can_sort_edges, can_sort_gates, defs_none, defs_room, defs_stand, defs_twice, defs_unseen, edges_none, edges_stand, gates_none, gates_room, gates_stand, given, may_compare, none_twice, sizes, some_free, sorted_of}
 use Rattle.aig_edges.proofs.build.build.Goals as goal
 
-pub returns-in_err-sources-clause-frames : goal.returns-in_err-sources-clause-frames
-returns-in_err-sources-clause-frames g c =
+pub sort-requires-clause-can : goal.sort-requires-clause-can
+sort-requires-clause-can g c =
     let laws = g.met.Q.Queue in
+    let q = g.Q.Queue in
+    let p = c.args.parts in
     let x = c.args.queue.now in
-    let s = seen g.D.Device.state c.args.rig.now in
-    let t = seen g.D.Device.state c.cut_sources.new.rig in
-    let goes = c.in_err-sources.ensures.done.goes in
-    let has = laws.frames_of x s c.requires.queue in
-    laws.frames_stay x _ s t has goes.touches (out_same _ _ _ (laws.out x s has) goes.frames)
+    let r = c.requires in
+    let v = given q x p r.sound r.parts r.queue r.begins
+    (laws.blocks_most x _ r.queue) r.holds in
+    can_sort_defs q x v
 
-pub returns-in_err-sources-clause-builds : goal.returns-in_err-sources-clause-builds
-returns-in_err-sources-clause-builds g c =
+pub returns-in_err-defs-clause-builds : goal.returns-in_err-defs-clause-builds
+returns-in_err-defs-clause-builds g c =
     let laws = g.met.Q.Queue in
+    let q = g.Q.Queue in
+    let p = c.args.parts in
     let x = c.args.queue.now in
-    let s = seen g.D.Device.state c.args.rig.now in
-    let t = seen g.D.Device.state c.cut_sources.new.rig in
-    let out = laws.out x s (laws.frames_of x s c.requires.queue) in
-    of_fault (λ (r : Result Graph EmFault). BuildsTo g.Q.Queue x x s t c.args.parts r) _ _
+    let r = c.requires in
+    let v = given q x p r.sound r.parts r.queue r.begins
+    (laws.blocks_most x _ r.queue) r.holds in
+    of_error (λ (z : Result Graph AigStop). BuildsTo q x c.sort.new.queue (seen g.D.Device.state c.args.rig.now) (seen g.D.Device.state c.sort.new.rig) p z) _ _
     c.from_residual.ensures.1
-    (cut_refused g.Q.Queue x c.args.parts (laws.blocks_most x s c.requires.queue)
-    (unstored_frames (laws.unstored_most x s c.requires.queue) out c.requires.sound)
-    c.in_err-sources.ensures.done)
+    (defs_none q x c.sort.new.queue v c.in_err-defs.ensures.sorts)
 
-pub push_edges-requires-clause-is : goal.push_edges-requires-clause-is
-push_edges-requires-clause-is g c =
+pub twice-requires-clause-is : goal.twice-requires-clause-is
+twice-requires-clause-is g c =
     let laws = g.met.Q.Queue in
-    let x = c.args.queue.now in
-    let s = seen g.D.Device.state c.args.rig.now in
-    let t = seen g.D.Device.state c.cut_sources.new.rig in
-    let out = laws.out x s (laws.frames_of x s c.requires.queue) in
-    let runs = c.in_ok-sources.ensures.done.runs in
-    (laws.stays x _ s t c.requires.queue runs.session.touches
-    (defs_apart _ _ _ c.requires.holds) (out_same _ _ _ out runs.frames)).0
-
-pub push_edges-requires-clause-can : goal.push_edges-requires-clause-can
-push_edges-requires-clause-can g c =
-    let laws = g.met.Q.Queue in
-    let x = c.args.queue.now in
-    let s = seen g.D.Device.state c.args.rig.now in
-    let t = seen g.D.Device.state c.cut_sources.new.rig in
-    let out = laws.out x s (laws.frames_of x s c.requires.queue) in
-    let cut = c.in_ok-sources.ensures.done in
-    let kept = laws.stays x _ s t c.requires.queue cut.runs.session.touches
-    (defs_apart _ _ _ c.requires.holds) (out_same _ _ _ out cut.runs.frames) in
-    can_push g.Q.Queue x c.args.parts c.in_ok-sources.sources c.requires.parts c.requires.begins
-    c.requires.straight (cut_beside g.Q.Queue x c.args.parts c.in_ok-sources.sources
-    c.requires.parts c.requires.holds (laws.blocks_most x s c.requires.queue) kept.2 cut)
-
-pub returns-in_err-push_edges-clause-builds : goal.returns-in_err-push_edges-clause-builds
-returns-in_err-push_edges-clause-builds g c =
-    let laws = g.met.Q.Queue in
+    let q = g.Q.Queue in
     let p = c.args.parts in
     let x = c.args.queue.now in
-    let y = c.push_edges.new.queue in
-    let s = seen g.D.Device.state c.args.rig.now in
-    let t = seen g.D.Device.state c.cut_sources.new.rig in
-    let u = seen g.D.Device.state c.push_edges.new.rig in
-    let out = laws.out x s (laws.frames_of x s c.requires.queue) in
-    let cut = c.in_ok-sources.ensures.done in
-    let kept = laws.stays x _ s t c.requires.queue cut.runs.session.touches
-    (defs_apart _ _ _ c.requires.holds) (out_same _ _ _ out cut.runs.frames) in
-    let h = cut_beside g.Q.Queue x p c.in_ok-sources.sources c.requires.parts c.requires.holds
-    (laws.blocks_most x s c.requires.queue) kept.2 cut in
-    of_fault (λ (r : Result Graph EmFault). BuildsTo g.Q.Queue x y s u p r) _ _
-    c.from_residual-in_err-push_edges.ensures.1
-    (pushes_refused g.Q.Queue x y p c.in_ok-sources.sources h
-    (omega (arith, c.requires.parts.gates.count_is, c.requires.parts.uses.count_is))
-    c.in_err-push_edges.ensures.pushes)
+    let r = c.requires in
+    let v = given q x p r.sound r.parts r.queue r.begins
+    (laws.blocks_most x _ r.queue) r.holds in
+    let y = c.sort.new.queue in
+    let d = c.in_ok-defs.defs in
+    let i = c.in_ok-defs.ensures in
+    let a = defs_stand q x y d v i.sorts i.queue in
+    a.first
 
-pub pop_edges-requires-clause-can : goal.pop_edges-requires-clause-can
-pop_edges-requires-clause-can g c =
+pub twice-requires-clause-free : goal.twice-requires-clause-free
+twice-requires-clause-free g c =
     let laws = g.met.Q.Queue in
+    let q = g.Q.Queue in
     let p = c.args.parts in
     let x = c.args.queue.now in
-    let y = c.push_edges.new.queue in
-    let s = seen g.D.Device.state c.args.rig.now in
-    let t = seen g.D.Device.state c.cut_sources.new.rig in
-    let u = seen g.D.Device.state c.push_edges.new.rig in
-    let out = laws.out x s (laws.frames_of x s c.requires.queue) in
-    let cut = c.in_ok-sources.ensures.done in
-    let kept = laws.stays x _ s t c.requires.queue cut.runs.session.touches
-    (defs_apart _ _ _ c.requires.holds) (out_same _ _ _ out cut.runs.frames) in
-    let h = cut_beside g.Q.Queue x p c.in_ok-sources.sources c.requires.parts c.requires.holds
-    (laws.blocks_most x s c.requires.queue) kept.2 cut in
-    let w = pushed_beside g.Q.Queue x y p c.in_ok-sources.sources h
-    (omega (arith, c.requires.parts.gates.count_is, c.requires.parts.uses.count_is))
-    c.in_ok-push_edges.ensures.pushes.runs in
-    can_pop g.Q.Queue x y _ p c.in_ok-sources.sources c.requires.parts
-    c.requires.begins w (omega arith)
+    let r = c.requires in
+    let v = given q x p r.sound r.parts r.queue r.begins
+    (laws.blocks_most x _ r.queue) r.holds in
+    let y = c.sort.new.queue in
+    let d = c.in_ok-defs.defs in
+    let i = c.in_ok-defs.ensures in
+    let a = defs_stand q x y d v i.sorts i.queue in
+    let f = some_free v a in omega (arith, f)
+
+pub returns-in_err-place-clause-frames : goal.returns-in_err-place-clause-frames
+returns-in_err-place-clause-frames g c =
+    let laws = g.met.Q.Queue in
+    let y = c.sort.new.queue in
+    let has = c.in_ok-defs.ensures.frames in
+    let look = c.in_err-place.ensures.done.looks.goes in
+    laws.frames_stay y _ _ _ has look.touches (out_same _ _ _ (laws.out y _ has) look.frames)
+
+pub returns-in_err-place-clause-builds : goal.returns-in_err-place-clause-builds
+returns-in_err-place-clause-builds g c =
+    let laws = g.met.Q.Queue in
+    let q = g.Q.Queue in
+    let p = c.args.parts in
+    let x = c.args.queue.now in
+    let r = c.requires in
+    let v = given q x p r.sound r.parts r.queue r.begins
+    (laws.blocks_most x _ r.queue) r.holds in
+    let y = c.sort.new.queue in
+    let d = c.in_ok-defs.defs in
+    let i = c.in_ok-defs.ensures in
+    let a = defs_stand q x y d v i.sorts i.queue in
+    let room = defs_room v i.sorts in
+    let few = unstored_frames (laws.unstored_most y _ i.queue) (laws.out y _ i.frames)
+    a.runs.runs.session.sound in
+    of_error (λ (z : Result Graph AigStop). BuildsTo q x y (seen g.D.Device.state c.args.rig.now) (seen g.D.Device.state c.twice.new.rig) p z) _ _
+    c.from_residual-in_err-place.ensures.1
+    (defs_unseen q x y v a room few c.in_err-place.ensures.done)
+
+pub returns-in-Some-clause-frames : goal.returns-in-Some-clause-frames
+returns-in-Some-clause-frames g c =
+    let laws = g.met.Q.Queue in
+    let y = c.sort.new.queue in
+    let has = c.in_ok-defs.ensures.frames in
+    let look = c.in_ok-place.ensures.done.0.goes in
+    laws.frames_stay y _ _ _ has look.touches (out_same _ _ _ (laws.out y _ has) look.frames)
+
+pub returns-in-Some-clause-builds : goal.returns-in-Some-clause-builds
+returns-in-Some-clause-builds g c =
+    let laws = g.met.Q.Queue in
+    let q = g.Q.Queue in
+    let p = c.args.parts in
+    let x = c.args.queue.now in
+    let r = c.requires in
+    let v = given q x p r.sound r.parts r.queue r.begins
+    (laws.blocks_most x _ r.queue) r.holds in
+    let y = c.sort.new.queue in
+    let d = c.in_ok-defs.defs in
+    let i = c.in_ok-defs.ensures in
+    let a = defs_stand q x y d v i.sorts i.queue in
+    let room = defs_room v i.sorts in
+    let t = seen g.D.Device.state c.twice.new.rig in
+    let look = c.in_ok-place.ensures.done.0 in
+    let kept = laws.stays y _ _ t i.queue look.goes.touches
+    (λ z. apart_none _) (out_same _ _ _ (laws.out y _ i.frames) look.goes.frames) in
+    let b = gates_stand q x y a room look kept.0 kept.2 in
+    let few = unstored_frames (laws.unstored_most y t kept.0)
+    (laws.out y t (laws.frames_of y t kept.0)) b.runs.runs.session.sound in
+    defs_twice q x y c.in-Some.place v a b few
+    c.in-Some.is
+    c.in_ok-place.ensures.done.1
+
+pub sort-requires-2-clause-is : goal.sort-requires-2-clause-is
+sort-requires-2-clause-is g c =
+    let laws = g.met.Q.Queue in
+    let y = c.sort.new.queue in
+    let i = c.in_ok-defs.ensures in
+    let t = seen g.D.Device.state c.twice.new.rig in
+    let look = c.in_ok-place.ensures.done.0 in
+    let kept = laws.stays y _ _ t i.queue look.goes.touches
+    (λ z. apart_none _) (out_same _ _ _ (laws.out y _ i.frames) look.goes.frames) in
+    kept.0
+
+pub sort-requires-2-clause-can : goal.sort-requires-2-clause-can
+sort-requires-2-clause-can g c =
+    let laws = g.met.Q.Queue in
+    let q = g.Q.Queue in
+    let p = c.args.parts in
+    let x = c.args.queue.now in
+    let r = c.requires in
+    let v = given q x p r.sound r.parts r.queue r.begins
+    (laws.blocks_most x _ r.queue) r.holds in
+    let y = c.sort.new.queue in
+    let d = c.in_ok-defs.defs in
+    let i = c.in_ok-defs.ensures in
+    let a = defs_stand q x y d v i.sorts i.queue in
+    let room = defs_room v i.sorts in
+    let t = seen g.D.Device.state c.twice.new.rig in
+    let look = c.in_ok-place.ensures.done.0 in
+    let kept = laws.stays y _ _ t i.queue look.goes.touches
+    (λ z. apart_none _) (out_same _ _ _ (laws.out y _ i.frames) look.goes.frames) in
+    let b = gates_stand q x y a room look kept.0 kept.2 in
+    let once = none_twice a c.in_default.is c.in_ok-place.ensures.done.1 in
+    can_sort_gates q x y v once b
+
+pub returns-in_err-gates-clause-builds : goal.returns-in_err-gates-clause-builds
+returns-in_err-gates-clause-builds g c =
+    let laws = g.met.Q.Queue in
+    let q = g.Q.Queue in
+    let p = c.args.parts in
+    let x = c.args.queue.now in
+    let r = c.requires in
+    let v = given q x p r.sound r.parts r.queue r.begins
+    (laws.blocks_most x _ r.queue) r.holds in
+    let y = c.sort.new.queue in
+    let d = c.in_ok-defs.defs in
+    let i = c.in_ok-defs.ensures in
+    let a = defs_stand q x y d v i.sorts i.queue in
+    let room = defs_room v i.sorts in
+    let t = seen g.D.Device.state c.twice.new.rig in
+    let look = c.in_ok-place.ensures.done.0 in
+    let kept = laws.stays y _ _ t i.queue look.goes.touches
+    (λ z. apart_none _) (out_same _ _ _ (laws.out y _ i.frames) look.goes.frames) in
+    let b = gates_stand q x y a room look kept.0 kept.2 in
+    of_error (λ (z : Result Graph AigStop). BuildsTo q x c.sort-2.new.queue (seen g.D.Device.state c.args.rig.now) (seen g.D.Device.state c.sort-2.new.rig) p z) _ _
+    c.from_residual-in_err-gates.ensures.1
+    (gates_none q x y c.sort-2.new.queue v room b c.in_err-gates.ensures.sorts)
+
+pub sort_edges-requires-clause-can : goal.sort_edges-requires-clause-can
+sort_edges-requires-clause-can g c =
+    let laws = g.met.Q.Queue in
+    let q = g.Q.Queue in
+    let p = c.args.parts in
+    let x = c.args.queue.now in
+    let r = c.requires in
+    let v = given q x p r.sound r.parts r.queue r.begins
+    (laws.blocks_most x _ r.queue) r.holds in
+    let y = c.sort.new.queue in
+    let d = c.in_ok-defs.defs in
+    let i = c.in_ok-defs.ensures in
+    let a = defs_stand q x y d v i.sorts i.queue in
+    let room = defs_room v i.sorts in
+    let t = seen g.D.Device.state c.twice.new.rig in
+    let look = c.in_ok-place.ensures.done.0 in
+    let kept = laws.stays y _ _ t i.queue look.goes.touches
+    (λ z. apart_none _) (out_same _ _ _ (laws.out y _ i.frames) look.goes.frames) in
+    let b = gates_stand q x y a room look kept.0 kept.2 in
+    let once = none_twice a c.in_default.is c.in_ok-place.ensures.done.1 in
+    let w = c.sort-2.new.queue in
+    let j = c.in_ok-gates.ensures in
+    let e = edges_stand q x y w c.in_ok-gates.gates v room b j.sorts j.queue in
+    can_sort_edges q x w v once j.sorts.count_is e
 
 pub returns-in_err-edges-clause-builds : goal.returns-in_err-edges-clause-builds
 returns-in_err-edges-clause-builds g c =
     let laws = g.met.Q.Queue in
+    let q = g.Q.Queue in
     let p = c.args.parts in
     let x = c.args.queue.now in
-    let y = c.push_edges.new.queue in
-    let s = seen g.D.Device.state c.args.rig.now in
-    let t = seen g.D.Device.state c.cut_sources.new.rig in
-    let u = seen g.D.Device.state c.push_edges.new.rig in
-    let out = laws.out x s (laws.frames_of x s c.requires.queue) in
-    let cut = c.in_ok-sources.ensures.done in
-    let kept = laws.stays x _ s t c.requires.queue cut.runs.session.touches
-    (defs_apart _ _ _ c.requires.holds) (out_same _ _ _ out cut.runs.frames) in
-    let h = cut_beside g.Q.Queue x p c.in_ok-sources.sources c.requires.parts c.requires.holds
-    (laws.blocks_most x s c.requires.queue) kept.2 cut in
-    let w = pushed_beside g.Q.Queue x y p c.in_ok-sources.sources h
-    (omega (arith, c.requires.parts.gates.count_is, c.requires.parts.uses.count_is))
-    c.in_ok-push_edges.ensures.pushes.runs in
-    of_fault (λ (r : Result Graph EmFault). BuildsTo g.Q.Queue x c.pop_edges.new.queue s
-    (seen g.D.Device.state c.pop_edges.new.rig) p r) _ _
+    let r = c.requires in
+    let v = given q x p r.sound r.parts r.queue r.begins
+    (laws.blocks_most x _ r.queue) r.holds in
+    let y = c.sort.new.queue in
+    let d = c.in_ok-defs.defs in
+    let i = c.in_ok-defs.ensures in
+    let a = defs_stand q x y d v i.sorts i.queue in
+    let room = defs_room v i.sorts in
+    let t = seen g.D.Device.state c.twice.new.rig in
+    let look = c.in_ok-place.ensures.done.0 in
+    let kept = laws.stays y _ _ t i.queue look.goes.touches
+    (λ z. apart_none _) (out_same _ _ _ (laws.out y _ i.frames) look.goes.frames) in
+    let b = gates_stand q x y a room look kept.0 kept.2 in
+    let w = c.sort-2.new.queue in
+    let j = c.in_ok-gates.ensures in
+    let e = edges_stand q x y w c.in_ok-gates.gates v room b j.sorts j.queue in
+    let size = gates_room v b j.sorts in
+    of_error (λ (z : Result Graph AigStop). BuildsTo q x c.sort_edges.new.queue (seen g.D.Device.state c.args.rig.now) (seen g.D.Device.state c.sort_edges.new.rig) p z) _ _
     c.from_residual-in_err-edges.ensures.1
-    (pops_refused g.Q.Queue x y c.pop_edges.new.queue p c.in_ok-sources.sources w (omega arith)
-    c.in_err-edges.ensures.pops)
+    (edges_none q x w c.sort_edges.new.queue v room size j.sorts.count_is e c.in_err-edges.ensures.sorts)
+
+pub compare-requires : goal.compare-requires
+compare-requires g c =
+    let laws = g.met.Q.Queue in
+    let q = g.Q.Queue in
+    let p = c.args.parts in
+    let x = c.args.queue.now in
+    let r = c.requires in
+    let v = given q x p r.sound r.parts r.queue r.begins
+    (laws.blocks_most x _ r.queue) r.holds in
+    let y = c.sort.new.queue in
+    let d = c.in_ok-defs.defs in
+    let i = c.in_ok-defs.ensures in
+    let a = defs_stand q x y d v i.sorts i.queue in
+    let room = defs_room v i.sorts in
+    let t = seen g.D.Device.state c.twice.new.rig in
+    let look = c.in_ok-place.ensures.done.0 in
+    let kept = laws.stays y _ _ t i.queue look.goes.touches
+    (λ z. apart_none _) (out_same _ _ _ (laws.out y _ i.frames) look.goes.frames) in
+    let b = gates_stand q x y a room look kept.0 kept.2 in
+    let once = none_twice a c.in_default.is c.in_ok-place.ensures.done.1 in
+    let w = c.sort-2.new.queue in
+    let j = c.in_ok-gates.ensures in
+    let e = edges_stand q x y w c.in_ok-gates.gates v room b j.sorts j.queue in
+    let size = gates_room v b j.sorts in
+    let k = c.in_ok-edges.ensures in
+    let m = c.sort_edges.new.queue in
+    let l = all_stand q x w m c.in_ok-edges.edges v once room size j.sorts.count_is e
+    k.sorts k.queue in
+    let all = sizes v i.sorts.count_is room size j.sorts.count_is e k.sorts in
+    record { can = can_compare q x m v once all l }
+
+pub returns-in_err-sources-clause-frames : goal.returns-in_err-sources-clause-frames
+returns-in_err-sources-clause-frames g c =
+    let laws = g.met.Q.Queue in
+    let m = c.sort_edges.new.queue in
+    let has = c.in_ok-edges.ensures.frames in
+    let goes = compare_goes _ _ _ _ c.in_err-sources.ensures.done in
+    laws.frames_stay m _ _ _ has goes.touches (out_same _ _ _ (laws.out m _ has) goes.frames)
+
+pub returns-in_err-sources-clause-builds : goal.returns-in_err-sources-clause-builds
+returns-in_err-sources-clause-builds g c =
+    let laws = g.met.Q.Queue in
+    let q = g.Q.Queue in
+    let p = c.args.parts in
+    let x = c.args.queue.now in
+    let r = c.requires in
+    let v = given q x p r.sound r.parts r.queue r.begins
+    (laws.blocks_most x _ r.queue) r.holds in
+    let y = c.sort.new.queue in
+    let d = c.in_ok-defs.defs in
+    let i = c.in_ok-defs.ensures in
+    let a = defs_stand q x y d v i.sorts i.queue in
+    let room = defs_room v i.sorts in
+    let t = seen g.D.Device.state c.twice.new.rig in
+    let look = c.in_ok-place.ensures.done.0 in
+    let kept = laws.stays y _ _ t i.queue look.goes.touches
+    (λ z. apart_none _) (out_same _ _ _ (laws.out y _ i.frames) look.goes.frames) in
+    let b = gates_stand q x y a room look kept.0 kept.2 in
+    let once = none_twice a c.in_default.is c.in_ok-place.ensures.done.1 in
+    let w = c.sort-2.new.queue in
+    let j = c.in_ok-gates.ensures in
+    let e = edges_stand q x y w c.in_ok-gates.gates v room b j.sorts j.queue in
+    let size = gates_room v b j.sorts in
+    let k = c.in_ok-edges.ensures in
+    let m = c.sort_edges.new.queue in
+    let l = all_stand q x w m c.in_ok-edges.edges v once room size j.sorts.count_is e
+    k.sorts k.queue in
+    let all = sizes v i.sorts.count_is room size j.sorts.count_is e k.sorts in
+    let may = may_compare q x m v all l (laws.blocks_most m _ k.queue)
+    (unstored_frames (laws.unstored_most m _ k.queue) (laws.out m _ k.frames)
+    l.runs.runs.session.sound) in
+    of_error (λ (z : Result Graph AigStop). BuildsTo q x m (seen g.D.Device.state c.args.rig.now) (seen g.D.Device.state c.compare.new.rig) p z) _ _
+    c.from_residual-in_err-sources.ensures.1
+    (compare_none q x m p _ l may (sorted_of once l) c.in_err-sources.ensures.done)
+
+pub returns-clause-frames : goal.returns-clause-frames
+returns-clause-frames g c =
+    let laws = g.met.Q.Queue in
+    let m = c.sort_edges.new.queue in
+    let has = c.in_ok-edges.ensures.frames in
+    let h = c.in_ok-sources.ensures.done.runs in
+    laws.frames_stay m _ _ _ has h.session.touches (out_same _ _ _ (laws.out m _ has) h.frames)
+
+pub returns-clause-queue : goal.returns-clause-queue
+returns-clause-queue g c =
+    let laws = g.met.Q.Queue in
+    let q = g.Q.Queue in
+    let p = c.args.parts in
+    let x = c.args.queue.now in
+    let r = c.requires in
+    let v = given q x p r.sound r.parts r.queue r.begins
+    (laws.blocks_most x _ r.queue) r.holds in
+    let y = c.sort.new.queue in
+    let d = c.in_ok-defs.defs in
+    let i = c.in_ok-defs.ensures in
+    let a = defs_stand q x y d v i.sorts i.queue in
+    let room = defs_room v i.sorts in
+    let t = seen g.D.Device.state c.twice.new.rig in
+    let look = c.in_ok-place.ensures.done.0 in
+    let kept = laws.stays y _ _ t i.queue look.goes.touches
+    (λ z. apart_none _) (out_same _ _ _ (laws.out y _ i.frames) look.goes.frames) in
+    let b = gates_stand q x y a room look kept.0 kept.2 in
+    let once = none_twice a c.in_default.is c.in_ok-place.ensures.done.1 in
+    let w = c.sort-2.new.queue in
+    let j = c.in_ok-gates.ensures in
+    let e = edges_stand q x y w c.in_ok-gates.gates v room b j.sorts j.queue in
+    let size = gates_room v b j.sorts in
+    let k = c.in_ok-edges.ensures in
+    let m = c.sort_edges.new.queue in
+    let l = all_stand q x w m c.in_ok-edges.edges v once room size j.sorts.count_is e
+    k.sorts k.queue in
+    let u = seen g.D.Device.state c.compare.new.rig in
+    let h = c.in_ok-sources.ensures.done in
+    let still = laws.stays m _ _ u k.queue h.runs.session.touches (queue_apart q x m l)
+    (out_same _ _ _ (laws.out m _ k.frames) h.runs.frames) in
+    still.0
 
 pub returns-clause-builds : goal.returns-clause-builds
 returns-clause-builds g c =
     let laws = g.met.Q.Queue in
+    let q = g.Q.Queue in
     let p = c.args.parts in
     let x = c.args.queue.now in
-    let y = c.push_edges.new.queue in
-    let s = seen g.D.Device.state c.args.rig.now in
-    let t = seen g.D.Device.state c.cut_sources.new.rig in
-    let u = seen g.D.Device.state c.push_edges.new.rig in
-    let out = laws.out x s (laws.frames_of x s c.requires.queue) in
-    let cut = c.in_ok-sources.ensures.done in
-    let kept = laws.stays x _ s t c.requires.queue cut.runs.session.touches
-    (defs_apart _ _ _ c.requires.holds) (out_same _ _ _ out cut.runs.frames) in
-    let h = cut_beside g.Q.Queue x p c.in_ok-sources.sources c.requires.parts c.requires.holds
-    (laws.blocks_most x s c.requires.queue) kept.2 cut in
-    let w = pushed_beside g.Q.Queue x y p c.in_ok-sources.sources h
-    (omega (arith, c.requires.parts.gates.count_is, c.requires.parts.uses.count_is))
-    c.in_ok-push_edges.ensures.pushes.runs in
-    let e = c.in_ok-edges.ensures.pops in
-    built g.Q.Queue x y c.pop_edges.new.queue p c.in_ok-sources.sources c.in_ok-edges.edges
-    c.requires.parts c.requires.straight cut h w c.in_ok-push_edges.ensures.pushes
-    (popped_beside g.Q.Queue x y c.pop_edges.new.queue p c.in_ok-sources.sources
-    c.in_ok-edges.edges w (omega arith) e.runs e.blocks_is)
-    (omega arith) e.is e.count_is e.items
+    let r = c.requires in
+    let v = given q x p r.sound r.parts r.queue r.begins
+    (laws.blocks_most x _ r.queue) r.holds in
+    let y = c.sort.new.queue in
+    let d = c.in_ok-defs.defs in
+    let i = c.in_ok-defs.ensures in
+    let a = defs_stand q x y d v i.sorts i.queue in
+    let room = defs_room v i.sorts in
+    let t = seen g.D.Device.state c.twice.new.rig in
+    let look = c.in_ok-place.ensures.done.0 in
+    let kept = laws.stays y _ _ t i.queue look.goes.touches
+    (λ z. apart_none _) (out_same _ _ _ (laws.out y _ i.frames) look.goes.frames) in
+    let b = gates_stand q x y a room look kept.0 kept.2 in
+    let once = none_twice a c.in_default.is c.in_ok-place.ensures.done.1 in
+    let w = c.sort-2.new.queue in
+    let j = c.in_ok-gates.ensures in
+    let e = edges_stand q x y w c.in_ok-gates.gates v room b j.sorts j.queue in
+    let size = gates_room v b j.sorts in
+    let k = c.in_ok-edges.ensures in
+    let m = c.sort_edges.new.queue in
+    let l = all_stand q x w m c.in_ok-edges.edges v once room size j.sorts.count_is e
+    k.sorts k.queue in
+    let all = sizes v i.sorts.count_is room size j.sorts.count_is e k.sorts in
+    let may = may_compare q x m v all l (laws.blocks_most m _ k.queue)
+    (unstored_frames (laws.unstored_most m _ k.queue) (laws.out m _ k.frames)
+    l.runs.runs.session.sound) in
+    let u = seen g.D.Device.state c.compare.new.rig in
+    let h = c.in_ok-sources.ensures.done in
+    let still = laws.stays m _ _ u k.queue h.runs.session.touches (queue_apart q x m l)
+    (out_same _ _ _ (laws.out m _ k.frames) h.runs.frames) in
+    built q x m _ v once all l may h still.2

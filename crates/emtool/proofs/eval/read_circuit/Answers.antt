@@ -7,7 +7,7 @@ use Rattle.aig_text.specs.Parts.{parts_blocks}
 use Rattle.emtool.specs.Stop.{circuit_stop}
 use Rattle.emtool.specs.declared.stop.Stop.TheVariants.{Em}
 use Rattle.emtool.proofs.Circuit.{reads_from, reads_on}
-use Rattle.emtool.proofs.CircuitEdges.{edges_made, stopped_by, straight_stops}
+use Rattle.emtool.proofs.CircuitEdges.{edges_made, stopped_by, ranks_stop}
 use Rattle.emtool.proofs.CircuitMade.{ascii_stops, build_most, build_stops, graph_goes, has_graph, has_parts}
 use Rattle.emtool.proofs.eval.read_circuit.Goals as goal
 
@@ -85,9 +85,9 @@ returns-in_err-graph-clause-reads g c =
     (reads_from text)
     (build_stops counts fault c.requires.unused h n.counts k.uses_up k.stops k.cause k.stores most)
 
--- the graph is that of a straight circuit
-pub straight-requires-clause-straight : goal.straight-requires-clause-straight
-straight-requires-clause-straight g c =
+-- the graph is that of a circuit that can be evaluated upwards
+pub straight-requires-clause-upward : goal.straight-requires-clause-upward
+straight-requires-clause-upward g c =
     let v = seen g.D.Device.state c.check_and_build.new.rig in
     let counts = counts_of c.in_ok-queue.queue in
     let e = c.in_ok-parts.ensures in
@@ -98,7 +98,9 @@ straight-requires-clause-straight g c =
     e.owes n.lends n.unmoved in
     let most = build_most v k.costs.last k.costs.then counts h n.counts k.costs.frames k.costs.shape
     k.costs.called k.costs.most k.uses_up.touches.shape in
-    (has_graph counts c.in_ok-graph.graph h n.counts n.blocks k.uses_up k.builds k.stores most).straight
+    let made = has_graph counts c.in_ok-graph.graph h n.counts n.blocks k.uses_up k.builds k.stores
+    most in
+    made.upward
 
 -- no edges were made of the graph
 pub returns-in_err-straight-clause-goes : goal.returns-in_err-straight-clause-goes
@@ -140,7 +142,7 @@ returns-in_err-straight-clause-reads g c =
     stopped_by g.H.Shelf c.new-feed.result c.read_ascii.new.feed c.args.shelf.now
     c.read_ascii.new.shelf s w (Em fault) _ c.from_residual-in_err-straight.ensures.1
     (reads_from text)
-    (straight_stops w fault c.requires.unused made x.goes x.costs x.cause)
+    (ranks_stop w fault c.requires.unused made x.goes x.costs x.cause)
 
 -- edges were made
 pub returns-clause-goes : goal.returns-clause-goes

@@ -1,0 +1,127 @@
+-- Calls of a queue beside other values, whose blocks and accounts are written in another way.
+use Rattle.std.proofs.Common.{◌≡◌, ℕ, ◌+◌, ◌≤◌, List, ◌++◌, ap, sym, arith, append_assoc}
+use Rattle.em_space.specs.Held.{Holds}
+use Rattle.em_space.specs.Ledger.{Account, Session}
+use Rattle.em_space.specs.Queue.{QueueCounts}
+use Rattle.em_space.specs.Rig.{RigState}
+use Rattle.em_space.proofs.Apart.{off_append, off_left, off_right}
+use Rattle.em_space.proofs.Lists.{apart_append, apart_left, apart_right, apart_sym, distinct_apart, distinct_join, distinct_left, distinct_right, in_use_append, in_use_left, in_use_right}
+use Rattle.em_space.proofs.Paying.{pays_more}
+use Rattle.em_queued.specs.Queued.{RunsBeside}
+use Rattle.em_queued.proofs.Queued.{beside_as}
+
+-- Blocks that are held, in another order.
+holds_swapped : {s : RigState} (xs ys zs : List ℕ) → Holds s (xs ++ (ys ++ zs))
+    → Holds s (xs ++ (zs ++ ys))
+holds_swapped {s} xs ys zs h =
+    let u = in_use_right s xs (ys ++ zs) h.in_use in
+    record {
+      in_use = in_use_append s xs (zs ++ ys) (in_use_left s xs (ys ++ zs) h.in_use)
+          (in_use_append s zs ys (in_use_right s ys zs u) (in_use_left s ys zs u));
+      distinct = λ z.
+          let d = h.distinct z in
+          let r = distinct_right xs (ys ++ zs) d in
+          let a = apart_sym xs (ys ++ zs) (distinct_apart xs (ys ++ zs) d) in
+          distinct_join xs (zs ++ ys) (distinct_left xs (ys ++ zs) d)
+          (distinct_join zs ys (distinct_right ys zs r) (distinct_left ys zs r)
+          (apart_sym ys zs (distinct_apart ys zs r)))
+          (apart_sym (zs ++ ys) xs (apart_append zs ys xs (apart_right ys zs xs a)
+          (apart_left ys zs xs a)));
+    }
+
+session_swapped : {held : List ℕ} {s t : RigState} (xs ys zs : List ℕ)
+    → Session held s t (xs ++ (ys ++ zs)) → Session held s t (xs ++ (zs ++ ys))
+session_swapped {held} {s} {t} xs ys zs h = record {
+  sound = h.sound;
+  touches = h.touches;
+  within = record {
+    off = λ z j u o.
+        let w = h.within.off z j u o in
+        let r = off_right j xs (ys ++ zs) w in
+        off_append j xs (zs ++ ys) (off_left j xs (ys ++ zs) w)
+        (off_append j zs ys (off_right j ys zs r) (off_left j ys zs r));
+  };
+  holds = λ z. holds_swapped xs ys zs (h.holds z);
+}
+
+pub beside_swapped : {i p : ℕ} {held : List ℕ} {a b : Account} {c d : QueueCounts}
+    {s t : RigState} (xs ys zs : List ℕ) → RunsBeside i p held (xs ++ (ys ++ zs)) a b c d s t
+    → RunsBeside i p held (xs ++ (zs ++ ys)) a b c d s t
+beside_swapped xs ys zs h = record {
+  runs = record {
+    session = session_swapped xs ys zs h.runs.session;
+    frames = h.runs.frames;
+    spends = h.runs.spends;
+  };
+  calls_on = h.calls_on;
+}
+
+-- other accounts of as many blocks, with as many moves to come at least
+pub beside_by : {i p : ℕ} {ks js : List ℕ} {a b : Account} {c d : QueueCounts} {s t : RigState}
+    (x y : Account) → x.blocks ≡ a.blocks → y.blocks ≡ b.blocks → x.unstored ≡ a.unstored
+    → y.unstored ≡ b.unstored
+    → a.owed + b.paid + x.paid + y.owed ≤ x.owed + y.paid + a.paid + b.owed
+    → RunsBeside i p ks js a b c d s t → RunsBeside i p ks js x y c d s t
+beside_by {i} {p} {ks} {js} {a} {b} {c} {d} {s} {t} x y xb yb xu yu m h =
+    let e = h.runs.spends in
+    record {
+      runs = record {
+        session = h.runs.session;
+        frames = h.runs.frames;
+        spends = record {
+          held = omega (arith, e.held, yb);
+          used = omega (arith, e.used, xb, yb);
+          most = omega (arith, e.most, xb);
+          moves = omega (arith, e.moves, m);
+          later = e.later;
+          pays = pays_more e.pays (omega (arith, xu, yu));
+        };
+      };
+      calls_on = h.calls_on;
+    }
+
+-- some of the blocks that are held
+pub holds_skip : {s : RigState} (xs ys zs : List ℕ) → Holds s (xs ++ (ys ++ zs)) → Holds s (xs ++ zs)
+holds_skip {s} xs ys zs h =
+    let u = in_use_right s xs (ys ++ zs) h.in_use in
+    record {
+      in_use = in_use_append s xs zs (in_use_left s xs (ys ++ zs) h.in_use) (in_use_right s ys zs
+          u);
+      distinct = λ z.
+          let d = h.distinct z in
+          let r = distinct_right xs (ys ++ zs) d in
+          let a = apart_sym xs (ys ++ zs) (distinct_apart xs (ys ++ zs) d) in
+          distinct_join xs zs (distinct_left xs (ys ++ zs) d) (distinct_right ys zs r)
+          (apart_sym zs xs (apart_right ys zs xs a));
+    }
+
+pub holds_last : {s : RigState} (xs ys : List ℕ) → Holds s (xs ++ ys) → Holds s ys
+holds_last {s} xs ys h = record {
+  in_use = in_use_right s xs ys h.in_use;
+  distinct = λ z. distinct_right xs ys (h.distinct z);
+}
+
+-- The first of three values is the last one then,
+pub beside_turned : {i p : ℕ} {held : List ℕ} {a b : Account} {c d : QueueCounts}
+    {s t : RigState} (qs xs ys zs : List ℕ)
+    → RunsBeside i p held (qs ++ (xs ++ (ys ++ zs))) a b c d s t
+    → RunsBeside i p held (qs ++ (ys ++ (zs ++ xs))) a b c d s t
+beside_turned qs xs ys zs h = beside_as (qs ++ (ys ++ (zs ++ xs)))
+    (beside_swapped qs xs (ys ++ zs) h)
+    (λ z. ap (λ (l : List ℕ). qs ++ l) (sym (append_assoc ys zs xs)))
+
+-- and the last two change places.
+pub beside_crossed : {i p : ℕ} {held : List ℕ} {a b : Account} {c d : QueueCounts}
+    {s t : RigState} (qs xs ys zs : List ℕ)
+    → RunsBeside i p held (qs ++ (xs ++ (ys ++ zs))) a b c d s t
+    → RunsBeside i p held (qs ++ (xs ++ (zs ++ ys))) a b c d s t
+beside_crossed qs xs ys zs h = beside_as (qs ++ (xs ++ (zs ++ ys)))
+    (beside_swapped (qs ++ xs) ys zs (beside_as ((qs ++ xs) ++ (ys ++ zs)) h
+    (λ z. append_assoc qs xs (ys ++ zs))))
+    (λ z. sym (append_assoc qs xs (zs ++ ys)))
+
+-- The queue's blocks and those of the first value together.
+pub beside_front : {i p : ℕ} {held : List ℕ} {a b : Account} {c d : QueueCounts}
+    {s t : RigState} (qs xs ys : List ℕ) → RunsBeside i p held (qs ++ (xs ++ ys)) a b c d s t
+    → RunsBeside i p held ((qs ++ xs) ++ ys) a b c d s t
+beside_front qs xs ys h = beside_as ((qs ++ xs) ++ ys) h (λ z. append_assoc qs xs ys)

@@ -1,0 +1,357 @@
+-- The queue is ended after a graph was made, or abandoned.
+use Rattle.std.proofs.Common.{◌≡◌, ℕ, ◌+◌, ◌≤◌, inl, inr, max, Option, None, Some, IfSome, List, [], ◌++◌, IsTrue, subst, ap, sym, ◌∙◌, arith}
+use Rattle.em_record.specs.Shape.{ShapeNumbers}
+use Rattle.em_frames.specs.Pool.{PoolCounts}
+use Rattle.em_space.specs.Held.{Apart, Holds}
+use Rattle.em_space.specs.Ledger.{Session}
+use Rattle.em_space.specs.Queue.{Ended, Ends, ending_most, IsRising, IsRisingRoom, Leaves, Pays, QueueCounts, Shares}
+use Rattle.em_space.specs.Rig.{RigState, Cause, Touches}
+use Rattle.em_space.specs.declared.fault.EmFault.TheVariants.{DeviceFault, Full, Damaged}
+use Rattle.em_space.specs.declared.queue.Queue.{Ghosts as QueueGhosts}
+use Rattle.em_space.proofs.Held.{holds_kept}
+use Rattle.em_space.proofs.Lists.{apart_left, apart_right, apart_sym, distinct_apart}
+use Rattle.em_space.proofs.Paying.{pays_kept, pays_more, pays_then}
+use Rattle.em_space.proofs.Queues.{most_at_end}
+use Rattle.em_space.proofs.Sessions.{session_as, session_then}
+use Rattle.em_space.proofs.Within.{touches_within}
+use Rattle.em_chain.specs.Chain.{ChainStays, chain_blocks}
+use Rattle.em_chain.proofs.Laws.{chain_stays}
+use Rattle.em_queued.proofs.Queued.{shares_frames}
+use Rattle.aig_defs.specs.Circuit.{Circuit}
+use Rattle.aig_text.specs.Ascii.{IfEmStop}
+use Rattle.aig_text.specs.Parts.{parts_blocks}
+use Rattle.aig_text.specs.declared.parts.Parts.{Parts}
+use Rattle.aig_text.specs.declared.stop.AigStop.{AigStop}
+use Rattle.aig_text.specs.declared.stop.AigStop.TheVariants as stop
+use Rattle.aig_edges.specs.Build.{UsesUp, parts_size}
+use Rattle.aig_edges.specs.BuildUpward.{BuildsUpward, CalledInRuns, SortCosts, sort_calls, sort_moves, sort_peak, sort_run}
+use Rattle.aig_edges.specs.Graph.{IsGraph, IsGraphOf, graph_blocks, graph_size}
+use Rattle.aig_edges.specs.Making.{BuildsBeside, DoneUntil}
+use Rattle.aig_edges.specs.declared.graph.Graph.{Graph}
+
+-- the blocks of a queue and of a circuit's parts
+abbrev pub held_at : {Q : Type 0} → QueueGhosts Q → Q → RigState → Parts → List ℕ
+held_at q x s p = q.blocks x s ++ parts_blocks s p
+
+-- What was done until the queue is ended.
+pub until_built : {Q : Type 0} (q : QueueGhosts Q) (x y : Q) {s u : RigState} {m : Graph}
+    (p : Parts) → BuildsBeside q x y s u p m → DoneUntil q x y s u p
+until_built q x y {s} {u} p b =
+    let g = b.runs.runs in
+    let on = b.runs.calls_on in
+    record {
+      sound = g.session.sound;
+      touches = g.session.touches;
+      shares = shares_frames g.frames on.frames on.areas;
+      called = b.in_runs;
+      most = omega (arith, g.spends.most);
+      moves = omega (arith, g.spends.moves);
+    }
+
+-- The queue gave its frames back.
+shares_gone : (c d : QueueCounts) (p q r : PoolCounts) → Shares c d p q
+    → Shares d (record d { frames = 0; areas = 0 }) q r
+    → Shares c (record c { frames = 0; areas = 0 }) p r
+shares_gone c d p q r x y = record {
+  shape = y.shape ∙ x.shape;
+  free = omega (arith, x.free, y.free);
+  areas = omega (arith, x.areas, y.areas);
+  rack = y.rack ∙ x.rack;
+  peak = omega (arith, x.peak, y.peak);
+}
+
+pub up_left : {Q : Type 0} (q : QueueGhosts Q) (x y : Q) {s u v : RigState} (p : Parts)
+    → DoneUntil q x y s u p → Leaves (q.counts y) u v
+    → UsesUp (held_at q x s p) (q.counts x) s v
+up_left q x y {s} {u} {v} p h l = record {
+  sound = l.sound;
+  touches = touches_within s u v (held_at q x s p) [] h.touches
+      (record { off = λ z j i o. tt }) l.touches;
+  frames = shares_gone (q.counts x) (q.counts y) s.pool u.pool v.pool h.shares l.frames;
+}
+
+-- the moves within an allowance,
+allowed : (o : Option (ShapeNumbers → ℕ → ℕ → ℕ)) (s u v : RigState) (c d : QueueCounts)
+    (calls run own : ℕ) → u.pool.shape ≡ s.pool.shape → CalledInRuns calls run c d
+    → u.moves + c.spent ≤ s.moves + d.spent + own → IfSome o IsRising
+    → IfSome o (λ f. d.spent + v.moves ≤ u.moves + f u.pool.shape d.n d.k)
+    → IfSome o (λ f. v.moves + c.spent
+    ≤ s.moves + f s.pool.shape (c.n + calls) (max c.k (c.since + run)) + own)
+allowed None s u v c d calls run own e h m r x = tt
+allowed (Some f) s u v c d calls run own e h m r x =
+    let y = r s.pool.shape d.n (c.n + calls) d.k (max c.k (c.since + run)) h.n h.k in
+    let z = ap (λ (a : ShapeNumbers). f a d.n d.k) e in
+    omega (arith, m, x, y, z)
+
+still_allowed : (o : Option (ShapeNumbers → ℕ → ℕ → ℕ)) (u v : RigState) (d : QueueCounts)
+    → v.moves ≡ u.moves → IfSome o (λ f. d.spent ≤ f u.pool.shape d.n d.k)
+    → IfSome o (λ f. d.spent + v.moves ≤ u.moves + f u.pool.shape d.n d.k)
+still_allowed None u v d e x = tt
+still_allowed (Some f) u v d e x = omega (arith, e, x)
+
+-- and the blocks within a room, after it was abandoned,
+roomy : (o : Option (ShapeNumbers → ℕ → ℕ)) (s u v : RigState) (c d : QueueCounts)
+    (calls run held peak : ℕ) → u.pool.shape ≡ s.pool.shape → CalledInRuns calls run c d
+    → u.most + (c.blocks + held) ≤ max (s.most + (c.blocks + held)) (s.used + (d.most + peak))
+    → v.most ≡ u.most → IfSome o IsRisingRoom → IfSome o (λ f. d.most ≤ f u.pool.shape d.k)
+    → IfSome o (λ f. v.most + (c.blocks + held) ≤ max (s.most + (c.blocks + held))
+    (s.used + (f s.pool.shape (max c.k (c.since + run)) + peak)))
+roomy None s u v c d calls run held peak e h m n r x = tt
+roomy (Some f) s u v c d calls run held peak e h m n r x =
+    let y = r s.pool.shape d.k (max c.k (c.since + run)) h.k in
+    let z = ap (λ (a : ShapeNumbers). f a d.k) e in
+    omega (arith, m, n, x, y, z)
+
+-- and after it was ended.
+ended_roomy : (o : Option (ShapeNumbers → ℕ → ℕ)) (s u v : RigState) (c d : QueueCounts)
+    (calls run held peak left : ℕ) → u.pool.shape ≡ s.pool.shape → CalledInRuns calls run c d
+    → u.most + (c.blocks + held) ≤ max (s.most + (c.blocks + held)) (s.used + (d.most + peak))
+    → u.used + (c.blocks + held) ≡ s.used + (d.blocks + left) → left ≤ peak
+    → IfSome o IsRisingRoom → IfSome o (λ f. d.most ≤ f u.pool.shape d.k)
+    → v.most + d.blocks ≤ max (u.most + d.blocks) (u.used + ending_most o u.pool.shape d)
+    → IfSome o (λ f. v.most + (c.blocks + held) ≤ max (s.most + (c.blocks + held))
+    (s.used + (f s.pool.shape (max c.k (c.since + run)) + peak)))
+ended_roomy None s u v c d calls run held peak left e h m n l r x w = tt
+ended_roomy (Some f) s u v c d calls run held peak left e h m n l r x w =
+    let y = r s.pool.shape d.k (max c.k (c.since + run)) h.k in
+    let z = ap (λ (a : ShapeNumbers). f a d.k) e in
+    let b : v.most + d.blocks ≤ max (u.most + d.blocks) (u.used + f u.pool.shape d.k) = w in
+    omega (arith, m, n, l, x, y, z, b)
+
+-- The same of a bound on what it holds while it ends.
+ended_within : (top : ℕ) {end : ℕ} (s u v : RigState) (c d : QueueCounts) (held peak left : ℕ)
+    → u.most + (c.blocks + held) ≤ max (s.most + (c.blocks + held)) (s.used + (d.most + peak))
+    → u.used + (c.blocks + held) ≡ s.used + (d.blocks + left) → left ≤ peak → d.most ≤ top
+    → top ≡ end → v.most + d.blocks ≤ max (u.most + d.blocks) (u.used + top)
+    → v.most + (c.blocks + held) ≤ max (s.most + (c.blocks + held)) (s.used + (end + peak))
+ended_within top s u v c d held peak left m n l x e w = omega (arith, m, n, l, x, e, w)
+
+-- its costs as a caller is told them
+abbrev pub GraphCosts : {Q : Type 0} → QueueGhosts Q → Q → RigState → RigState → Parts → Type 0
+GraphCosts q x s v p = SortCosts q (sort_calls p.header) (sort_run p.header) (sort_moves s p)
+    (parts_size p) (sort_peak s p) (q.counts x) s v
+
+pub costs_left : {Q : Type 0} (q : QueueGhosts Q) (x y : Q) {s u v : RigState} (p : Parts)
+    → DoneUntil q x y s u p → q.HasItsFrames y u → Leaves (q.counts y) u v
+    → IfSome q.allowance IsRising
+    → IfSome q.allowance (λ f. (q.counts y).spent ≤ f u.pool.shape (q.counts y).n (q.counts y).k)
+    → IfSome q.room IsRisingRoom
+    → IfSome q.room (λ f. (q.counts y).most ≤ f u.pool.shape (q.counts y).k)
+    → GraphCosts q x s v p
+costs_left q x y {s} {u} {v} p h has l rising spends rising_room fits =
+    let calls = sort_calls p.header in
+    let run = sort_run p.header in
+    let e = h.shares.shape in
+    let n = ap (λ (z : RigState). z.moves) l.same in
+    let m = ap (λ (z : RigState). z.most) l.same in
+    record {
+      last = y;
+      then = u;
+      gone = inr l;
+      frames = has;
+      shape = e;
+      called = h.called;
+      most =
+          let top = most_at_end q.room u.pool.shape (q.counts y) fits in
+          let same = ap (λ (z : ShapeNumbers). ending_most q.room z (q.counts y)) e in
+          omega (arith, h.most, m, top, same);
+      moves = h.moves;
+      all_moves = allowed q.allowance s u v (q.counts x) (q.counts y) calls run (sort_moves s p) e
+          h.called h.moves rising (still_allowed q.allowance u v (q.counts y) n spends);
+      room = roomy q.room s u v (q.counts x) (q.counts y) calls run (parts_size p) (sort_peak s p) e
+          h.called h.most m rising_room fits;
+    }
+
+-- after it was abandoned no more blocks aren't stored
+pub pays_left : {Q : Type 0} (q : QueueGhosts Q) (x y : Q) {s u v : RigState}
+    → Pays (q.counts x).unstored (s.pool.shape.frames + 2) s u → Leaves (q.counts y) u v
+    → Pays (q.counts x).unstored (s.pool.shape.frames + 2) s v
+pays_left q x y {s} {u} {v} h l =
+    let used = ap (λ (z : RigState). z.used) l.same in
+    let moves = ap (λ (z : RigState). z.moves) l.same in
+    pays_then h (pays_kept (s.pool.shape.frames + 2) (omega (arith, used)) (omega (arith, moves)))
+    (omega (arith, moves))
+
+-- why a call gave up is as true after the queue was abandoned
+pub cause_left : {c : QueueCounts} (s : RigState) {u v : RigState} (e : AigStop) → Leaves c u v
+    → IfEmStop e (Cause s u) → IfEmStop e (Cause s v)
+cause_left s (stop.Fault fault place) l h = tt
+cause_left s stop.Read l h = tt
+cause_left s (stop.Em DeviceFault) l h =
+    subst (λ (w : RigState). Cause s w DeviceFault) (sym l.same) h
+cause_left s (stop.Em (Full used)) l h =
+    subst (λ (w : RigState). Cause s w (Full used)) (sym l.same) h
+cause_left s (stop.Em (Damaged block)) l h =
+    subst (λ (w : RigState). Cause s w (Damaged block)) (sym l.same) h
+
+-- A graph's blocks were left alone.
+pub record GraphStays (s t : RigState) (g : Graph) : Type 0 where
+  pub is : IsGraph t g
+  pub blocks : IsTrue s.device.told → graph_blocks t g ≡ graph_blocks s g
+  pub of : IsTrue s.device.told → (c : Circuit) → IsGraphOf s g c → IsGraphOf t g c
+
+still_of : {s t : RigState} (g : Graph) (c : Circuit) → ChainStays s t g.gates
+    → ChainStays s t g.edges → ChainStays s t g.sources → IsTrue s.device.told → IsGraphOf s g c
+    → IsGraphOf t g c
+still_of g c x y w z o = record {
+  header = o.header;
+  is = o.is;
+  gates = x.items z ∙ o.gates;
+  edges = y.items z ∙ o.edges;
+  sources = w.items z ∙ o.sources;
+}
+
+pub graph_stays : {s t : RigState} (ks : List ℕ) (g : Graph) → Touches ks s t
+    → (IsTrue s.device.told → Holds s (ks ++ graph_blocks s g)) → IsGraph s g → GraphStays s t g
+graph_stays {s} {t} ks g h n i =
+    let gs = chain_blocks s g.gates in
+    let es = chain_blocks s g.edges in
+    let ss = chain_blocks s g.sources in
+    let all = graph_blocks s g in
+    let a : IsTrue s.device.told → Apart all ks =
+    λ z. apart_sym ks all (distinct_apart ks all ((n z).distinct z)) in
+    let x = chain_stays ks s t g.gates h (λ z. apart_left gs (es ++ ss) ks (a z)) i.gates.is in
+    let y = chain_stays ks s t g.edges h
+    (λ z. apart_left es ss ks (apart_right gs (es ++ ss) ks (a z))) i.edges.is in
+    let w = chain_stays ks s t g.sources h
+    (λ z. apart_right es ss ks (apart_right gs (es ++ ss) ks (a z))) i.sources.is in
+    let same : IsTrue s.device.told → graph_blocks t g ≡ all =
+    λ z. ap (λ (l : List ℕ). l ++ (chain_blocks t g.edges ++ chain_blocks t g.sources)) (x.blocks z)
+    ∙ ap (λ (l : List ℕ). gs ++ (l ++ chain_blocks t g.sources)) (y.blocks z)
+    ∙ ap (λ (l : List ℕ). gs ++ (es ++ l)) (w.blocks z) in
+    record {
+      is = record {
+        header = i.header;
+        gates = record { is = x.is; count_is = i.gates.count_is };
+        edges = record { is = y.is; count_is = i.edges.count_is };
+        sources = record { is = w.is; count_is = i.sources.count_is };
+        holds = λ u.
+            let z : IsTrue s.device.told = sym h.told ∙ u in
+            subst (λ (l : List ℕ). Holds t l) (sym (same z))
+            (holds_kept ks s t all h (λ _. a z) (i.holds z));
+        stands = λ u.
+            let z : IsTrue s.device.told = sym h.told ∙ u in
+            let k = i.stands z in
+            record { circuit = k.circuit; is = still_of g k.circuit x y w z k.is };
+      };
+      blocks = same;
+      of = λ z c o. still_of g c x y w z o;
+    }
+
+-- The graph was made, and the queue ended.
+pub record EndedAfter {Q : Type 0} (q : QueueGhosts Q) (x : Q) (s u v : RigState) (p : Parts)
+    (m : Graph) : Type 0 where
+  pub session : Session (held_at q x s p) s v (graph_blocks v m)
+  pub stays : GraphStays u v m
+
+pub ended_after : {Q : Type 0} (q : QueueGhosts Q) (x y : Q) {s u v : RigState} {m : Graph}
+    (p : Parts) → BuildsBeside q x y s u p m
+    → Ends q.allowance q.room (q.blocks y u) (q.counts y) u v → EndedAfter q x s u v p m
+ended_after q x y {s} {u} {v} {m} p b e =
+    let ks = q.blocks y u in
+    let gs = graph_blocks u m in
+    let all = b.runs.runs.session in
+    let gone : Session ks u v [] = record {
+      sound = e.sound;
+      touches = e.touches;
+      within = record { off = λ z j i o. tt };
+      holds = λ z. record { in_use = tt; distinct = λ d. tt };
+    } in
+    let w = graph_stays ks m e.touches (λ z. all.holds (sym all.touches.told ∙ z)) b.is in
+    record {
+      session = session_as (graph_blocks v m) (session_then ks [] gs all gone)
+          (λ z. w.blocks (all.touches.told ∙ z));
+      stays = w;
+    }
+
+pub up_ended : {Q : Type 0} (q : QueueGhosts Q) (x y : Q) {s u v : RigState} {m : Graph}
+    (p : Parts) → BuildsBeside q x y s u p m
+    → Ends q.allowance q.room (q.blocks y u) (q.counts y) u v
+    → UsesUp (held_at q x s p) (q.counts x) s v
+up_ended q x y {s} {u} {v} p b e =
+    let h = until_built q x y p b in
+    record {
+      sound = e.sound;
+      touches = (ended_after q x y p b e).session.touches;
+      frames = shares_gone (q.counts x) (q.counts y) s.pool u.pool v.pool h.shares e.frames;
+    }
+
+pub costs_ended : {Q : Type 0} (q : QueueGhosts Q) (x y : Q) {s u v : RigState} {m : Graph}
+    (p : Parts) → BuildsBeside q x y s u p m → q.HasItsFrames y u
+    → Ends q.allowance q.room (q.blocks y u) (q.counts y) u v
+    → IfSome q.allowance IsRising → IfSome q.room IsRisingRoom
+    → IfSome q.room (λ f. (q.counts y).most ≤ f u.pool.shape (q.counts y).k) → GraphCosts q x s v p
+costs_ended q x y {s} {u} {v} {m} p b has l rising rising_room fits =
+    let h = until_built q x y p b in
+    let calls = sort_calls p.header in
+    let run = sort_run p.header in
+    let e = h.shares.shape in
+    let used = b.runs.runs.spends.used in
+    let least : graph_size m ≤ sort_peak s p = omega (arith, b.edges, b.gates, b.sources) in
+    record {
+      last = y;
+      then = u;
+      gone = inl l;
+      frames = has;
+      shape = e;
+      called = h.called;
+      most =
+          let top = most_at_end q.room u.pool.shape (q.counts y) fits in
+          let same = ap (λ (z : ShapeNumbers). ending_most q.room z (q.counts y)) e in
+          ended_within (ending_most q.room u.pool.shape (q.counts y)) s u v (q.counts x)
+          (q.counts y) (parts_size p) (sort_peak s p) (graph_size m) h.most
+          (omega (arith, used)) least top same l.most;
+      moves = h.moves;
+      all_moves = allowed q.allowance s u v (q.counts x) (q.counts y) calls run (sort_moves s p) e
+          h.called h.moves rising l.spent;
+      room = ended_roomy q.room s u v (q.counts x) (q.counts y) calls run (parts_size p)
+          (sort_peak s p) (graph_size m) e h.called h.most (omega (arith, used)) least rising_room
+          fits l.most;
+    }
+
+-- It is the graph of each circuit whose parts there were.
+pub builds_upward : {Q : Type 0} (q : QueueGhosts Q) (x y : Q) {s u v : RigState} {m : Graph}
+    (p : Parts) → BuildsBeside q x y s u p m
+    → Ends q.allowance q.room (q.blocks y u) (q.counts y) u v
+    → BuildsUpward (held_at q x s p) s v p m
+builds_upward q x y p b e =
+    let a = ended_after q x y p b e in
+    record {
+      is = a.stays.is;
+      header = b.header;
+      blocks = a.session;
+      edges = b.edges;
+      gates = b.gates;
+      sources = b.sources;
+      stands = λ z.
+          let each = b.stands z in
+          record {
+            upward = each.upward;
+            is = λ c o. a.stays.of (b.runs.runs.session.touches.told ∙ z) c (each.is c o);
+          };
+    }
+
+-- All blocks of the graph are stored,
+pub stores_ended : {Q : Type 0} (q : QueueGhosts Q) (x y : Q) {s u v : RigState} {m : Graph}
+    (p : Parts) → BuildsBeside q x y s u p m → Ended (q.counts y) u v → u.moves ≤ v.moves
+    → (v.used + ((q.counts x).blocks + parts_size p) ≡ s.used + graph_size m)
+    × Pays (q.counts x).unstored 0 s v
+stores_ended q x y p b e later =
+    let spends = b.runs.runs.spends in
+    let used = spends.used in
+    let gone = e.used in (
+      omega (arith, used, gone),
+      pays_then (pays_more {q = (q.counts y).unstored} spends.pays (omega arith)) e.pays later,
+    )
+
+-- or the end was refused.
+pub pays_unended : {Q : Type 0} (q : QueueGhosts Q) (x y : Q) {s u v : RigState} {m : Graph}
+    (p : Parts) → BuildsBeside q x y s u p m
+    → Pays (q.counts y).unstored u.pool.shape.frames u v → u.moves ≤ v.moves
+    → Pays (q.counts x).unstored (s.pool.shape.frames + 2) s v
+pays_unended q x y {s} {u} p b e later =
+    let spends = b.runs.runs.spends in
+    let shape : u.pool.shape.frames ≡ s.pool.shape.frames =
+    ap (λ (z : ShapeNumbers). z.frames) b.runs.runs.session.touches.shape in
+    pays_then (pays_more {q = (q.counts y).unstored} spends.pays (omega arith))
+    (pays_more {q = s.pool.shape.frames + 2} e (omega (arith, shape))) later
