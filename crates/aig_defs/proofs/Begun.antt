@@ -10,7 +10,8 @@ use Rattle.aig_defs.specs.Items.{Reading, Reads, Fails, Item, times}
 use Rattle.aig_defs.specs.Order.{magic, header_line, input_row, latch_row, output_row, gate_row, sections, Spells}
 use Rattle.aig_defs.specs.Begun.{counts_after, items_begun, section_size, inputs_size, sections_size, size_read, text_size, circuit_size}
 use Rattle.aig_defs.proofs.Items.{through, TakesBytes, pieces_of, times_take}
-use Rattle.aig_defs.proofs.Order.{ascii_input_takes, latch_row_takes, output_row_takes, gate_row_takes, latches_take, outputs_take, gates_take, tail_ends, ReadsSections, sections_read, text_reads}
+use Rattle.aig_defs.proofs.Order.{ascii_input_takes, latch_row_takes, output_row_takes, gate_row_takes, latches_take, outputs_take, gates_take, ReadsSections, sections_read, text_reads}
+use Rattle.aig_defs.proofs.Tail.{tail_takes}
 
 -- no more items were begun than there are
 after_most : {A : Type 0} (r : Reading A) (more : A → ℕ → List ℕ → ℕ) (most : ℕ)
@@ -141,8 +142,8 @@ sections_all form given h p x c q y r low =
     r.left_outputs r.outputs in
     let gates = gates_take form h r.after_outputs r.left_outputs c.gates r.after_gates
     r.left_gates r.gates in
-    let end = tail_ends r.after_gates r.left_gates tt q y r.tail in
-    let four : r.after_gates ≤ given = omega (arith, end.1, low) in
+    let end = tail_takes h r.after_gates r.left_gates tt q y r.tail in
+    let four : r.after_gates ≤ given = omega (arith, end.place, low) in
     let three : r.after_outputs ≤ given = omega (arith, gates.place, four) in
     let two : r.after_latches ≤ given = omega (arith, outputs.place, three) in
     let one : r.after_inputs ≤ given = omega (arith, latches.place, two) in

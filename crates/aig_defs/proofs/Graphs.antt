@@ -1,14 +1,16 @@
 -- The graph of a circuit from the records of its chains: the edges in the order of the text, and
 -- which records can be pushed one after another.
-use Rattle.std.proofs.Common.{◌≡◌, ◌+◌, ◌*◌, ◌<◌, ◌≤◌, ◌%◌, true, false, List, [], ◌∷◌, ◌++◌, ℕ, sym, ap, ◌∙◌, refl, arith, length, map, flat_map}
+use Rattle.std.proofs.Common.{inl, inr, ◌≡◌, ◌+◌, ◌*◌, ◌<◌, ◌≤◌, ◌%◌, true, false, cond, List, [], ◌∷◌, ◌++◌, ℕ, sym, ap, ◌∙◌, refl, subst, arith, length, map, flat_map}
 use Rattle.std.specs.Ordering.{nat_cmp, ordering_then, is_lt, MatchOrdering}
 use Rattle.std.specs.declared.cmp.Ordering.{Ordering}
 use Rattle.std.specs.declared.cmp.Ordering.TheVariants.{Less, Equal, Greater}
+use Rattle.std.proofs.lemmas.Bool.{cases_Bool}
 use Rattle.std.proofs.lemmas.Cmp.{ranked}
 use Rattle.std.proofs.lemmas.List.{length-append, map-append}
 use Rattle.em_record.specs.declared.record.Record.{Record}
-use Rattle.em_record.specs.Order.{is_below, with_record, with_records, Lacks}
-use Rattle.em_record.proofs.Lacking.{lacks_with}
+use Rattle.em_record.specs.Order.{is_below, with_record, with_records, in_order, Lacks}
+use Rattle.em_record.proofs.Commutes.{order_cons}
+use Rattle.em_record.proofs.Lacking.{lacks_order, lacks_without, lacks_with}
 use Rattle.em_record.proofs.Order.{length_order}
 use Rattle.aig_defs.specs.declared.circuit.Latch.{Latch}
 use Rattle.aig_defs.specs.declared.circuit.Gate.{Gate}
@@ -239,3 +241,38 @@ lt_first Greater o m n h l = absurd (omega (arith, h, l))
 
 pub lesser_below : (y x : Record) → y.a < x.a → is_below y x ≡ true
 lesser_below y x l = lt_first (nat_cmp y.a x.a) _ y.a x.a (ranked y.a x.a _ refl) l
+
+-- records of which no two have the same words a and b, in order and back
+apart_with : (x : Record) (ys : List Record) → AllApart (x ∷ ys) → AllApart (with_record x ys)
+apart_with x [] h = h
+apart_with x (y ∷ ys) h = elim (cases_Bool (is_below y x)) [
+  | inl below ↦
+      let differ = λ (p : x.a ≡ y.a) (q : x.b ≡ y.b). h.0.0 (sym p) (sym q) in
+      subst (λ b. AllApart (cond b (y ∷ with_record x ys) (x ∷ y ∷ ys))) (sym below)
+      (lacks_with y x ys h.1.0 differ, apart_with x ys (h.0.1, h.1.1))
+  | inr past ↦
+      subst (λ b. AllApart (cond b (y ∷ with_record x ys) (x ∷ y ∷ ys))) (sym past) h
+]
+
+pub apart_order : (xs : List Record) → AllApart xs → AllApart (in_order xs)
+apart_order [] h = h
+apart_order (x ∷ xs) h =
+    subst AllApart (sym (order_cons x xs))
+    (apart_with x (in_order xs) ((lacks_order x xs).1 h.0, apart_order xs h.1))
+
+apart_without : (x : Record) (ys : List Record) → AllApart (with_record x ys) → AllApart (x ∷ ys)
+apart_without x [] h = h
+apart_without x (y ∷ ys) h = elim (cases_Bool (is_below y x)) [
+  | inl below ↦
+      let split = subst (λ b. AllApart (cond b (y ∷ with_record x ys) (x ∷ y ∷ ys))) below h in
+      let lacks = lacks_without y x ys split.0 in
+      let rest = apart_without x ys split.1 in
+      ((λ p q. lacks.0 (sym p) (sym q), rest.0), (lacks.1, rest.1))
+  | inr past ↦ subst (λ b. AllApart (cond b (y ∷ with_record x ys) (x ∷ y ∷ ys))) past h
+]
+
+pub order_apart : (xs : List Record) → AllApart (in_order xs) → AllApart xs
+order_apart [] h = h
+order_apart (x ∷ xs) h =
+    let split = apart_without x (in_order xs) (subst AllApart (order_cons x xs) h) in
+    ((lacks_order x xs).0 split.0, order_apart xs split.1)

@@ -3,9 +3,10 @@ use Rattle.std.proofs.Common.{◌≡◌, ◌^◌, ◌≤◌, List, [], ◌++◌,
 use Rattle.std.proofs.lemmas.List.{append-nil}
 use Rattle.aig_defs.specs.declared.fault.AigKind.{AigKind}
 use Rattle.aig_defs.specs.declared.form.Form.{Form}
+use Rattle.aig_defs.specs.declared.form.Form.TheVariants.{Ascii, Binary}
 use Rattle.aig_defs.specs.Circuit.{Circuit}
 use Rattle.aig_defs.specs.Items.{Reading, Reads, Fails, Item, and_then, ◌>>=◌}
-use Rattle.aig_defs.specs.Order.{magic, after_magic, circuit_text, Spells, Breaks}
+use Rattle.aig_defs.specs.Order.{magic, ascii_magic, is_ascii, after_magic, circuit_text, Spells, Breaks}
 use Rattle.aig_defs.proofs.Order.{ReadsText, text_reads, text_piece, text_ends}
 
 pub never_both : (form : Form) (x : List ℕ) (c : Circuit) (kind : AigKind) (place : ℕ)
@@ -69,6 +70,25 @@ breaks_by x form p y kind place m e = record {
 pub breaks_magic : (x : List ℕ) (kind : AigKind) (place : ℕ) → magic 0 x ≡ Fails kind place
     → Breaks x kind place
 breaks_magic x kind place m = record { fails = ap (λ r. and_then r whole) m }
+
+magic_by : (r : Reading Form) (form : Form) (p : ℕ) (y : List ℕ)
+    → and_then r (λ f. Reads (is_ascii f)) ≡ Reads (is_ascii form) p y → r ≡ Reads form p y
+magic_by (Reads Ascii q x) Ascii p y e =
+    let place : q ≡ p = cc in
+    let left : x ≡ y = cc in
+    ap (λ k. Reads Ascii k x) place ∙ ap (λ z. Reads Ascii p z) left
+magic_by (Reads Binary q x) Binary p y e =
+    let place : q ≡ p = cc in
+    let left : x ≡ y = cc in
+    ap (λ k. Reads Binary k x) place ∙ ap (λ z. Reads Binary p z) left
+magic_by (Reads Ascii q x) Binary p y e = cc
+magic_by (Reads Binary q x) Ascii p y e = cc
+magic_by (Fails kind place) form p y e = cc
+
+-- the magic of a form was read if it is known which form it is
+pub magic_of : (form : Form) (x : List ℕ) (p : ℕ) (y : List ℕ)
+    → ascii_magic 0 x ≡ Reads (is_ascii form) p y → magic 0 x ≡ Reads form p y
+magic_of form x p y e = magic_by (magic 0 x) form p y e
 
 -- whether a text spells a circuit or breaks
 pub data Decided (x : List ℕ) : Type 0 where

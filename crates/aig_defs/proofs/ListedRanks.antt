@@ -4,25 +4,22 @@ use Rattle.std.specs.Option.{option_map, unwrap_or}
 use Rattle.std.proofs.lemmas.Bool.{cases_Bool, eqb-true, eqb-false, ne_eqb}
 use Rattle.std.proofs.lemmas.List.{map-append}
 use Rattle.em_record.specs.declared.record.Record.{Record}
-use Rattle.em_record.specs.Order.{in_order}
 use Rattle.aig_defs.specs.declared.circuit.Latch.{Latch}
 use Rattle.aig_defs.specs.Chains.{numbered, input_def, latch_def}
 use Rattle.aig_defs.specs.Circuit.{Circuit, variables, currents, left_sides, IsCircuit}
 use Rattle.aig_defs.specs.Faults.{IsTwice, Nowhere}
 use Rattle.aig_defs.specs.Founded.{has, sources, gate_variables, upwards}
-use Rattle.aig_defs.specs.Graph.{graph_edges, graph_gates, graph_sources, AllLack}
-use Rattle.aig_defs.specs.Ranks.{index, ordered_edges}
-use Rattle.aig_defs.specs.Rising.{IsUpward}
-use Rattle.aig_defs.specs.RisingRanks.{variable_rank, ranked_edge, source_rank, listed_rank}
+use Rattle.aig_defs.specs.Graph.{graph_gates, graph_sources}
+use Rattle.aig_defs.specs.Ranks.{index}
+use Rattle.aig_defs.specs.VariableRanks.{variable_rank, source_rank, listed_rank}
 use Rattle.aig_defs.proofs.Chains.{defs_words}
 use Rattle.aig_defs.proofs.Members.{has_cases, has_rest, has_left, has_right, has_either, contains_first, contains_rest, contains_cases, contains_none, contains_left, contains_right}
 use Rattle.aig_defs.proofs.Passes.{length_upwards}
 use Rattle.aig_defs.proofs.RankEdges.{rank_numbers}
-use Rattle.aig_defs.proofs.RisingOrder.{gate_upwards}
-use Rattle.aig_defs.proofs.RisingRanks.{RanksDefined, gate_not_given, gate_place, upward_ordered, upward_lack}
 use Rattle.aig_defs.proofs.Single.{few_definitions, has_times, times_append}
 use Rattle.aig_defs.proofs.Unlike.{Unlike, few_unlike, words, word_has, one_record, from_order, to_order}
-use Rattle.aig_defs.proofs.Upwards.{graph_upwards, lesser_gates, upwards_mount, gates_unlike, index_after, index_before}
+use Rattle.aig_defs.proofs.Upwards.{gate_upwards, graph_upwards, lesser_gates, upwards_mount, gates_unlike, index_after, index_before}
+use Rattle.aig_defs.proofs.VariableRanks.{RanksDefined, gate_not_given, gate_place}
 
 -- the only record with a word is found, and none is found if none has it
 pub find_only : (xs : List Record) (v : ℕ) (r : Record) → Contains xs r → r.a ≡ v
@@ -235,17 +232,3 @@ listed_defined c is n v (inr there) = elim (cases_Bool (eqb v 0)) [
         | inr b ↦ gate_rank c is n v some b
       ]
 ]
-
--- So the edges between ranks are those of the graph, by ranks that are looked up,
-pub listed_ordered : (c : Circuit) → IsCircuit c → IsUpward c
-    → ordered_edges c (upwards c.gates)
-    ≡ in_order (map (ranked_edge (listed_rank c.header (graph_sources c) (graph_gates c)) c.header)
-    (graph_edges c))
-listed_ordered c is u = upward_ordered c _ is u (listed_defined c is u.twice)
-
--- and no two of them have the same words a and b.
-pub listed_lack : (c : Circuit) → IsCircuit c → IsUpward c
-    → AllLack [] (map
-    (ranked_edge (listed_rank c.header (graph_sources c) (graph_gates c)) c.header)
-    (graph_edges c))
-listed_lack c is u = upward_lack c _ is u (listed_defined c is u.twice)

@@ -15,8 +15,10 @@ use Rattle.aig_defs.specs.declared.form.Limit.{Limit}
 use Rattle.aig_defs.specs.declared.form.Limit.TheVariants.{Count, Defining, Used}
 use Rattle.aig_defs.specs.Circuit.{Circuit}
 use Rattle.aig_defs.specs.Items.{Reading, Reads, Fails, Item, fails, and_then, ◌>>=◌, ◌>>◌, times, line_end, last_end, number, delta}
-use Rattle.aig_defs.specs.Order.{magic, header_number, header_line, literal_line, latch_line, next_line, gate_line, gate_deltas, input_row, latch_row, output_row, gate_row, tail_at, tail, sections, after_magic, circuit_text}
-use Rattle.aig_defs.proofs.Items.{through, Piece, TakesPieces, TakesBytes, pieces_of, bytes_then, piece_none, piece_then, piece_as, value_takes, takes_then, look_cases, space_takes, end_takes, number_takes, delta_reads, times_take}
+use Rattle.aig_defs.specs.Order.{magic, header_number, header_line, literal_line, latch_line, next_line, gate_line, gate_deltas, input_row, latch_row, output_row, gate_row, sections, after_magic, circuit_text}
+use Rattle.aig_defs.specs.Tail.{tail}
+use Rattle.aig_defs.proofs.Items.{through, Piece, TakesPieces, TakesBytes, pieces_of, bytes_then, piece_then, piece_as, value_takes, takes_then, space_takes, end_takes, number_takes, delta_reads, times_take}
+use Rattle.aig_defs.proofs.Tail.{tail_takes, tail_ends}
 
 -- the header
 pub header_number_takes : TakesPieces header_number
@@ -119,17 +121,6 @@ outputs_take h = times_take h.outputs 0 _ (λ j. pieces_of (output_row_takes h j
 pub gates_take : (form : Form) (h : Header) → TakesPieces (times h.gates 0 (gate_row form h))
 gates_take form h = times_take h.gates 0 _ (λ i. pieces_of (gate_row_takes form h i))
 
--- the tail leaves nothing
-pub tail_ends : (p : ℕ) (x : List ℕ) (a : Unit {0}) (q : ℕ) (y : List ℕ) → tail p x ≡ Reads a q y
-    → (x ≡ []) × (p ≡ q) × (y ≡ [])
-tail_ends p x a q y e = look_cases (λ x. (x ≡ []) × (p ≡ q) × (y ≡ [])) tail_at p x a q y e
-    (λ e. (refl, cc, cc)) (λ byte t low e. cc)
-
-pub tail_takes : TakesPieces tail
-tail_takes p x a q y e =
-    let none = tail_ends p x a q y e in
-    rw (none.0, sym (none.1), none.2) (piece_none p [])
-
 -- the circuit of these sections
 abbrev pub circuit_of : Header → List ℕ → List Latch → List ℕ → List Gate → Circuit
 circuit_of h is ls os gs =
@@ -141,7 +132,7 @@ sections_take form h =
     takes_then (latches_take form h) (λ latches.
     takes_then (outputs_take h) (λ outputs.
     takes_then (gates_take form h) (λ gates.
-    takes_then tail_takes (λ _. value_takes (circuit_of h inputs latches outputs gates))))))
+    takes_then (tail_takes h) (λ _. value_takes (circuit_of h inputs latches outputs gates))))))
 
 pub after_magic_takes : (form : Form) → TakesPieces (after_magic form)
 after_magic_takes form = takes_then (header_takes form) (sections_take form)
@@ -186,12 +177,11 @@ ends_then : {A B : Type 0} (item : Item A) {next : A → Item B} → ((a : A) �
 ends_then {A} {B} item {next} f p x b q y e =
     let t = through (item p x) next b q y e in f t.value t.place t.left b q y t.after
 
-tail_then : (c : Circuit) → EndsText (tail >> Reads c)
-tail_then c p x d q y e =
-    let t = through (tail p x) _ d q y e in
-    let none = tail_ends p x t.value t.place t.left t.first in
+tail_then : (h : Header) (c : Circuit) → EndsText (tail h >> Reads c)
+tail_then h c p x d q y e =
+    let t = through (tail h p x) _ d q y e in
     let same : t.left ≡ y = cc (t.after) in
-    sym same ∙ none.2
+    sym same ∙ tail_ends h p x t.value t.place t.left t.first
 
 pub sections_end : (form : Form) (h : Header) → EndsText (sections form h)
 sections_end form h =
@@ -199,7 +189,7 @@ sections_end form h =
     ends_then (times h.latches 0 (latch_row form h)) (λ latches.
     ends_then (times h.outputs 0 (output_row h)) (λ outputs.
     ends_then (times h.gates 0 (gate_row form h)) (λ gates.
-    tail_then (circuit_of h inputs latches outputs gates)))))
+    tail_then h (circuit_of h inputs latches outputs gates)))))
 
 -- the sections of a circuit that was read, with the places and what is left after each
 pub record ReadsSections (form : Form) (h : Header) (p : ℕ) (x : List ℕ) (c : Circuit) (q : ℕ)
@@ -222,7 +212,7 @@ pub record ReadsSections (form : Form) (h : Header) (p : ℕ) (x : List ℕ) (c 
   pub gates :
       times h.gates 0 (gate_row form h) after_outputs left_outputs
       ≡ Reads c.gates after_gates left_gates
-  pub tail : tail after_gates left_gates ≡ Reads tt q y
+  pub tail : tail h after_gates left_gates ≡ Reads tt q y
   pub header : h ≡ c.header
 
 tail_by : (r : Reading (Unit {0})) (d c : Circuit) (q : ℕ) (y : List ℕ)
@@ -250,7 +240,7 @@ sections_read form h p x c q y e =
     let o = through (times h.outputs 0 (output_row h) l.place l.left) _ c q y l.after in
     let a = through (times h.gates 0 (gate_row form h) o.place o.left) _ c q y o.after in
     let d = circuit_of h i.value l.value o.value a.value in
-    let t = tail_by (tail a.place a.left) d c q y a.after in
+    let t = tail_by (tail h a.place a.left) d c q y a.after in
     record {
       after_inputs = i.place;
       left_inputs = i.left;

@@ -5,17 +5,19 @@ use Rattle.std.specs.Str.Parse.{digits_value}
 use Rattle.std.proofs.lemmas.Bool.{leb-true, leb-false, ltb-true, and_parts}
 use Rattle.std.proofs.lemmas.List.{length-append}
 use Rattle.aig_defs.specs.declared.fault.AigKind.{AigKind}
-use Rattle.aig_defs.specs.declared.fault.AigKind.TheVariants.{BadMagic, BadNumber, TooLarge, BadSeparator, BadCounts, LiteralRange, OddDefinition, BadDelta, Short, Extra, Extension, TooLong}
+use Rattle.aig_defs.specs.declared.fault.AigKind.TheVariants.{BadMagic, BadNumber, TooLarge, BadSeparator, BadCounts, LiteralRange, OddDefinition, BadDelta, Short, BadSymbol, Extra, Extension, TooLong}
 use Rattle.aig_defs.specs.declared.circuit.Header.{Header}
 use Rattle.aig_defs.specs.declared.form.Form.{Form}
 use Rattle.aig_defs.specs.declared.form.Form.TheVariants.{Ascii, Binary}
 use Rattle.aig_defs.specs.declared.form.Limit.{Limit}
-use Rattle.aig_defs.specs.declared.form.Limit.TheVariants.{Count, Defining, Used}
+use Rattle.aig_defs.specs.declared.form.Limit.TheVariants.{Count, Defining, Used, Position}
 use Rattle.aig_defs.specs.Circuit.{Circuit}
 use Rattle.aig_defs.specs.Items.{Reading, Reads, Fails, Item, fails, and_then, ◌>>=◌, ◌>>◌, times, look, take_byte, space_at, space, end_at, line_end, last_end, digits, looks_too_far, no_number, number_fault, number_by, number, delta_at, delta_bytes, delta}
-use Rattle.aig_defs.specs.Order.{magic, header_number, header_line, literal_line, latch_line, next_line, gate_line, gate_deltas, input_row, latch_row, output_row, gate_row, tail_at, tail, sections, after_magic, Breaks}
-use Rattle.aig_defs.proofs.Items.{Piece, TakesPieces, pieces_of, piece_byte, through, space_takes, number_takes, times_take}
-use Rattle.aig_defs.proofs.Order.{header_number_takes, counted_takes, last_end_takes, line_end_takes, header_takes, used_takes, delta_takes, input_row_takes, latch_row_takes, output_row_takes, gate_row_takes, inputs_take, latches_take, outputs_take, gates_take, tail_takes, circuit_of, magic_piece}
+use Rattle.aig_defs.specs.Order.{magic, header_number, header_line, literal_line, latch_line, next_line, gate_line, gate_deltas, input_row, latch_row, output_row, gate_row, sections, after_magic, Breaks}
+use Rattle.aig_defs.specs.Tail.{name, comment, symbol, positions, symbol_line, tail_line_at, tail_line, go_on, tail_lines, tail}
+use Rattle.aig_defs.proofs.Items.{Piece, TakesPieces, pieces_of, piece_byte, through, takes_then, space_takes, number_takes, times_take}
+use Rattle.aig_defs.proofs.Order.{header_number_takes, counted_takes, last_end_takes, line_end_takes, header_takes, used_takes, delta_takes, input_row_takes, latch_row_takes, output_row_takes, gate_row_takes, inputs_take, latches_take, outputs_take, gates_take, circuit_of, magic_piece}
+use Rattle.aig_defs.proofs.Tail.{comment_takes, symbol_takes, tail_line_takes, tail_takes}
 
 -- where a fault of an item and the next one comes from
 pub data FailsAt {A B : Type 0} (r : Reading A) (next : A → Item B) (kind : AigKind) (place : ℕ)
@@ -152,11 +154,6 @@ last_end_near : (low : ℕ) → FaultsNear low last_end
 last_end_near low = end_near low (λ byte. cond (nat_eq byte 32) Extension BadSeparator)
     (λ byte. separator_by (nat_eq byte 32))
 
-tail_near : (low : ℕ) → FaultsNear low tail
-tail_near low = look_near low tail_at (λ p kind place near e. cc)
-    (λ p byte x kind place le lt e. fault_as p (byte ∷ x) Extra kind p place
-    (fault_here p (byte ∷ x) Extra (omega arith) (λ e. cc)) e)
-
 -- what is wrong with a number's value isn't TooLong
 abbrev NotFar : Option AigKind → Type 0
 NotFar None = Unit {0}
@@ -170,6 +167,10 @@ used_by : (over : Bool) → NotFar (cond over (Some LiteralRange) None)
 used_by true = λ e. cc
 used_by false = tt
 
+position_by : (within : Bool) → NotFar (cond within None (Some BadSymbol))
+position_by true = tt
+position_by false = λ e. cc
+
 defining_by : (over bad : Bool)
     → NotFar (cond over (Some LiteralRange) (cond bad (Some OddDefinition) None))
 defining_by true bad = λ e. cc
@@ -180,6 +181,7 @@ value_not_far : (limit : Limit) (v : ℕ) → NotFar (number_fault limit v)
 value_not_far Count v = count_by _
 value_not_far (Defining max) v = defining_by _ _
 value_not_far (Used max) v = used_by _
+value_not_far (Position n) v = position_by _
 
 value_by : (fault : Option AigKind) (p : ℕ) (x : List ℕ) (kind : AigKind) (place : ℕ)
     → NotFar fault → p ≤ 2 ^ 50 → number_by fault (digits x) p x ≡ Fails kind place
@@ -374,6 +376,79 @@ gate_row_near : (low : ℕ) (form : Form) (h : Header) (i : ℕ) → FaultsNear 
 gate_row_near low Ascii h i = gate_line_near low h
 gate_row_near low Binary h i = gate_deltas_near low h i
 
+-- a byte that is passed over, and then the bytes after it
+pass_by : (far last : Bool) (more : Reading (Unit {0})) (p byte : ℕ) (x : List ℕ) (kind : AigKind)
+    (place : ℕ)
+    → leb (2 ^ 50) p ≡ far → (p < 2 ^ 50 → more ≡ Fails kind place → FaultAt (p + 1) x kind place)
+    → cond far (Fails TooLong (2 ^ 50)) (cond last (Reads tt (p + 1) x) more) ≡ Fails kind place
+    → FaultAt p (byte ∷ x) kind place
+pass_by true last more p byte x kind place t f e =
+    let far = leb-true _ _ t in
+    fault_as p (byte ∷ x) TooLong kind (2 ^ 50) place
+    (fault_far p (byte ∷ x) (omega (arith, far))) e
+pass_by false true more p byte x kind place t f e = cc
+pass_by false false more p byte x kind place t f e =
+    let low = leb-false _ _ t in fault_after kind place (piece_byte p byte x low) (f low e)
+
+name_near : (low : ℕ) → FaultsNear low name
+name_near low p [] kind place le near e = cc
+name_near low p (byte ∷ x) kind place le near e =
+    pass_by _ (eqb byte 10) (name (p + 1) x) p byte x kind place refl
+    (λ lt d. name_near low (p + 1) x kind place (omega arith) (omega arith) d) e
+
+comment_near : (low : ℕ) → FaultsNear low comment
+comment_near low p [] kind place le near e = cc
+comment_near low p (byte ∷ x) kind place le near e =
+    pass_by _ false (comment (p + 1) x) p byte x kind place refl
+    (λ lt d. comment_near low (p + 1) x kind place (omega arith) (omega arith) d) e
+
+symbol_near : (low n : ℕ) → FaultsNear low (symbol n)
+symbol_near low n =
+    near_then (takes_then (pieces_of (number_takes (Position n))) (λ _. space_takes))
+    (near_then (pieces_of (number_takes (Position n))) (number_near low (Position n))
+    (λ _. space_near low))
+    (λ _. name_near low)
+
+-- a line of the tail
+line_by : (low : ℕ) (is_comment : Bool) (section : Option ℕ) (p byte : ℕ) (x : List ℕ)
+    (kind : AigKind)
+    (place : ℕ) → low ≤ p → p < 2 ^ 50
+    → cond is_comment ((take_byte >> comment >> Reads false) p (byte ∷ x))
+    (symbol_line section p (byte ∷ x)) ≡ Fails kind place
+    → FaultAt p (byte ∷ x) kind place
+line_by low true section p byte x kind place le lt e =
+    fault_after kind place (piece_byte p byte x lt)
+    (near_then comment_takes (comment_near low) (λ _. value_near low false) (p + 1) x kind place
+    (omega arith) (omega arith) e)
+line_by low false None p byte x kind place le lt e =
+    fault_as p (byte ∷ x) Extra kind p place
+    (fault_here p (byte ∷ x) Extra (omega arith) (λ e. cc)) e
+line_by low false (Some n) p byte x kind place le lt e =
+    fault_after kind place (piece_byte p byte x lt)
+    (near_then (symbol_takes n) (symbol_near low n) (λ _. value_near low true) (p + 1) x kind place
+    (omega arith) (omega arith) e)
+
+tail_line_near : (low : ℕ) (h : Header) → FaultsNear low (tail_line h)
+tail_line_near low h = look_near low (tail_line_at h) (λ p kind place near e. cc)
+    (λ p byte x kind place le lt e.
+    line_by low (eqb byte 99) (positions h byte) p byte x kind place le lt e)
+
+go_near : (low : ℕ) {more : Item (Unit {0})} → FaultsNear low more → (b : Bool)
+    → FaultsNear low (go_on more b)
+go_near low f true p x kind place le near e = f p x kind place le near e
+go_near low f false p x kind place le near e = cc
+
+tail_lines_near : (low : ℕ) (h : Header) (n : ℕ) → FaultsNear low (tail_lines h n)
+tail_lines_near low h zero p x kind place le near e =
+    fault_as p x Extra kind p place (fault_here p x Extra near (λ e. cc)) e
+tail_lines_near low h (suc n) p x kind place le near e =
+    near_then (tail_line_takes h) (tail_line_near low h) (go_near low (tail_lines_near low h n)) p x
+    kind place le near e
+
+tail_near : (low : ℕ) (h : Header) → FaultsNear low (tail h)
+tail_near low h p x kind place le near e =
+    tail_lines_near low h (length x + 1) p x kind place le near e
+
 -- the sections
 sections_near : (low : ℕ) (form : Form) (h : Header) → FaultsNear low (sections form h)
 sections_near low form h =
@@ -389,7 +464,7 @@ sections_near low form h =
     near_then (gates_take form h)
     (times_near low h.gates 0 (gate_row form h) (λ i. pieces_of (gate_row_takes form h i))
     (gate_row_near low form h)) (λ gates.
-    near_then tail_takes (tail_near low) (λ _.
+    near_then (tail_takes h) (tail_near low h) (λ _.
     value_near low (circuit_of h inputs latches outputs gates))))))
 
 after_magic_near : (form : Form) → FaultsNear 3 (after_magic form)

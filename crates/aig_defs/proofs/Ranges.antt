@@ -13,7 +13,8 @@ use Rattle.aig_defs.specs.declared.form.Limit.{Limit}
 use Rattle.aig_defs.specs.declared.form.Limit.TheVariants.{Count, Defining, Used}
 use Rattle.aig_defs.specs.Circuit.{Circuit, IsHeader, IsDefining, IsUsed, IsLatch, IsGate, IsCircuit}
 use Rattle.aig_defs.specs.Items.{Reads, Item, fails, ◌>>=◌, times, space, line_end, last_end, number, delta}
-use Rattle.aig_defs.specs.Order.{header_number, counts_fit, header_line, literal_line, latch_line, next_line, gate_line, gate_deltas, input_row, latch_row, output_row, gate_row, tail, sections, after_magic, Spells}
+use Rattle.aig_defs.specs.Order.{header_number, counts_fit, header_line, literal_line, latch_line, next_line, gate_line, gate_deltas, input_row, latch_row, output_row, gate_row, sections, after_magic, Spells}
+use Rattle.aig_defs.specs.Tail.{tail}
 use Rattle.aig_defs.proofs.Items.{through, number_reads}
 use Rattle.aig_defs.proofs.Order.{circuit_of, sections_read, text_reads}
 
@@ -256,7 +257,7 @@ sections_give form h fits =
     gives_then (latches_give form h fits) (λ ls hl.
     gives_then (outputs_give h) (λ os ho.
     gives_then (gates_give form h fits) (λ gs hg.
-    gives_after tail (λ _.
+    gives_after (tail h) (λ _.
     value_gives IsCircuit (circuit_of h is ls os gs)
     (circuit_is form h is ls os gs fits hi hl ho hg))))))
 

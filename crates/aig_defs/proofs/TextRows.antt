@@ -3,12 +3,13 @@
 use Rattle.std.proofs.Common.{◌≡◌, ◌^◌, ◌-◌, [], ◌∷◌, ◌++◌, ℕ, List, refl, map, take}
 use Rattle.std.specs.Prelude.{codes, replicate}
 use Rattle.std.specs.List.{range_with_len}
-use Rattle.aig_defs.specs.declared.fault.AigKind.TheVariants.{BadMagic, BadNumber, TooLarge, BadSeparator, BadCounts, LiteralRange, OddDefinition, BadDelta, Short, Extra, Extension, TooLong}
+use Rattle.aig_defs.specs.declared.fault.AigKind.TheVariants.{BadMagic, BadNumber, TooLarge, BadSeparator, BadCounts, LiteralRange, OddDefinition, BadDelta, Short, BadSymbol, Extra, Extension, TooLong}
 use Rattle.aig_defs.specs.declared.form.Form.TheVariants.{Ascii, Binary}
 use Rattle.aig_defs.specs.declared.form.Limit.TheVariants.{Count, Used}
 use Rattle.aig_defs.specs.Circuit.{Circuit}
 use Rattle.aig_defs.specs.Items.{Reads, Fails, space, line_end, number, delta}
-use Rattle.aig_defs.specs.Order.{literal_line, tail, circuit_text, Spells, Breaks}
+use Rattle.aig_defs.specs.Order.{literal_line, circuit_text, Spells, Breaks}
+use Rattle.aig_defs.specs.Tail.{name, comment, tail}
 
 -- an and-gate of two inputs
 abbrev pub and_gate : Circuit
@@ -69,10 +70,10 @@ half_adder_text = codes "aag 7 2 0 2 3\n2\n4\n6\n12\n6 13 15\n12 2 4\n14 3 5\n"
 half_adder_spelled : Spells Ascii half_adder_text half_adder
 half_adder_spelled = record { reads = refl }
 
--- for now: nothing may follow the gates yet
-half_adder_symbols : Breaks (half_adder_text ++ codes "i0 x\ni1 y\no0 s\no1 c\nc\nhalf adder\n")
-    Extra 45
-half_adder_symbols = record { fails = refl }
+-- with names of its inputs and outputs, and a comment
+half_adder_symbols : Spells Ascii
+    (half_adder_text ++ codes "i0 x\ni1 y\no0 s\no1 c\nc\nhalf adder\n") half_adder
+half_adder_symbols = record { reads = refl }
 
 -- the same in the binary form
 abbrev pub binary_adder : Circuit
@@ -95,9 +96,12 @@ binary_adder_spelled = record { reads = refl }
 binary_adder_newline : Breaks (binary_adder_text ++ codes "\n") Extra 25
 binary_adder_newline = record { fails = refl }
 
--- for now: a symbol can stand there once `tail` has symbols
-binary_adder_symbols : Breaks (binary_adder_text ++ codes "i0 x\n") Extra 25
-binary_adder_symbols = record { fails = refl }
+binary_adder_symbols : Spells Binary (binary_adder_text ++ codes "i0 x\no1 c\ncommented") binary_adder
+binary_adder_symbols = record { reads = refl }
+
+-- a position that the outputs haven't
+binary_adder_position : Breaks (binary_adder_text ++ codes "o2 x\n") BadSymbol 26
+binary_adder_position = record { fails = refl }
 
 -- two latches in a row after an input, in both forms
 abbrev pub shift : Circuit
@@ -229,9 +233,61 @@ binary_reset = record { fails = refl }
 extra_line : Breaks (and_gate_text ++ codes "\n") Extra 26
 extra_line = record { fails = refl }
 
--- for now: a symbol can stand there once `tail` has symbols
-extra_symbol : Breaks (and_gate_text ++ codes "i0 x\n") Extra 26
-extra_symbol = record { fails = refl }
+extra_letter : Breaks (and_gate_text ++ codes "a0 x\n") Extra 26
+extra_letter = record { fails = refl }
+
+extra_after_symbol : Breaks (and_gate_text ++ codes "i0 x\n\n") Extra 31
+extra_after_symbol = record { fails = refl }
+
+-- without the newline of its last line a circuit has no tail
+no_tail_line : Breaks (take 25 and_gate_text ++ codes "i0 x\n") BadSeparator 25
+no_tail_line = record { fails = refl }
+
+-- a name may be empty, or have any bytes; the last line may lack its newline
+empty_name : Spells Ascii (and_gate_text ++ codes "i1 \no0  x y") and_gate
+empty_name = record { reads = refl }
+
+-- the same position may be named twice, in any order of lines
+same_position : Spells Ascii (and_gate_text ++ codes "o0 x\ni01 y\ni1 z\n") and_gate
+same_position = record { reads = refl }
+
+-- a comment begins with `c` at a line's start, whatever follows it
+comment_alone : Spells Ascii (and_gate_text ++ codes "c") and_gate
+comment_alone = record { reads = refl }
+
+comment_lines : Spells Ascii (and_gate_text ++ codes "i0 x\ncx\ni9\n\n") and_gate
+comment_lines = record { reads = refl }
+
+-- BadSymbol: a position that isn't in its section, also above 2^64
+third_input : Breaks (and_gate_text ++ codes "i2 x\n") BadSymbol 27
+third_input = record { fails = refl }
+
+first_latch : Breaks (and_gate_text ++ codes "l0 x\n") BadSymbol 27
+first_latch = record { fails = refl }
+
+second_output : Breaks (and_gate_text ++ codes "i1 x\no1 y\n") BadSymbol 32
+second_output = record { fails = refl }
+
+largest_position : Breaks (and_gate_text ++ codes "i18446744073709551616 x\n") BadSymbol 27
+largest_position = record { fails = refl }
+
+-- the space after a position, and the position itself
+no_name : Breaks (and_gate_text ++ codes "i0x\n") BadSeparator 28
+no_name = record { fails = refl }
+
+newline_for_name : Breaks (and_gate_text ++ codes "i0\n") BadSeparator 28
+newline_for_name = record { fails = refl }
+
+no_position : Breaks (and_gate_text ++ codes "i x\n") BadNumber 27
+no_position = record { fails = refl }
+
+many_position_digits : Breaks (and_gate_text ++ codes "i000000000000000000000 x\n") BadNumber 27
+many_position_digits = record { fails = refl }
+
+-- a symbol's line that ends too early
+short_symbols : map (λ k. circuit_text 0 (and_gate_text ++ take k (codes "i0 x\n")))
+    (range_with_len 1 2) ≡ Fails Short 27 ∷ Fails Short 28 ∷ []
+short_symbols = refl
 
 -- BadDelta, and Short within a delta
 abbrev binary_gate : List ℕ → List ℕ
@@ -282,11 +338,23 @@ end_not_far = refl
 end_too_far : line_end (2 ^ 50) (codes "\n") ≡ Fails TooLong (2 ^ 50)
 end_too_far = refl
 
-tail_too_far : tail (2 ^ 50) (codes "c") ≡ Fails TooLong (2 ^ 50)
+tail_too_far : tail and_gate.header (2 ^ 50) (codes "c") ≡ Fails TooLong (2 ^ 50)
 tail_too_far = refl
 
-tail_not_far : tail (2 ^ 50) [] ≡ Reads tt (2 ^ 50) []
+tail_not_far : tail and_gate.header (2 ^ 50) [] ≡ Reads tt (2 ^ 50) []
 tail_not_far = refl
+
+name_too_far : name (2 ^ 50 - 1) (codes "x\n") ≡ Fails TooLong (2 ^ 50)
+name_too_far = refl
+
+name_before_limit : name (2 ^ 50 - 2) (codes "x\ni") ≡ Reads tt (2 ^ 50) (codes "i")
+name_before_limit = refl
+
+comment_too_far : comment (2 ^ 50 - 2) (codes "xyz") ≡ Fails TooLong (2 ^ 50)
+comment_too_far = refl
+
+comment_before_limit : comment (2 ^ 50 - 2) (codes "xy") ≡ Reads tt (2 ^ 50) []
+comment_before_limit = refl
 
 -- a line whose newline is the last byte below 2^50, and one whose newline stands at it
 line_before_limit : literal_line (Used 5) (2 ^ 50 - 3) (codes "10\n") ≡ Reads 10 (2 ^ 50) []

@@ -11,7 +11,7 @@ use Rattle.aig_defs.specs.Faults.{IsTwice, Nowhere}
 use Rattle.aig_defs.specs.Founded.{has, gate_variables, with_gate, upwards}
 use Rattle.aig_defs.specs.Graph.{graph_edge, operand_edges, graph_gates}
 use Rattle.aig_defs.specs.Ranks.{index}
-use Rattle.aig_defs.proofs.Founding.{from_upwards}
+use Rattle.aig_defs.proofs.Founding.{from_upwards, to_upwards}
 use Rattle.aig_defs.proofs.Graphs.{lesser_below, greater_not_below}
 use Rattle.aig_defs.proofs.Members.{has_cases, has_first, has_rest, gate_with}
 use Rattle.aig_defs.proofs.Single.{few_definitions, has_variable}
@@ -70,6 +70,14 @@ from_upward gs v h =
     let own = gate_with (upwards gs) v h in
     ap (has (variables (left_sides gs))) (sym own.variable)
     ∙ has_variable gs own.gate (from_upwards own.gate gs own.is)
+
+-- a gate's variable is that of a gate upwards
+pub gate_upwards : (c : Circuit) (u : ℕ) → has (gate_variables c) u ≡ true
+    → has (variables (left_sides (upwards c.gates))) u ≡ true
+gate_upwards c u h =
+    let own = gate_with c.gates u h in
+    ap (has (variables (left_sides (upwards c.gates)))) (sym own.variable)
+    ∙ has_variable (upwards c.gates) own.gate (to_upwards own.gate c.gates own.is)
 
 -- Gates with unlike variables mount if they are upwards.
 pub upwards_mount : (gs : List Gate) → Unlike (variables (left_sides gs)) → Mount (upwards gs)

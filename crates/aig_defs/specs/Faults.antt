@@ -39,6 +39,11 @@ pub record IsCyclic (c : Circuit) (v : ℕ) : Type 0 where
 abbrev pub Nowhere : (ℕ → Type 0) → Type 0
 Nowhere P = (v : ℕ) → P v → ⊥
 
+-- nothing is defined twice, and all that is used is defined
+pub record IsDefined (c : Circuit) : Type 0 where
+  pub twice : Nowhere (IsTwice c)
+  pub undefined : Nowhere (IsUndefined c)
+
 -- the least number with a property
 pub record IsLeast (P : ℕ → Type 0) (v : ℕ) : Type 0 where
   pub is : P v

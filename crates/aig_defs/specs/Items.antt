@@ -5,9 +5,9 @@ use Rattle.std.specs.Prelude.{ℕ, zero, suc, ◌+◌, ◌-◌, ◌*◌, ◌^◌
 use Rattle.std.specs.Char.{is_ascii_digit}
 use Rattle.std.specs.Str.Parse.{digits_value}
 use Rattle.aig_defs.specs.declared.fault.AigKind.{AigKind}
-use Rattle.aig_defs.specs.declared.fault.AigKind.TheVariants.{BadNumber, TooLarge, BadSeparator, LiteralRange, OddDefinition, BadDelta, Short, Extension, TooLong}
+use Rattle.aig_defs.specs.declared.fault.AigKind.TheVariants.{BadNumber, TooLarge, BadSeparator, LiteralRange, OddDefinition, BadDelta, Short, BadSymbol, Extension, TooLong}
 use Rattle.aig_defs.specs.declared.form.Limit.{Limit}
-use Rattle.aig_defs.specs.declared.form.Limit.TheVariants.{Count, Defining, Used}
+use Rattle.aig_defs.specs.declared.form.Limit.TheVariants.{Count, Defining, Used, Position}
 
 -- what reading gives: a value, the place after it and the bytes that are left there; or a fault
 pub data Reading (A : Type 0) : Type 0 where
@@ -99,6 +99,7 @@ number_fault (Defining max) value =
     else if value == 0 || (value % 2 == 1) then Some OddDefinition
     else None
 number_fault (Used max) value = if nat_lt (2 * max + 1) value then Some LiteralRange else None
+number_fault (Position count) value = if nat_lt value count then None else Some BadSymbol
 
 -- the run is taken if nothing is wrong with its value
 abbrev pub number_by : Option AigKind → List ℕ → Item ℕ

@@ -8,9 +8,9 @@ pub mod Graph
 pub mod Items
 pub mod Order
 pub mod Ranks
-pub mod Rising
-pub mod RisingRanks
 pub mod Sorted
 pub mod Stimulus
+pub mod Tail
 pub mod TextFault
 pub mod Value
+pub mod VariableRanks

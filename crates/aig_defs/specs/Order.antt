@@ -1,8 +1,8 @@
 -- The order of a circuit's items, in the ASCII and in the binary form: docs/FORMATS.md, "Circuits".
-use Rattle.std.specs.Prelude.{◌≡◌, ℕ, ◌+◌, ◌-◌, ◌*◌, ◌==◌, nat_eq, nat_le, Bool, true, if◌then◌else◌, List, [], length, drop, codes, Option, Some, None}
+use Rattle.std.specs.Prelude.{◌≡◌, ℕ, ◌+◌, ◌-◌, ◌*◌, ◌==◌, nat_eq, nat_le, Bool, true, false, if◌then◌else◌, List, [], length, drop, codes}
 use Rattle.std.specs.List.{starts_with}
 use Rattle.aig_defs.specs.declared.fault.AigKind.{AigKind}
-use Rattle.aig_defs.specs.declared.fault.AigKind.TheVariants.{BadMagic, BadCounts, Extra}
+use Rattle.aig_defs.specs.declared.fault.AigKind.TheVariants.{BadMagic, BadCounts}
 use Rattle.aig_defs.specs.declared.circuit.Header.{Header}
 use Rattle.aig_defs.specs.declared.circuit.Latch.{Latch}
 use Rattle.aig_defs.specs.declared.circuit.Gate.{Gate}
@@ -11,7 +11,8 @@ use Rattle.aig_defs.specs.declared.form.Form.TheVariants.{Ascii, Binary}
 use Rattle.aig_defs.specs.declared.form.Limit.{Limit}
 use Rattle.aig_defs.specs.declared.form.Limit.TheVariants.{Count, Defining, Used}
 use Rattle.aig_defs.specs.Circuit.{Circuit}
-use Rattle.aig_defs.specs.Items.{Reads, Fails, Item, fails, ◌>>=◌, ◌>>◌, times, look, space, line_end, last_end, number, delta}
+use Rattle.aig_defs.specs.Items.{Reads, Fails, Item, fails, ◌>>=◌, ◌>>◌, times, space, line_end, last_end, number, delta}
+use Rattle.aig_defs.specs.Tail.{tail}
 
 -- the magic: three bytes that name the form
 abbrev pub magic : Item Form
@@ -20,14 +21,14 @@ magic p x =
     else if starts_with nat_eq x (codes "aig") then Reads Binary (p + 3) (drop 3 x)
     else Fails BadMagic 0
 
--- a magic that can be read on: that of the ASCII form
-abbrev pub readable : Form → Item Bool
-readable Ascii = Reads true
-readable Binary = fails BadMagic 0
+-- whether the form is the ASCII form
+abbrev pub is_ascii : Form → Bool
+is_ascii Ascii = true
+is_ascii Binary = false
 
--- whether the text is in ASCII; one in the binary form is refused, as long as none can be read
+-- the magic, by whether it is that of the ASCII form
 abbrev pub ascii_magic : Item Bool
-ascii_magic = magic >>= readable
+ascii_magic = magic >>= λ form. Reads (is_ascii form)
 
 -- a space and a number of the header
 abbrev pub header_number : Item ℕ
@@ -117,14 +118,6 @@ abbrev pub gate_row : Form → Header → ℕ → Item Gate
 gate_row Ascii h i = gate_line h
 gate_row Binary h i = gate_deltas h i
 
--- what may follow the gates, for now the text's end alone: symbols and a comment are to come
-abbrev pub tail_at : Option ℕ → Item (Unit {0})
-tail_at None p x = Reads tt p x
-tail_at (Some byte) p x = Fails Extra p
-
-abbrev pub tail : Item (Unit {0})
-tail = look >>= tail_at
-
 -- the sections in their order, and the tail
 abbrev pub sections : Form → Header → Item Circuit
 sections form h = do
@@ -132,7 +125,7 @@ sections form h = do
   latches ← times h.latches 0 (latch_row form h)
   outputs ← times h.outputs 0 (output_row h)
   gates ← times h.gates 0 (gate_row form h)
-  tail
+  tail h
   Reads (record {
     header = h;
     inputs = inputs;

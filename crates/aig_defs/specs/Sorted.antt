@@ -1,5 +1,5 @@
 -- The sorted lists of a circuit, and what comparing two of them tells.
-use Rattle.std.specs.Prelude.{◌≡◌, ◌<◌, ℕ, ◌/◌, ◌%◌, ◌==◌, nat_le, nat_lt, Bool, ◌&&◌, List, [], ◌∷◌, filter, map, if◌then◌else◌}
+use Rattle.std.specs.Prelude.{◌≡◌, ◌<◌, ℕ, nat_le, nat_lt, Bool, List, [], ◌∷◌, if◌then◌else◌}
 use Rattle.em_record.specs.declared.record.Record.{Record}
 use Rattle.em_record.specs.Order.{in_order}
 use Rattle.aig_defs.specs.Chains.{numbered, defs_of}
@@ -21,12 +21,9 @@ numbered_defs c = numbered numbered_def 0 (defs_of c)
 abbrev pub sorted_defs : Circuit → List Record
 sorted_defs c = in_order (numbered_defs c)
 
--- the definition is that of an input or a latch, or that of a gate
+-- the definition is that of an input or a latch
 abbrev pub is_source : Record → Bool
 is_source r = nat_lt r.c 2
-
-abbrev pub is_gate : Record → Bool
-is_gate r = r.c == 2
 
 -- each word a is above this number
 abbrev pub AllAbove : ℕ → List Record → Type 0
@@ -55,12 +52,3 @@ def_to v defs = last_to constant_def v defs
 abbrev pub AllMet : List Record → List Record → Type 0
 AllMet defs [] = Unit {0}
 AllMet defs (e ∷ edges) = ((def_to e.a defs).a ≡ e.a) × AllMet defs edges
-
--- an edge from a gate, of this definition, to a gate that isn't above it
-abbrev pub is_falling : Record → Record → Bool
-is_falling def e = is_gate def && (nat_lt (e.b % 4) 2 && nat_le (e.b / 4) e.a)
-
--- the gates that such edges lead to
-abbrev pub falling_targets : List Record → List Record → List ℕ
-falling_targets defs edges =
-    map (λ (e : Record). e.b / 4) (filter (λ e. is_falling (def_to e.a defs) e) edges)

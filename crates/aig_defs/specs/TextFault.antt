@@ -2,12 +2,10 @@
 use Rattle.std.specs.Prelude.{ℕ, List, Option, Some}
 use Rattle.aig_defs.specs.declared.fault.AigKind.{AigKind}
 use Rattle.aig_defs.specs.declared.form.Form.{Form}
-use Rattle.aig_defs.specs.declared.form.Form.TheVariants.{Ascii}
 use Rattle.aig_defs.specs.Circuit.{Circuit}
-use Rattle.aig_defs.specs.Items.{Reading, Reads, Fails, Item, ◌>>◌}
-use Rattle.aig_defs.specs.Order.{ascii_magic, after_magic, circuit_text, Spells, Breaks}
+use Rattle.aig_defs.specs.Items.{Reading, Reads, Fails, Item, ◌>>=◌}
+use Rattle.aig_defs.specs.Order.{magic, after_magic, circuit_text, Spells, Breaks}
 use Rattle.aig_defs.specs.Faults.{IsFaultOf, IsFaultless, circuit_fault}
-use Rattle.aig_defs.specs.Rising.{upward_fault}
 
 -- the first fault of a text: it breaks so, or it spells a circuit whose first fault this is
 pub data IsFaultOfText (x : List ℕ) (kind : AigKind) (place : ℕ) : Type 0 where
@@ -32,17 +30,6 @@ reading_fault (Fails kind place) = Some (kind, place)
 abbrev pub text_fault : List ℕ → Option (AigKind × ℕ)
 text_fault x = reading_fault (circuit_text 0 x)
 
--- a whole text in ASCII
-abbrev pub ascii_text : Item Circuit
-ascii_text = ascii_magic >> after_magic Ascii
-
--- the fault of a reading, else the first fault of the circuit that was read, as long as only rising
--- circuits are evaluated
-abbrev pub upward_reading : Reading Circuit → Option (AigKind × ℕ)
-upward_reading (Reads c p x) = upward_fault c
-upward_reading (Fails kind place) = Some (kind, place)
-
--- the first fault of a text, or none, as long as only the ASCII form can be read, and only rising
--- circuits are evaluated
-abbrev pub upward_text_fault : List ℕ → Option (AigKind × ℕ)
-upward_text_fault x = upward_reading (ascii_text 0 x)
+-- the circuit of a whole text, in either form
+abbrev pub either_text : Item Circuit
+either_text = magic >>= after_magic

@@ -1,6 +1,6 @@
 /// What is wrong with a circuit or with a stimulus; messages have these names. The place of a
 /// fault is an offset in the text, in bytes. That of `Short` is the text's length, and that of
-/// `TooLong` is 2^50. `Twice`, `Undefined`, `Cyclic` and `Unordered` have a variable as their place.
+/// `TooLong` is 2^50. `Twice`, `Undefined` and `Cyclic` have a variable as their place.
 #[derive(Clone, Copy, Debug, PartialEq, Eq, Drop)]
 pub enum AigKind {
     /// The text doesn't begin with `aag` or `aig`. The place is 0.
@@ -41,8 +41,4 @@ pub enum AigKind {
     StimChar,
     /// A byte at offset 2^50 is looked at, in a circuit or a stimulus. The place is 2^50.
     TooLong,
-    /// A gate uses its own variable or a gate of a greater one, so that the gates can't be evaluated
-    /// in the order of their variables. Each `Cyclic` circuit has such a gate. The place is the least
-    /// such gate's variable.
-    Unordered,
 }

@@ -17,4 +17,6 @@ pub enum Limit {
     Defining(u64),
     /// (M): a used literal if the header has this M. It is at most 2M + 1, else LiteralRange.
     Used(u64),
+    /// (n): a symbol's position in a section of n lines. It is below n, else BadSymbol.
+    Position(u64),
 }

@@ -1,5 +1,5 @@
 -- Calls on the lists that are compared and written, one after another.
-use Rattle.std.proofs.Common.{◌≡◌, ℕ, ◌+◌, ◌*◌, ◌<◌, ◌≤◌, min, List, [], ◌∷◌, ◌++◌, length, IsTrue, Option, Ok, refl, ap, ◌∙◌, arith}
+use Rattle.std.proofs.Common.{◌≡◌, ℕ, ◌+◌, ◌*◌, ◌<◌, ◌≤◌, min, List, [], ◌∷◌, ◌++◌, length, IsTrue, Ok, refl, ap, ◌∙◌, arith}
 use Rattle.em_record.specs.declared.record.Record.{Record}
 use Rattle.em_frames.specs.Pool.{SameFrames}
 use Rattle.em_space.specs.Free.{AreDistinct}
@@ -65,9 +65,9 @@ three_blocks : {ws os bs xs ys zs : List ℕ} → xs ≡ ws → ys ≡ os → zs
 three_blocks d e f = rw (d, e, f) refl
 
 -- A definition or an edge was given,
-pub advances_weave : {s t : RigState} {k : Comparison} {v : Weave} {p : Record} {q : Option ℕ}
+pub advances_weave : {s t : RigState} {k : Comparison} {v : Weave} {p : Record}
     (xs : List Side) → AreLists s k → Weaves s t k.weave v xs
-    → Advances s t k (record { weave = v; sources = k.sources; edges = k.edges; last = p; least = q })
+    → Advances s t k (record { weave = v; sources = k.sources; edges = k.edges; last = p })
     xs [] []
 advances_weave {s} {t} {k} {v} xs i h =
     let ws = weave_blocks s k.weave in
@@ -116,9 +116,9 @@ writes_item {s = s} {t = t} {w = w} {v = v} {x = x} y g a k h = record {
 }
 
 -- a source was written,
-pub advances_source : {s t : RigState} {k : Comparison} {a : Writer} {x p : Record} {q : Option ℕ}
+pub advances_source : {s t : RigState} {k : Comparison} {a : Writer} {x p : Record}
     → AreLists s k → WritesItem s t k.sources a x
-    → Advances s t k (record { weave = k.weave; sources = a; edges = k.edges; last = p; least = q })
+    → Advances s t k (record { weave = k.weave; sources = a; edges = k.edges; last = p })
     [] (x ∷ []) []
 advances_source {s} {t} {k} {a} {x} i h =
     let ws = weave_blocks s k.weave in
@@ -146,9 +146,9 @@ advances_source {s} {t} {k} {a} {x} i h =
     }
 
 -- an edge was written,
-pub advances_edge : {s t : RigState} {k : Comparison} {b : Writer} {x p : Record} {q : Option ℕ}
+pub advances_edge : {s t : RigState} {k : Comparison} {b : Writer} {x p : Record}
     → AreLists s k → WritesItem s t k.edges b x
-    → Advances s t k (record { weave = k.weave; sources = k.sources; edges = b; last = p; least = q })
+    → Advances s t k (record { weave = k.weave; sources = k.sources; edges = b; last = p })
     [] [] (x ∷ [])
 advances_edge {s} {t} {k} {b} {x} i h =
     let ws = weave_blocks s k.weave in
@@ -175,13 +175,12 @@ advances_edge {s} {t} {k} {b} {x} i h =
     }
 
 -- nothing was done,
-pub advances_none : {s : RigState} {k : Comparison} {p : Record} {q : Option ℕ} → AreLists s k
+pub advances_none : {s : RigState} {k : Comparison} {p : Record} → AreLists s k
     → Advances s s k (record {
       weave = k.weave;
       sources = k.sources;
       edges = k.edges;
       last = p;
-      least = q;
     }) [] [] []
 advances_none {s} {k} i = record {
   runs = runs_none s (lists_blocks s k) (lists_account k) i.sound i.holds;

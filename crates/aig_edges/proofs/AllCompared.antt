@@ -63,7 +63,7 @@ step_frames i = record {
 pub on_none : {n : ℕ} {s : RigState} {k : Comparison} → CanStep n s k → ComparesOn n s s k k
 on_none {n} {s} {k} i = record {
   sides = [];
-  advances = advances_none {p = k.last} {q = k.least} i.are;
+  advances = advances_none {p = k.last} i.are;
   most = i.most;
   follows = λ z c before x. rw (append-nil before) x;
 }

@@ -1,12 +1,17 @@
 -- Calls of a queue beside other values, whose blocks and accounts are written in another way.
-use Rattle.std.proofs.Common.{◌≡◌, ℕ, ◌+◌, ◌≤◌, List, ◌++◌, ap, sym, arith, append_assoc}
-use Rattle.em_space.specs.Held.{Holds}
-use Rattle.em_space.specs.Ledger.{Account, Session}
+use Rattle.std.proofs.Common.{◌≡◌, ℕ, ◌+◌, ◌<◌, ◌≤◌, List, ◌++◌, IsTrue, ap, sym, arith, append_assoc}
+use Rattle.em_space.specs.Held.{Apart, Holds}
+use Rattle.em_space.specs.Ledger.{Account, Session, Stops}
 use Rattle.em_space.specs.Queue.{QueueCounts}
-use Rattle.em_space.specs.Rig.{RigState}
+use Rattle.em_space.specs.Rig.{RigState, Touches}
+use Rattle.em_space.specs.declared.fault.EmFault.{EmFault}
 use Rattle.em_space.proofs.Apart.{off_append, off_left, off_right}
+use Rattle.em_space.proofs.Ledgers.{full_by}
 use Rattle.em_space.proofs.Lists.{apart_append, apart_left, apart_right, apart_sym, distinct_apart, distinct_join, distinct_left, distinct_right, in_use_append, in_use_left, in_use_right}
 use Rattle.em_space.proofs.Paying.{pays_more}
+use Rattle.em_chain.specs.Chain.{IsChain, ChainStays, chain_blocks}
+use Rattle.em_chain.specs.declared.chain.Chain.{Chain}
+use Rattle.em_chain.proofs.Laws.{chain_stays}
 use Rattle.em_queued.specs.Queued.{RunsBeside}
 use Rattle.em_queued.proofs.Queued.{beside_as}
 
@@ -125,3 +130,32 @@ pub beside_front : {i p : ℕ} {held : List ℕ} {a b : Account} {c d : QueueCou
     {s t : RigState} (qs xs ys : List ℕ) → RunsBeside i p held (qs ++ (xs ++ ys)) a b c d s t
     → RunsBeside i p held ((qs ++ xs) ++ ys) a b c d s t
 beside_front qs xs ys h = beside_as ((qs ++ xs) ++ ys) h (λ z. append_assoc qs xs ys)
+
+-- the same of a call that gave up
+pub stops_by : {p q l m u : ℕ} {ks : List ℕ} {a : Account} {s t : RigState} {e : EmFault}
+    (x : Account) → p ≤ q → x.blocks ≡ a.blocks → x.unstored ≡ a.unstored
+    → a.owed + l + x.paid ≤ x.owed + m + a.paid
+    → Stops p l u ks a s t e → Stops q m u ks x s t e
+stops_by {p} {q} {l} {m} {u} {ks} {a} {s} {t} {e} x w xb xu n h =
+    let k = h.halts in
+    record {
+      goes = h.goes;
+      halts = record {
+        used = omega (arith, k.used, w, xb);
+        full = full_by e (t.used + a.blocks < s.used + p) (t.used + x.blocks < s.used + q)
+            (λ f. omega (arith, f, w, xb)) k.full;
+        most = omega (arith, k.most, w, xb);
+        moves = omega (arith, k.moves, n);
+        later = k.later;
+        pays = pays_more k.pays (omega (arith, xu));
+      };
+      cause = h.cause;
+    }
+
+-- a chain among those that stayed
+pub stays_beside : {s t : RigState} (ks ys : List ℕ) (c : Chain) → Touches ks s t
+    → (IsTrue s.device.told → Holds s (ks ++ ys))
+    → (IsTrue s.device.told → Apart ys ks → Apart (chain_blocks s c) ks) → IsChain s c
+    → ChainStays s t c
+stays_beside {s} {t} ks ys c g h f i = chain_stays ks s t c g
+    (λ z. f z (apart_sym ks ys (distinct_apart ks ys ((h z).distinct z)))) i

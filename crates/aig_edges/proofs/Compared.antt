@@ -1,8 +1,5 @@
 -- Of sorted definitions and edges side by side each edge stands after the definition of its variable.
-use Rattle.std.proofs.Common.{inl, inr, ◌≡◌, ℕ, ◌/◌, Bool, true, false, cond, if◌then◌else◌, leb, List, [], ◌∷◌, ◌++◌, fold, map, filter, min, Option, None, Some, append_assoc, append-nil, refl, subst, sym, ap, ◌∙◌}
-use Rattle.std.specs.List.{reduce}
-use Rattle.std.proofs.lemmas.List.{map-append}
-use Rattle.std.proofs.lemmas.List.Elements.{filter-append}
+use Rattle.std.proofs.Common.{inl, inr, ◌≡◌, cond, leb, List, [], ◌∷◌, ◌++◌, map, filter, append_assoc, append-nil, refl, subst, sym, ap, ◌∙◌}
 use Rattle.std.proofs.lemmas.Bool.{cases_Bool, leb-true, le-leb}
 use Rattle.em_record.specs.declared.record.Record.{Record}
 use Rattle.em_weave.specs.Woven.{woven, lefts, rights, NoneBefore, AscendsByA}
@@ -11,17 +8,13 @@ use Rattle.em_weave.specs.declared.side.Side.TheVariants.{Left, Right}
 use Rattle.em_weave.proofs.Laws.{ascends_by_a, none_before_less, lefts_woven, rights_woven}
 use Rattle.em_record.proofs.Order.{order_ascends}
 use Rattle.aig_defs.specs.Circuit.{Circuit}
-use Rattle.aig_defs.specs.Graph.{edges_in_text, graph_edges}
-use Rattle.aig_defs.specs.Sorted.{sorted_defs, constant_def, last_to, AllMet, is_falling, falling_targets}
-use Rattle.aig_defs.specs.declared.fault.AigKind.TheVariants.{Undefined, Unordered}
-use Rattle.aig_defs.specs.Faults.{IsTwice, IsUndefined, Nowhere}
-use Rattle.aig_defs.specs.Graph.{graph_sources}
-use Rattle.aig_defs.specs.Rising.{IsUpward, IsUpwardFaultOf, rising_fault}
-use Rattle.aig_defs.specs.Sorted.{plain_def, is_source, def_to}
-use Rattle.aig_defs.proofs.Rising.{rising_fault_none, rising_fault_found}
+use Rattle.aig_defs.specs.Faults.{IsDefined, IsFaultOf, IsTwice, Nowhere}
+use Rattle.aig_defs.specs.Graph.{edges_in_text, graph_edges, graph_sources}
+use Rattle.aig_defs.specs.Sorted.{sorted_defs, constant_def, last_to, AllMet, plain_def, is_source, def_to}
+use Rattle.aig_defs.specs.declared.fault.AigKind.TheVariants.{Undefined}
+use Rattle.aig_defs.proofs.Beside.{undefined_none, undefined_found}
 use Rattle.aig_defs.proofs.Sorted.{sorted_climbs, sorted_sources}
-use Rattle.aig_defs.proofs.Beside.{undefined_none, undefined_found, falls_least}
-use Rattle.aig_edges.specs.Compared.{paired, last_left, AllPairsMet, pair_targets, with_least, ComparesSome}
+use Rattle.aig_edges.specs.Compared.{paired, last_left, AllPairsMet, ComparesSome}
 
 -- each record with the last one of the left up to it
 abbrev with_last : Record → List Record → List Record → List (Record × Record)
@@ -74,32 +67,11 @@ pub circuit_paired : (c : Circuit)
 circuit_paired c = paired_is constant_def (sorted_defs c) (graph_edges c)
     (ascends_by_a (graph_edges c) (order_ascends (edges_in_text c)))
 
--- all pairs are met if all edges are, and have the same targets
+-- all edges are met if all pairs are
 pub met_pairs : (defs edges : List Record)
     → AllPairsMet (with_last constant_def defs edges) → AllMet defs edges
 met_pairs defs [] h = tt
 met_pairs defs (e ∷ edges) h = (h.0, met_pairs defs edges h.1)
-
-targets_by : (b : Bool) (defs : List Record) (e : Record) (edges : List Record)
-    → map (λ (p : Record × Record). p.1.b / 4) (filter (λ p. is_falling p.0 p.1)
-    (with_last constant_def defs edges))
-    ≡ map (λ (z : Record). z.b / 4) (filter (λ z. is_falling (last_to constant_def z.a defs) z) edges)
-    → map (λ (p : Record × Record). p.1.b / 4)
-    (cond b ((last_to constant_def e.a defs, e) ∷ filter (λ p. is_falling p.0 p.1)
-    (with_last constant_def defs edges)) (filter (λ p. is_falling p.0 p.1)
-    (with_last constant_def defs edges)))
-    ≡ map (λ (z : Record). z.b / 4)
-    (cond b (e ∷ filter (λ z. is_falling (last_to constant_def z.a defs) z) edges)
-    (filter (λ z. is_falling (last_to constant_def z.a defs) z) edges))
-targets_by true defs e edges h = ap (λ vs. e.b / 4 ∷ vs) h
-targets_by false defs e edges h = h
-
-pub pair_targets_are : (defs edges : List Record)
-    → pair_targets (with_last constant_def defs edges) ≡ falling_targets defs edges
-pair_targets_are defs [] = refl
-pair_targets_are defs (e ∷ edges) =
-    targets_by (is_falling (last_to constant_def e.a defs) e) defs e edges
-    (pair_targets_are defs edges)
 
 -- pairs of some sides and then others
 pub paired_append : (before : Record) (xs ys : List Side)
@@ -107,16 +79,6 @@ pub paired_append : (before : Record) (xs ys : List Side)
 paired_append before [] ys = refl
 paired_append before (Left l ∷ xs) ys = paired_append l xs ys
 paired_append before (Right r ∷ xs) ys = ap (λ ps. (before, r) ∷ ps) (paired_append before xs ys)
-
--- the least of some numbers and one more
-fold_more : (x v : ℕ) (vs : List ℕ) → fold min x (vs ++ v ∷ []) ≡ min (fold min x vs) v
-fold_more x v [] = refl
-fold_more x v (u ∷ vs) = fold_more (min x u) v vs
-
-pub least_more : (vs : List ℕ) (v : ℕ)
-    → reduce min (vs ++ v ∷ []) ≡ with_least (reduce min vs) v
-least_more [] v = refl
-least_more (x ∷ vs) v = ap Some (fold_more x v vs)
 
 -- one definition more
 pub last_more : (before l : Record) (xs : List Side) → last_left before (xs ++ Left l ∷ []) ≡ l
@@ -141,49 +103,25 @@ met_first ((d, e) ∷ ps) qs h = (h.0, met_first ps qs h.1)
 
 -- Nothing was compared at first.
 pub compares_none : (c : Circuit)
-    → ComparesSome c [] (woven (sorted_defs c) (graph_edges c)) constant_def None
-compares_none c = record { whole = refl; met = tt; last_is = refl; least_is = refl }
+    → ComparesSome c [] (woven (sorted_defs c) (graph_edges c)) constant_def
+compares_none c = record { whole = refl; met = tt; last_is = refl }
 
 -- The next is a definition,
-pub compares_left : (c : Circuit) (before after : List Side) (l last : Record) (least : Option ℕ)
-    → ComparesSome c before (Left l ∷ after) last least
-    → ComparesSome c (before ++ Left l ∷ []) after l least
-compares_left c before after l last least h =
+pub compares_left : (c : Circuit) (before after : List Side) (l last : Record)
+    → ComparesSome c before (Left l ∷ after) last → ComparesSome c (before ++ Left l ∷ []) after l
+compares_left c before after l last h =
     let same = paired_append constant_def before (Left l ∷ []) ∙ append-nil _ in
     record {
       whole = h.whole ∙ sym (append_assoc before (Left l ∷ []) after);
       met = subst AllPairsMet (sym same) h.met;
       last_is = sym (last_more constant_def l before);
-      least_is = h.least_is ∙ ap (λ ps. reduce min (pair_targets ps)) (sym same);
     }
 
--- the least gate that doesn't rise, with one edge more
-abbrev pub least_with : Option ℕ → Record → Record → Option ℕ
-least_with least last e = if is_falling last e then with_least least (e.b / 4) else least
-
-targets_more_by : (b : Bool) (ps : List (Record × Record)) (d e : Record) → is_falling d e ≡ b
-    → reduce min (pair_targets (ps ++ (d, e) ∷ []))
-    ≡ cond b (with_least (reduce min (pair_targets ps)) (e.b / 4)) (reduce min (pair_targets ps))
-targets_more_by b ps d e t =
-    let test = λ (p : Record × Record). is_falling p.0 p.1 in
-    let word = λ (p : Record × Record). p.1.b / 4 in
-    let parts = ap (map word) (filter-append test ps ((d, e) ∷ []))
-    ∙ map-append word (filter test ps) (filter test ((d, e) ∷ [])) in
-    ap (reduce min) (parts
-    ∙ ap (λ z. map word (filter test ps) ++ map word (cond z ((d, e) ∷ []) [])) t)
-    ∙ by_case b (map word (filter test ps))
-  where
-    by_case : (z : Bool) (vs : List ℕ)
-        → reduce min (vs ++ map (λ (p : Record × Record). p.1.b / 4) (cond z ((d, e) ∷ []) []))
-        ≡ cond z (with_least (reduce min vs) (e.b / 4)) (reduce min vs)
-    by_case true vs = least_more vs (e.b / 4)
-    by_case false vs = ap (reduce min) (append-nil vs)
-
 -- or an edge that is met,
-pub compares_right : (c : Circuit) (before after : List Side) (e last : Record) (least : Option ℕ)
-    → ComparesSome c before (Right e ∷ after) last least → last.a ≡ e.a
-    → ComparesSome c (before ++ Right e ∷ []) after last (least_with least last e)
-compares_right c before after e last least h m =
+pub compares_right : (c : Circuit) (before after : List Side) (e last : Record)
+    → ComparesSome c before (Right e ∷ after) last → last.a ≡ e.a
+    → ComparesSome c (before ++ Right e ∷ []) after last
+compares_right c before after e last h m =
     let own = last_left constant_def before in
     let same = paired_append constant_def before (Right e ∷ []) in
     let met = ap (λ (r : Record). r.a) (sym h.last_is) ∙ m in
@@ -192,10 +130,6 @@ compares_right c before after e last least h m =
       met = subst AllPairsMet (sym same) (met_append (paired constant_def before) ((own, e) ∷ [])
           h.met (met, tt));
       last_is = h.last_is ∙ sym (last_same constant_def e before);
-      least_is = ap (λ z. least_with z last e) h.least_is
-          ∙ ap (λ r. least_with (reduce min (pair_targets (paired constant_def before))) r e) h.last_is
-          ∙ sym (targets_more_by (is_falling own e) (paired constant_def before) own e refl)
-          ∙ ap (λ ps. reduce min (pair_targets ps)) (sym same);
     }
 
 -- the edges of pairs
@@ -244,10 +178,10 @@ front_pairs defs (x ∷ edges) (p ∷ ps) d e qs h =
     }
 
 -- or one that isn't met: then its variable is the least that is used and not defined.
-pub compares_unmet : (c : Circuit) (before after : List Side) (e last : Record) (least : Option ℕ)
-    → Nowhere (IsTwice c) → ComparesSome c before (Right e ∷ after) last least
-    → (last.a ≡ e.a → ⊥) → IsUpwardFaultOf c Undefined e.a
-compares_unmet c before after e last least n h unmet =
+pub compares_unmet : (c : Circuit) (before after : List Side) (e last : Record)
+    → Nowhere (IsTwice c) → ComparesSome c before (Right e ∷ after) last
+    → (last.a ≡ e.a → ⊥) → IsFaultOf c Undefined e.a
+compares_unmet c before after e last n h unmet =
     let own = last_left constant_def before in
     let whole = sym (circuit_paired c) ∙ ap (paired constant_def) h.whole
     ∙ paired_append constant_def before (Right e ∷ after) in
@@ -258,33 +192,14 @@ compares_unmet c before after e last least n h unmet =
           unmet (ap (λ (r : Record). r.a) (h.last_is ∙ f.def_is) ∙ m)),
     )
 
--- At the end all edges were met, and the least gate that doesn't rise is the one of the circuit.
-pub compares_all : (c : Circuit) (before : List Side) (last : Record) (least : Option ℕ)
-    → Nowhere (IsTwice c) → ComparesSome c before [] last least
-    → Nowhere (IsUndefined c) × (least ≡ rising_fault c)
-compares_all c before last least n h =
+-- At the end all edges were met, so that all that is used is defined.
+pub compares_all : (c : Circuit) (before : List Side) (last : Record)
+    → Nowhere (IsTwice c) → ComparesSome c before [] last → IsDefined c
+compares_all c before last n h =
     let all = h.whole ∙ append-nil before in
     let pairs = sym (circuit_paired c) ∙ ap (paired constant_def) all in
     let met = met_pairs (sorted_defs c) (graph_edges c) (subst AllPairsMet (sym pairs) h.met) in
-    let undefined = undefined_none c met in (
-      undefined,
-      h.least_is ∙ ap (λ ps. reduce min (pair_targets ps)) (sym pairs)
-          ∙ ap (reduce min) (pair_targets_are (sorted_defs c) (graph_edges c))
-          ∙ falls_least c n undefined,
-    )
-
-pub compares_upward : (c : Circuit) (before : List Side) (last : Record)
-    → Nowhere (IsTwice c) → ComparesSome c before [] last None → IsUpward c
-compares_upward c before last n h =
-    let both = compares_all c before last None n h in
-    record { twice = n; undefined = both.0; rising = (rising_fault_none c).0 (sym both.1) }
-
-pub compares_falling : (c : Circuit) (before : List Side) (last : Record) (v : ℕ)
-    → Nowhere (IsTwice c) → ComparesSome c before [] last (Some v)
-    → IsUpwardFaultOf c Unordered v
-compares_falling c before last v n h =
-    let both = compares_all c before last (Some v) n h in
-    (n, both.0, rising_fault_found c v (sym both.1))
+    record { twice = n; undefined = undefined_none c met }
 
 -- The definitions that were compared have the sources, and the edges are those of the graph.
 pub compared_sources : (c : Circuit) (before : List Side) → Nowhere (IsTwice c)

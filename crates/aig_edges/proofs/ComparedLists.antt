@@ -1,5 +1,5 @@
 -- Lists were opened, compared, and finished or let go.
-use Rattle.std.proofs.Common.{inl, inr, ◌≡◌, ℕ, ◌+◌, ◌*◌, ◌≤◌, List, [], ◌∷◌, ◌++◌, length, filter, IsTrue, None, Some, Err, refl, ap, sym, ◌∙◌, arith, subst}
+use Rattle.std.proofs.Common.{◌≡◌, ℕ, ◌+◌, ◌*◌, ◌≤◌, List, [], ◌∷◌, ◌++◌, length, filter, IsTrue, Err, refl, ap, sym, ◌∙◌, arith, subst}
 use Rattle.std.proofs.lemmas.List.{append-nil, length-append}
 use Rattle.em_record.specs.declared.record.Record.{Record}
 use Rattle.em_record.proofs.Order.{length_order}
@@ -12,7 +12,6 @@ use Rattle.em_space.proofs.Paying.{pays_kept, pays_more, pays_then}
 use Rattle.em_space.proofs.Sessions.{session_as, session_still}
 use Rattle.em_chain.specs.Chain.{chain_blocks, chain_items, payload_in}
 use Rattle.em_chain.proofs.Keeps.{payload_kept}
-use Rattle.aig_edges.proofs.Releases.{stops_by}
 use Rattle.em_chain.specs.Effects.{Unmoved}
 use Rattle.em_chain.specs.Writer.{filled}
 use Rattle.em_chain.specs.declared.chain.Chain.{Chain}
@@ -27,8 +26,9 @@ use Rattle.aig_defs.proofs.Chains.{length_numbered}
 use Rattle.aig_defs.proofs.Sorted.{sorted_sources}
 use Rattle.aig_edges.specs.Comparing.{AreSortedOf, CanCompare, ComparesTo, IsCompared, IsFaulty, compare_moves, compare_peak, written_room}
 use Rattle.aig_edges.specs.Comparison.{CanStep, GivesFour, OpensLists, StopsLists, edges_due, lists_account, lists_blocks, Advances, AllTo, ComparesAll, Finished, FindsUnmet, Unfinished, sources_in}
-use Rattle.aig_edges.specs.Ranking.{stored_account}
+use Rattle.aig_edges.specs.Accounts.{stored_account}
 use Rattle.aig_edges.specs.declared.comparing.Comparison.{Comparison}
+use Rattle.aig_edges.proofs.Besides.{stops_by}
 use Rattle.aig_edges.proofs.AllCompared.{can_on, sources_length}
 use Rattle.aig_edges.proofs.Finishes.{Part, part_stops_after, part_stops_still, part_then}
 use Rattle.em_space.proofs.Ledgers.{spends_wider}
@@ -39,11 +39,10 @@ use Rattle.aig_text.specs.declared.stop.AigStop.{AigStop}
 use Rattle.aig_text.specs.declared.stop.AigStop.TheVariants as stop
 use Rattle.aig_edges.specs.Compared.{ComparesSome}
 use Rattle.aig_edges.proofs.Advances.{list_room}
-use Rattle.aig_edges.proofs.Compared.{compares_falling, compares_none, compares_upward, compared_edges, compared_sources}
+use Rattle.aig_edges.proofs.Compared.{compares_all, compares_none, compared_edges, compared_sources}
 use Rattle.em_weave.specs.Woven.{lefts, rights}
 use Rattle.em_chain.proofs.Counts.{writer_blocks_are}
 use Rattle.aig_edges.specs.declared.comparing.Compared.{Compared}
-use Rattle.aig_defs.specs.declared.fault.AigKind.TheVariants.{Unordered}
 
 -- how many sources a circuit has
 sources_count : {s : RigState} {defs edges : Chain} {n : ℕ} (c : Circuit) → AreSortedOf s defs edges n c
@@ -234,9 +233,9 @@ compared_part {n} {s} {a} {b} {defs} {edges} {k} {j} c o h l m =
 -- Nothing was compared at first.
 pub compare_started : {n : ℕ} {s a : RigState} {defs edges : Chain} {k : Comparison} (c : Circuit)
     → OpensLists s a defs edges k → IsTrue s.device.told → AreSortedOf s defs edges n c
-    → ComparesSome c [] (weave_items a k.weave) k.last k.least
+    → ComparesSome c [] (weave_items a k.weave) k.last
 compare_started {s = s} {a = a} {k = k} c o z r =
-    rw (o.defs_are z, o.edges_are z, r.defs_are, r.edges_are, o.last_is, o.least_is) (compares_none c)
+    rw (o.defs_are z, o.edges_are z, r.defs_are, r.edges_are, o.last_is) (compares_none c)
 
 -- The next edge came from a variable that isn't defined, and the lists were let go.
 pub compare_unmet : {n place : ℕ} {s a b t : RigState} {defs edges : Chain} {k j : Comparison}
@@ -253,7 +252,7 @@ compare_unmet {n} {place} {s} {a} {b} {t} {defs} {edges} {k} {j} c o f g u =
     let moves = u.moves in
     let room = x.held in
     record {
-      kind_is = inl f.kind_is;
+      kind_is = f.kind_is;
       found = λ z d r. f.found (o.touches.told ∙ z) d [] r.once (compare_started d o z r);
       goes = record {
         sound = g.sound;
@@ -320,7 +319,7 @@ none_by (x ∷ xs) e = absurd (omega arith)
 -- At the end no record is left.
 pub all_compared : {n : ℕ} {s a b : RigState} {defs edges : Chain} {k j : Comparison} (c : Circuit)
     → OpensLists s a defs edges k → (h : ComparesAll n a b k j) → IsTrue s.device.told
-    → AreSortedOf s defs edges n c → ComparesSome c h.compares.sides [] j.last j.least
+    → AreSortedOf s defs edges n c → ComparesSome c h.compares.sides [] j.last
 all_compared {n} {s} {a} {b} {defs} {edges} {k} {j} c o h z r =
     let i = h.compares.advances.wove.is in
     let u : IsTrue a.device.told = o.touches.told ∙ z in
@@ -331,39 +330,8 @@ all_compared {n} {s} {a} {b} {defs} {edges} {k} {j} c o h z r =
     let l = none_by (left_items b j.weave) (omega (arith, x, none)) in
     let m = none_by (right_items b j.weave) (omega (arith, y, none)) in
     let e : weave_items b j.weave ≡ [] = rw (l, m) refl in
-    subst (λ (ds : List Side). ComparesSome c h.compares.sides ds j.last j.least) e
+    subst (λ (ds : List Side). ComparesSome c h.compares.sides ds j.last) e
     (h.compares.follows u c [] (compare_started c o z r))
-
--- A gate didn't rise, and the lists were let go.
-pub compare_falls : {n place : ℕ} {s a b t : RigState} {defs edges : Chain} {k j : Comparison}
-    → CanCompare s defs edges n → OpensLists s a defs edges k → ComparesAll n a b k j
-    → j.least ≡ Some place → GivesFour [] b t → Unmoved b t
-    → IsFaulty s t defs edges n Unordered place
-compare_falls {n} {place} {s} {a} {b} {t} {defs} {edges} {k} {j} c o h w g u =
-    let q = all_part c o h in
-    let p = q.part in
-    let x = p.spends in
-    let written = q.room in
-    let used = u.same.used in
-    let most = u.same.most in
-    let moves = u.moves in
-    let room = x.held in
-    record {
-      kind_is = inr refl;
-      found = λ z d r. compares_falling d h.compares.sides j.last place r.once
-          (rw w at (all_compared d o h z r));
-      goes = record {
-        sound = g.sound;
-        touches = touches_then (chain_blocks s defs ++ chain_blocks s edges) s b t p.session.touches
-            g.touches;
-        frames = same_again o.frames h.compares.advances.runs.frames g.frames;
-      };
-      used = omega (arith, x.used, room, used);
-      most = omega (arith, x.most, most);
-      moves = omega (arith, x.moves, written, moves);
-      pays = pays_then (pays_more x.pays (omega arith)) (pays_kept 2 (omega (arith, used))
-          (omega (arith, moves))) (omega (arith, moves));
-    }
 
 -- Another number of sources comes only of a device that doesn't tell.
 pub compare_damaged : {n : ℕ} {s a b t : RigState} {defs edges : Chain} {k j : Comparison}
@@ -413,8 +381,8 @@ compare_damaged {n} {s} {a} {b} {t} {defs} {edges} {k} {j} c o h w g u =
 -- No fault was found, and the lists were finished.
 pub compare_is : {n : ℕ} {s a b t : RigState} {defs edges : Chain} {k j : Comparison} {r : Compared}
     → CanCompare s defs edges n → OpensLists s a defs edges k → ComparesAll n a b k j
-    → j.sources.count ≡ n → j.least ≡ None → Finished b t j r → IsCompared s t defs edges n r
-compare_is {n} {s} {a} {b} {t} {defs} {edges} {k} {j} {r} c o h w none f =
+    → j.sources.count ≡ n → Finished b t j r → IsCompared s t defs edges n r
+compare_is {n} {s} {a} {b} {t} {defs} {edges} {k} {j} {r} c o h w f =
     let q = all_part c o h in
     let v = h.compares.advances in
     let x = o.sources_begun in
@@ -452,7 +420,7 @@ compare_is {n} {s} {a} {b} {t} {defs} {edges} {k} {j} {r} c o h w none f =
     let held = q.part.spends.held in
     let room = q.room in
     let last = λ (z : IsTrue s.device.told) (d : Circuit) (m : AreSortedOf s defs edges n d).
-    rw none at (all_compared d o h z m) in
+    all_compared d o h z m in
     record {
       sources_is = f.sources.is;
       edges_is = f.edges.is;
@@ -466,7 +434,7 @@ compare_is {n} {s} {a} {b} {t} {defs} {edges} {k} {j} {r} c o h w none f =
       edges_count = f.edges.count_is ∙ ec;
       sources_blocks = fs ∙ sb;
       edges_blocks = fe ∙ eb;
-      upward = λ z d m. compares_upward d h.compares.sides j.last m.once (last z d m);
+      defined = λ z d m. compares_all d h.compares.sides j.last m.once (last z d m);
       sources_are = λ z d m.
           let u : IsTrue a.device.told = o.touches.told ∙ z in
           f.sources.items (v.wove.told ∙ u) ∙ v.sources.items u

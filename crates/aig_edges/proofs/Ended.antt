@@ -24,7 +24,7 @@ use Rattle.aig_text.specs.declared.parts.Parts.{Parts}
 use Rattle.aig_text.specs.declared.stop.AigStop.{AigStop}
 use Rattle.aig_text.specs.declared.stop.AigStop.TheVariants as stop
 use Rattle.aig_edges.specs.Build.{UsesUp, parts_size}
-use Rattle.aig_edges.specs.BuildUpward.{BuildsUpward, CalledInRuns, SortCosts, sort_calls, sort_moves, sort_peak, sort_run}
+use Rattle.aig_edges.specs.BuildGraph.{BuildsGraph, CalledInRuns, SortCosts, sort_calls, sort_moves, sort_peak, sort_run}
 use Rattle.aig_edges.specs.Graph.{IsGraph, IsGraphOf, graph_blocks, graph_size}
 use Rattle.aig_edges.specs.Making.{BuildsBeside, DoneUntil}
 use Rattle.aig_edges.specs.declared.graph.Graph.{Graph}
@@ -49,7 +49,7 @@ until_built q x y {s} {u} p b =
     }
 
 -- The queue gave its frames back.
-shares_gone : (c d : QueueCounts) (p q r : PoolCounts) → Shares c d p q
+pub shares_gone : (c d : QueueCounts) (p q r : PoolCounts) → Shares c d p q
     → Shares d (record d { frames = 0; areas = 0 }) q r
     → Shares c (record c { frames = 0; areas = 0 }) p r
 shares_gone c d p q r x y = record {
@@ -71,7 +71,7 @@ up_left q x y {s} {u} {v} p h l = record {
 }
 
 -- the moves within an allowance,
-allowed : (o : Option (ShapeNumbers → ℕ → ℕ → ℕ)) (s u v : RigState) (c d : QueueCounts)
+pub allowed : (o : Option (ShapeNumbers → ℕ → ℕ → ℕ)) (s u v : RigState) (c d : QueueCounts)
     (calls run own : ℕ) → u.pool.shape ≡ s.pool.shape → CalledInRuns calls run c d
     → u.moves + c.spent ≤ s.moves + d.spent + own → IfSome o IsRising
     → IfSome o (λ f. d.spent + v.moves ≤ u.moves + f u.pool.shape d.n d.k)
@@ -83,14 +83,14 @@ allowed (Some f) s u v c d calls run own e h m r x =
     let z = ap (λ (a : ShapeNumbers). f a d.n d.k) e in
     omega (arith, m, x, y, z)
 
-still_allowed : (o : Option (ShapeNumbers → ℕ → ℕ → ℕ)) (u v : RigState) (d : QueueCounts)
+pub still_allowed : (o : Option (ShapeNumbers → ℕ → ℕ → ℕ)) (u v : RigState) (d : QueueCounts)
     → v.moves ≡ u.moves → IfSome o (λ f. d.spent ≤ f u.pool.shape d.n d.k)
     → IfSome o (λ f. d.spent + v.moves ≤ u.moves + f u.pool.shape d.n d.k)
 still_allowed None u v d e x = tt
 still_allowed (Some f) u v d e x = omega (arith, e, x)
 
 -- and the blocks within a room, after it was abandoned,
-roomy : (o : Option (ShapeNumbers → ℕ → ℕ)) (s u v : RigState) (c d : QueueCounts)
+pub roomy : (o : Option (ShapeNumbers → ℕ → ℕ)) (s u v : RigState) (c d : QueueCounts)
     (calls run held peak : ℕ) → u.pool.shape ≡ s.pool.shape → CalledInRuns calls run c d
     → u.most + (c.blocks + held) ≤ max (s.most + (c.blocks + held)) (s.used + (d.most + peak))
     → v.most ≡ u.most → IfSome o IsRisingRoom → IfSome o (λ f. d.most ≤ f u.pool.shape d.k)
@@ -103,7 +103,7 @@ roomy (Some f) s u v c d calls run held peak e h m n r x =
     omega (arith, m, n, x, y, z)
 
 -- and after it was ended.
-ended_roomy : (o : Option (ShapeNumbers → ℕ → ℕ)) (s u v : RigState) (c d : QueueCounts)
+pub ended_roomy : (o : Option (ShapeNumbers → ℕ → ℕ)) (s u v : RigState) (c d : QueueCounts)
     (calls run held peak left : ℕ) → u.pool.shape ≡ s.pool.shape → CalledInRuns calls run c d
     → u.most + (c.blocks + held) ≤ max (s.most + (c.blocks + held)) (s.used + (d.most + peak))
     → u.used + (c.blocks + held) ≡ s.used + (d.blocks + left) → left ≤ peak
@@ -119,7 +119,7 @@ ended_roomy (Some f) s u v c d calls run held peak left e h m n l r x w =
     omega (arith, m, n, l, x, y, z, b)
 
 -- The same of a bound on what it holds while it ends.
-ended_within : (top : ℕ) {end : ℕ} (s u v : RigState) (c d : QueueCounts) (held peak left : ℕ)
+pub ended_within : (top : ℕ) {end : ℕ} (s u v : RigState) (c d : QueueCounts) (held peak left : ℕ)
     → u.most + (c.blocks + held) ≤ max (s.most + (c.blocks + held)) (s.used + (d.most + peak))
     → u.used + (c.blocks + held) ≡ s.used + (d.blocks + left) → left ≤ peak → d.most ≤ top
     → top ≡ end → v.most + d.blocks ≤ max (u.most + d.blocks) (u.used + top)
@@ -310,11 +310,11 @@ costs_ended q x y {s} {u} {v} {m} p b has l rising rising_room fits =
     }
 
 -- It is the graph of each circuit whose parts there were.
-pub builds_upward : {Q : Type 0} (q : QueueGhosts Q) (x y : Q) {s u v : RigState} {m : Graph}
+pub builds_graph : {Q : Type 0} (q : QueueGhosts Q) (x y : Q) {s u v : RigState} {m : Graph}
     (p : Parts) → BuildsBeside q x y s u p m
     → Ends q.allowance q.room (q.blocks y u) (q.counts y) u v
-    → BuildsUpward (held_at q x s p) s v p m
-builds_upward q x y p b e =
+    → BuildsGraph (held_at q x s p) s v p m
+builds_graph q x y p b e =
     let a = ended_after q x y p b e in
     record {
       is = a.stays.is;
@@ -326,7 +326,7 @@ builds_upward q x y p b e =
       stands = λ z.
           let each = b.stands z in
           record {
-            upward = each.upward;
+            defined = each.defined;
             is = λ c o. a.stays.of (b.runs.runs.session.touches.told ∙ z) c (each.is c o);
           };
     }

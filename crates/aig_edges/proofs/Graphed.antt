@@ -11,16 +11,15 @@ use Rattle.em_queued.specs.Queued.{RunsBeside}
 use Rattle.em_queued.proofs.Queued.{beside_as, beside_holds, beside_then, beside_wider, others_beside}
 use Rattle.aig_text.specs.declared.parts.Parts.{Parts}
 use Rattle.aig_edges.specs.Build.{parts_size}
-use Rattle.aig_edges.specs.BuildUpward.{BuildsEach, sort_moves, sort_peak}
+use Rattle.aig_edges.specs.BuildGraph.{BuildsEach, sort_moves, sort_peak}
 use Rattle.aig_edges.specs.Comparing.{IsCompared, compare_moves, compare_peak}
 use Rattle.aig_edges.specs.Graph.{graph_blocks, graph_size}
 use Rattle.aig_edges.specs.Making.{BuildsBeside}
-use Rattle.aig_edges.specs.Ranking.{stored_account}
+use Rattle.aig_edges.specs.Accounts.{stored_account}
 use Rattle.aig_edges.specs.declared.comparing.Compared.{Compared}
 use Rattle.aig_edges.specs.declared.graph.Graph.{Graph}
-use Rattle.aig_edges.proofs.Besides.{beside_by, beside_crossed, beside_swapped, holds_last}
+use Rattle.aig_edges.proofs.Besides.{beside_by, beside_crossed, beside_swapped, holds_last, stays_beside}
 use Rattle.aig_edges.proofs.Made.{AllStand, AreSizes, Given, MayCompare, NoneTwice, room_at, sorted_of}
-use Rattle.aig_edges.proofs.Releases.{stays_beside}
 use Rattle.aig_edges.proofs.Stands.{runs_wider}
 
 -- the graph of these gates
@@ -80,7 +79,7 @@ compared_runs q x y {s} {t} {u} {p} {d} {g} {e} k r o fits most v blocks stays =
     (stored_account (graph_size (graph_with p g r)) 0) (q.counts y) (q.counts y) t u) same
     (beside_wider (omega arith) (omega (arith, fits)) three)
 
--- Each circuit whose parts there were can be evaluated upwards, and it is its graph.
+-- Each circuit whose parts there were defines nothing twice and all that it uses, and it is its graph.
 graph_each : {Q : Type 0} {q : QueueGhosts Q} {x y : Q} {s t u : RigState} {p : Parts}
     {d g e : Chain} {r : Compared} → NoneTwice s p → AllStand q x y s t p d g e
     → IsCompared t u d e (p.header.inputs + p.header.latches) r → ChainStays t u g
@@ -88,7 +87,7 @@ graph_each : {Q : Type 0} {q : QueueGhosts Q} {x y : Q} {s t u : RigState} {p : 
 graph_each once o v stays z =
     let told = o.runs.runs.session.touches.told ∙ z in
     record {
-      upward = λ k a. v.upward told k (sorted_of once o z k a);
+      defined = λ k a. v.defined told k (sorted_of once o z k a);
       is = λ k a. record {
         header = a.header;
         is = a.is;

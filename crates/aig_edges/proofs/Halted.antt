@@ -1,5 +1,5 @@
 -- A step of making a graph stops, beside the chains that stand: what was done until then.
-use Rattle.std.proofs.Common.{◌≡◌, ℕ, ◌+◌, ◌≤◌, max, List, [], ◌++◌, IsTrue, ap, refl, sym, ◌∙◌, arith, append_assoc, ⊎_elim, subst, Err}
+use Rattle.std.proofs.Common.{◌≡◌, ℕ, ◌+◌, ◌≤◌, max, List, [], ◌++◌, IsTrue, ap, refl, sym, ◌∙◌, arith, append_assoc, subst, Err}
 use Rattle.em_record.specs.Shape.{ShapeNumbers}
 use Rattle.em_space.specs.Queue.{Pays, QueueCounts, Shares}
 use Rattle.em_space.specs.Rig.{RigState, Cause, Goes, Sound, Touches}
@@ -23,11 +23,11 @@ use Rattle.aig_text.specs.Parts.{parts_blocks}
 use Rattle.aig_text.specs.declared.parts.Parts.{Parts}
 use Rattle.aig_text.specs.declared.stop.AigStop.{AigStop}
 use Rattle.aig_text.specs.declared.stop.AigStop.TheVariants as stop
-use Rattle.aig_edges.specs.BuildUpward.{IsFaultOfParts, IsUpwardKind, StopsUpward, sort_calls, sort_peak, sort_run}
+use Rattle.aig_edges.specs.BuildGraph.{IsFaultOfParts, IsDefinitionKind, StopsBuilding, sort_calls, sort_peak, sort_run}
 use Rattle.aig_edges.specs.Comparing.{AreSortedOf, ComparesTo, compare_moves, compare_peak}
 use Rattle.aig_edges.specs.Looks.{Looks, StopsLooking}
 use Rattle.aig_edges.specs.Making.{BuildsNone}
-use Rattle.aig_edges.specs.Ranking.{stored_account}
+use Rattle.aig_edges.specs.Accounts.{stored_account}
 use Rattle.aig_edges.proofs.Looks.{looks_none}
 use Rattle.aig_edges.proofs.Pushes.{stops_value}
 use Rattle.aig_edges.proofs.Stands.{StandsBeside, one_and_others, runs_wider, runs_within}
@@ -50,7 +50,7 @@ none_made : {Q : Type 0} (q : QueueGhosts Q) (x y w : Q) {s t u : RigState} (p :
     → n + more ≤ sort_calls p.header → peak ≤ sort_peak s p
     → ks ≡ q.blocks y t ++ chains_blocks t a b c
     → HaltsBeside more peak ks (a.blocks + (b.blocks + c.blocks)) owed (q.counts y) (q.counts w) t u
-    → StopsUpward s p (Err e) → IfEmStop e (Cause s u) → BuildsNone q x w s u p e
+    → StopsBuilding s p (Err e) → IfEmStop e (Cause s u) → BuildsNone q x w s u p e
 none_made q x y w {s} {t} {u} p {n} {more} ks e o l m fits same v stops cause =
     let r = o.runs.runs in
     let k = r.spends in
@@ -157,7 +157,7 @@ compare_halted : {Q : Type 0} (q : QueueGhosts Q) (x y : Q) {s t u : RigState} (
     → u.most + (d.blocks + e.blocks)
     ≤ max (t.most + (d.blocks + e.blocks)) (t.used + compare_peak t d e k)
     → u.moves ≤ t.moves + compare_moves t d e k → Pays 0 2 t u
-    → StopsUpward s p (Err r) → IfEmStop r (Cause s u) → BuildsNone q x y s u p r
+    → StopsBuilding s p (Err r) → IfEmStop r (Cause s u) → BuildsNone q x y s u p r
 compare_halted q x y {s} {t} {u} p {n} {owed} {k} {d} {e} {g} r o can goes most moves pays stops
     cause =
     let qs = q.blocks y t in
@@ -186,7 +186,7 @@ pub compare_none : {Q : Type 0} (q : QueueGhosts Q) (x y : Q) {s t u : RigState}
 compare_none q x y {s} {t} {u} p {k = k} {d} {e} (stop.Fault fault place) o can are v =
     compare_halted q x y p {k = k} (stop.Fault fault place) o can v.goes v.most v.moves v.pays
     (record {
-      kind_is = ⊎_elim (λ z. subst IsUpwardKind (sym z) tt) (λ z. subst IsUpwardKind (sym z) tt) v.kind_is;
+      kind_is = subst IsDefinitionKind (sym v.kind_is) tt;
       found = λ z c a. v.found (o.runs.runs.session.touches.told ∙ z) c (are z c a);
     }) tt
 compare_none q x y p stop.Read o can are v = absurd v

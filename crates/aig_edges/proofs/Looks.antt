@@ -1,5 +1,5 @@
 -- Reading lists of which nothing is taken.
-use Rattle.std.proofs.Common.{◌≡◌, ℕ, ◌+◌, ◌≤◌, false, List, [], ◌∷◌, IsTrue, Result, Ok, Err, ap, refl, sym, ◌∙◌, arith, subst, length}
+use Rattle.std.proofs.Common.{◌≡◌, ℕ, ◌+◌, false, List, [], ◌∷◌, IsTrue, Result, Ok, Err, ap, refl, sym, ◌∙◌, arith, subst, length}
 use Rattle.std.specs.Result.{IsErrAnd}
 use Rattle.em_record.specs.declared.record.Record.{Record}
 use Rattle.em_frames.specs.Device.{DeviceState}
@@ -130,38 +130,11 @@ all_lent P Q (Ok x) l u o h g y f =
     (looks_lent l u o h.0 g y, λ z. f z x (h.1 (l.touches.told ∙ z)))
 all_lent P Q (Err e) l u o h g y f = stops_lent l u o h g y
 
--- Looking at one list after another,
+-- Nothing was looked at.
 pub looks_none : {s : RigState} (n : ℕ) → Sound s → Looks n s s
 looks_none {s} n h = record {
   goes = goes_nothing s h;
   used = refl;
   most_is = refl;
   moves = omega arith;
-}
-
-pub looks_wider : {m n : ℕ} {s t : RigState} → m ≤ n → Looks m s t → Looks n s t
-looks_wider {m} {n} {s} {t} l h = record {
-  goes = h.goes;
-  used = h.used;
-  most_is = h.most_is;
-  moves = omega (arith, l, h.moves);
-}
-
-pub looks_then : {m n : ℕ} {s t u : RigState} → Looks m s t → Looks n t u → Looks (m + n) s u
-looks_then {m} {n} {s} {t} {u} h g = record {
-  goes = goes_then [] s t u h.goes g.goes;
-  used = g.used ∙ h.used;
-  most_is = g.most_is ∙ h.most_is;
-  moves = omega (arith, h.moves, g.moves);
-}
-
-pub stops_wider : {m n : ℕ} {s t : RigState} {e : EmFault} → m ≤ n → StopsLooking m s t e
-    → StopsLooking n s t e
-stops_wider l h = record { looks = looks_wider l h.looks; cause = h.cause }
-
-pub stops_then : {m n : ℕ} {s t u : RigState} {e : EmFault} → Looks m s t
-    → StopsLooking n t u e → StopsLooking (m + n) s u e
-stops_then {s = s} {t = t} {u = u} {e = e} h g = record {
-  looks = looks_then h g.looks;
-  cause = block_cause_after s t u e h.goes.touches g.cause;
 }

@@ -25,17 +25,17 @@ use Rattle.aig_text.specs.Parts.{IsParts, parts_blocks}
 use Rattle.aig_text.specs.declared.parts.Parts.{Parts}
 use Rattle.aig_text.specs.declared.stop.AigStop.TheVariants as stop
 use Rattle.aig_edges.specs.Build.{edge_room}
-use Rattle.aig_edges.specs.BuildUpward.{BeginsSorting, def_room, gate_room, sort_calls, sort_moves, source_room}
+use Rattle.aig_edges.specs.BuildGraph.{BeginsSorting, def_room, gate_room, sort_calls, sort_moves, source_room}
 use Rattle.aig_edges.specs.Comparing.{AreSortedOf, CanCompare}
 use Rattle.aig_edges.specs.Graph.{edge_count}
 use Rattle.aig_edges.specs.Looks.{Looks, StopsLooking}
 use Rattle.aig_edges.specs.Making.{BuildsNone}
-use Rattle.aig_edges.specs.PushUpward.{AreEdgesSorted, AreOnceEdgesOf, CanSortEdges, SortsEdges, edges_moves}
+use Rattle.aig_edges.specs.SortEdges.{AreEdgesSorted, AreOnceEdgesOf, CanSortEdges, SortsEdges, edges_moves}
 use Rattle.aig_edges.specs.Pushes.{CanServeBeside, edges_both}
 use Rattle.aig_edges.specs.Repeats.{TellsTwice}
 use Rattle.aig_edges.specs.Sorts.{CanSort, IsSorted, SortsTo, sorted_items, sorting_moves}
 use Rattle.aig_edges.specs.declared.sorting.Sorted.{Sorted}
-use Rattle.aig_edges.specs.declared.sorting.Sorted.TheVariants.{Definitions, Gates}
+use Rattle.aig_edges.specs.declared.sorting.Sorted.TheVariants.{Definitions, Themselves}
 use Rattle.aig_edges.proofs.Besides.{beside_front, holds_last, holds_skip}
 use Rattle.aig_edges.proofs.Halted.{CanHalt, look_none, sort_none, twice_none}
 use Rattle.aig_edges.proofs.Sorts.{definitions_lack, definitions_sorted, gates_sorted, sorted_gates_lack}
@@ -207,15 +207,15 @@ none_twice {t = t} {d = d} o is tells z k a =
 
 pub can_sort_gates : {Q : Type 0} (q : QueueGhosts Q) (x y : Q) {s t : RigState} {p : Parts}
     {d : Chain} → Given q x s p → NoneTwice s p → GatesStand q x y s t p d
-    → CanSort q Gates y t p.gates
+    → CanSort q Themselves y t p.gates
 can_sort_gates q x y {s} {t} {p} v once o =
     let defs = v.parts.defs.count_is in
     let gates = v.parts.gates.count_is in
     let h = v.parts.header in
-    can_sort q Gates x y v o (omega (arith, defs, gates)) (omega (arith, gates, h.gates))
+    can_sort q Themselves x y v o (omega (arith, defs, gates)) (omega (arith, gates, h.gates))
     (λ z.
     let some = v.parts.stands z in
-    subst (λ (rs : List Record). AllLack [] (sorted_items Gates rs))
+    subst (λ (rs : List Record). AllLack [] (sorted_items Themselves rs))
     (sym (o.items z some.circuit some.are).first)
     (sorted_gates_lack some.circuit (once z some.circuit some.are)))
 
@@ -227,7 +227,7 @@ EdgesStand q x y s t p d g = StandsBeside q x y s t p (0 + 2 * p.defs.count + 2 
 
 pub edges_stand : {Q : Type 0} (q : QueueGhosts Q) (x y w : Q) {s t u : RigState} {p : Parts}
     {d : Chain} (g : Chain) → Given q x s p → d.blocks ≡ def_room s p → GatesStand q x y s t p d
-    → IsSorted q Gates y w p.gates g t u → q.IsQueue w u → EdgesStand q x w s u p d g
+    → IsSorted q Themselves y w p.gates g t u → q.IsQueue w u → EdgesStand q x w s u p d g
 edges_stand q x y w {s} {t} {p = p} {d} g v size o i is =
     let count = v.parts.gates.count_is in
     let room = room_at o count in
@@ -235,10 +235,10 @@ edges_stand q x y w {s} {t} {p = p} {d} g v size o i is =
     graph_gates o (omega (arith, room)) (omega (arith, count)) (omega (arith, room, size)) i.runs
     i.rests i.empty is i.is
     (λ z k a old. i.items (o.runs.runs.session.touches.told ∙ z)
-    ∙ ap (λ (rs : List Record). in_order (sorted_items Gates rs)) old.first ∙ gates_sorted k))
+    ∙ ap (λ (rs : List Record). in_order (sorted_items Themselves rs)) old.first ∙ gates_sorted k))
 
 pub gates_room : {Q : Type 0} {q : QueueGhosts Q} {x y w : Q} {s t u : RigState} {p : Parts}
-    {d g : Chain} → Given q x s p → GatesStand q x y s t p d → IsSorted q Gates y w p.gates g t u
+    {d g : Chain} → Given q x s p → GatesStand q x y s t p d → IsSorted q Themselves y w p.gates g t u
     → g.blocks ≡ gate_room s p
 gates_room v o i = i.blocks_is ∙ room_at o v.parts.gates.count_is
 
@@ -434,7 +434,7 @@ defs_twice q x y {t = t} {p = p} {d} place v o b few is tells =
 -- gates weren't sorted,
 pub gates_none : {Q : Type 0} (q : QueueGhosts Q) (x y w : Q) {s t u : RigState} {p : Parts}
     {d : Chain} {fault : EmFault} → Given q x s p → d.blocks ≡ def_room s p
-    → GatesStand q x y s t p d → SortsTo q Gates y w p.gates t u (Err fault)
+    → GatesStand q x y s t p d → SortsTo q Themselves y w p.gates t u (Err fault)
     → BuildsNone q x w s u p (stop.Em fault)
 gates_none q x y w {s} {t} {p = p} v size o i =
     let defs = v.parts.defs.count_is in

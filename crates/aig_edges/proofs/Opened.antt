@@ -1,5 +1,5 @@
 -- Lists are opened to be compared, and let go.
-use Rattle.std.proofs.Common.{◌≡◌, ℕ, ◌+◌, ◌≤◌, [], None, refl, ap, sym, ◌∙◌, arith}
+use Rattle.std.proofs.Common.{◌≡◌, ℕ, ◌+◌, ◌≤◌, [], refl, ap, sym, ◌∙◌, arith}
 use Rattle.em_record.specs.Shape.{ShapeNumbers}
 use Rattle.em_frames.specs.Pool.{HasFrames, PoolCounts, singles_of}
 use Rattle.em_space.specs.Rig.{RigState}
@@ -76,7 +76,6 @@ pub opens_lists : {s a b t : RigState} {defs edges : Chain} {w : Weave} {x y : W
       sources = x;
       edges = y;
       last = constant_def;
-      least = None;
     })
 opens_lists {s} {a} {b} {t} {defs} {edges} {w} {x} {y} l u o m v c n k d =
     let two = touches_then [] a b t m.touches n.touches in
@@ -116,7 +115,6 @@ opens_lists {s} {a} {b} {t} {defs} {edges} {w} {x} {y} l u o m v c n k d =
       held_is = o.held_is;
       owed_is = o.owed_is;
       last_is = refl;
-      least_is = refl;
     }
 
 -- All four frames came back.

@@ -22,12 +22,11 @@ use Rattle.aig_text.specs.Draft.{chains_blocks}
 use Rattle.aig_text.specs.Parts.{IsParts, parts_blocks}
 use Rattle.aig_text.specs.declared.parts.Parts.{Parts}
 use Rattle.aig_edges.specs.Build.{parts_size}
-use Rattle.aig_edges.specs.BuildUpward.{CalledInRuns, sort_moves, sort_peak, sort_run}
+use Rattle.aig_edges.specs.BuildGraph.{CalledInRuns, sort_moves, sort_peak, sort_run}
 use Rattle.aig_edges.specs.Looks.{Looks}
-use Rattle.aig_edges.specs.Ranking.{stored_account}
-use Rattle.aig_edges.proofs.Besides.{beside_by, beside_crossed, beside_front, beside_turned}
+use Rattle.aig_edges.specs.Accounts.{stored_account}
+use Rattle.aig_edges.proofs.Besides.{beside_by, beside_crossed, beside_front, beside_turned, stays_beside}
 use Rattle.aig_edges.proofs.Pushes.{IsBoth, beside_value}
-use Rattle.aig_edges.proofs.Releases.{stays_beside}
 use Rattle.aig_edges.proofs.Sorts.{runs_then}
 
 -- what three chains have, of one circuit

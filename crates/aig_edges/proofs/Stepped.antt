@@ -62,14 +62,12 @@ pub keeps_gate : {s : RigState} {k : Comparison} (n : ℕ) (d : Record) → AreL
       sources = k.sources;
       edges = k.edges;
       last = d;
-      least = k.least;
     }) d
 keeps_gate {s} {k} n d i l e = record {
-  advances = rw (source_none d e) (advances_none {p = d} {q = k.least} i);
+  advances = rw (source_none d e) (advances_none {p = d} i);
   most = l;
   weave_is = refl;
   last_is = refl;
-  least_is = refl;
 }
 
 -- one source too many was given,
@@ -95,14 +93,12 @@ pub keeps_by : {s t : RigState} {k : Comparison} {a : Writer} (n : ℕ) (d x : R
       sources = a;
       edges = k.edges;
       last = d;
-      least = k.least;
     }) d r
 keeps_by {k = k} n d x (Ok y) i l e w g p c h f = record {
-  advances = rw (source_one d e, sym w) (advances_source {p = d} {q = k.least} i (writes_item y g p c h));
+  advances = rw (source_one d e, sym w) (advances_source {p = d} i (writes_item y g p c h));
   most = let m = p.count_is in omega arith;
   weave_is = refl;
   last_is = refl;
-  least_is = refl;
 }
 keeps_by n d x (Err fault) i l e w g p c h f = stops_source n i l g h f
 
@@ -132,13 +128,12 @@ with_weave k v = record {
   sources = k.sources;
   edges = k.edges;
   last = k.last;
-  least = k.least;
 }
 
 pub lists_woven : {s t : RigState} {k : Comparison} {v : Weave} (xs : List Side) → AreLists s k
     → Weaves s t k.weave v xs → AreLists t (with_weave k v)
 lists_woven {k = k} xs i h =
-    lists_more i (advances_weave {p = k.last} {q = k.least} xs i h) i.sources_few i.edges_few
+    lists_more i (advances_weave {p = k.last} xs i h) i.sources_few i.edges_few
 
 filter_first : (d : Record) (ds : List Record) → is_source d ≡ true
     → length (filter is_source (d ∷ ds)) ≡ length (filter is_source ds) + 1
@@ -170,7 +165,7 @@ pub step_left : {n : ℕ} {s t u : RigState} {k j : Comparison} {v : Weave} (d :
     → CanStep n s k → Weaves s t k.weave v (Left d ∷ []) → Keeps n t u (with_weave k v) j d
     → StepsOne n s u k j
 step_left {n} {s} {t} {u} {k} {j} {v} d i h g =
-    let a = advances_then (advances_weave {p = k.last} {q = k.least} (Left d ∷ []) i.are h)
+    let a = advances_then (advances_weave {p = k.last} (Left d ∷ []) i.are h)
     g.advances in
     let w = wove_count (Left d ∷ []) a.wove in
     record {
@@ -179,10 +174,10 @@ step_left {n} {s} {t} {u} {k} {j} {v} d i h g =
         advances = a;
         most = g.most;
         follows = λ z c before x.
-            let m : ComparesSome c before (Left d ∷ weave_items u j.weave) k.last k.least =
-            subst (λ (ds : List Side). ComparesSome c before ds k.last k.least) (a.wove.items z) x in
-            rw (g.last_is, g.least_is)
-            (compares_left c before (weave_items u j.weave) d k.last k.least m);
+            let m : ComparesSome c before (Left d ∷ weave_items u j.weave) k.last =
+            subst (λ (ds : List Side). ComparesSome c before ds k.last) (a.wove.items z) x in
+            rw (g.last_is)
+            (compares_left c before (weave_items u j.weave) d k.last m);
       };
       fewer = omega (arith, w);
     }
@@ -194,14 +189,14 @@ pub stop_left : {n : ℕ} {s t u : RigState} {k : Comparison} {v : Weave} {e : E
 stop_left {n} {s} {t} {u} {k} {v} d i h x =
     stops_lists n (edges_due k) n k.edges.count (omega arith) (omega arith) i.are.sound
     (lists_woven (Left d ∷ []) i.are h)
-    (advances_weave {p = k.last} {q = k.least} (Left d ∷ []) i.are h) i.most (omega arith) x
+    (advances_weave {p = k.last} (Left d ∷ []) i.are h) i.most (omega arith) x
 
 -- An edge was given, and written or not.
 pub step_right : {n : ℕ} {s t : RigState} {k : Comparison} {v : Weave} (u : RigState)
     (j : Comparison) (e : Record) (r : Result (Unit {0}) AigStop) → CanStep n s k → Weaves s t k.weave v (Right e ∷ [])
     → MeetsEdge t u (with_weave k v) j e r → StepsTo n s u k j r
 step_right {n} {s} {t} {k} {v} u j e (Ok y) i h g =
-    let a = advances_then (advances_weave {p = k.last} {q = k.least} (Right e ∷ []) i.are h)
+    let a = advances_then (advances_weave {p = k.last} (Right e ∷ []) i.are h)
     g.advances in
     let w = wove_count (Right e ∷ []) a.wove in
     record {
@@ -210,15 +205,15 @@ step_right {n} {s} {t} {k} {v} u j e (Ok y) i h g =
         advances = a;
         most = let l = i.most in let b = g.advances.sources.count_is in omega (arith, l, b);
         follows = λ z c before x.
-            let m : ComparesSome c before (Right e ∷ weave_items u j.weave) k.last k.least =
-            subst (λ (ds : List Side). ComparesSome c before ds k.last k.least) (a.wove.items z) x in
-            rw (g.last_is, g.least_is)
-            (compares_right c before (weave_items u j.weave) e k.last k.least m g.met);
+            let m : ComparesSome c before (Right e ∷ weave_items u j.weave) k.last =
+            subst (λ (ds : List Side). ComparesSome c before ds k.last) (a.wove.items z) x in
+            rw (g.last_is)
+            (compares_right c before (weave_items u j.weave) e k.last m g.met);
       };
       fewer = omega (arith, w);
     }
 step_right {n} {s} {t} {k} {v} u j e (Err (stop.Fault fault place)) i h g =
-    let a = advances_weave {p = k.last} {q = k.least} (Right e ∷ []) i.are h in
+    let a = advances_weave {p = k.last} (Right e ∷ []) i.are h in
     record {
       sides = Right e ∷ [];
       ys = [];
@@ -228,14 +223,14 @@ step_right {n} {s} {t} {k} {v} u j e (Err (stop.Fault fault place)) i h g =
       edges_most = rw (g.same) (omega arith);
       kind_is = g.kind_is;
       found = λ z c before twice x.
-          let m : ComparesSome c before (Right e ∷ weave_items t v) k.last k.least =
-          subst (λ (ds : List Side). ComparesSome c before ds k.last k.least) (a.wove.items z) x in
+          let m : ComparesSome c before (Right e ∷ weave_items t v) k.last =
+          subst (λ (ds : List Side). ComparesSome c before ds k.last) (a.wove.items z) x in
           rw (g.kind_is, g.place_is)
-          (compares_unmet c before (weave_items t v) e k.last k.least twice m g.unmet);
+          (compares_unmet c before (weave_items t v) e k.last twice m g.unmet);
     }
 step_right u j e (Err stop.Read) i h g = g
 step_right {n} {s} {t} {k} {v} u j e (Err (stop.Em fault)) i h g =
-    let a = advances_weave {p = k.last} {q = k.least} (Right e ∷ []) i.are h in
+    let a = advances_weave {p = k.last} (Right e ∷ []) i.are h in
     let w = a.wove.right_count in
     stops_lists n (edges_due k) k.sources.count (k.edges.count + 1) i.most (omega (arith, w))
     i.are.sound (lists_woven (Right e ∷ []) i.are h) a (omega arith) (omega arith) g
@@ -244,7 +239,7 @@ step_right {n} {s} {t} {k} {v} u j e (Err (stop.Em fault)) i h g =
 pub step_none : {n : ℕ} {s t : RigState} {k : Comparison} {v : Weave} → CanStep n s k
     → Weaves s t k.weave v [] → AtBothEnds s t k.weave v → StepsOne n s t k (with_weave k v)
 step_none {n} {s} {t} {k} {v} i h e =
-    let a = advances_weave {p = k.last} {q = k.least} [] i.are h in
+    let a = advances_weave {p = k.last} [] i.are h in
     let w = wove_count [] a.wove in
     let c = e.count in
     record {
@@ -253,7 +248,7 @@ step_none {n} {s} {t} {k} {v} i h e =
         advances = a;
         most = i.most;
         follows = λ z c before x.
-            rw (append-nil before) (subst (λ (ds : List Side). ComparesSome c before ds k.last k.least)
+            rw (append-nil before) (subst (λ (ds : List Side). ComparesSome c before ds k.last)
             (a.wove.items z) x);
       };
       fewer = omega (arith, w, c);

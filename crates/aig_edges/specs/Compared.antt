@@ -1,13 +1,12 @@
 -- Sorted definitions and edges side by side.
-use Rattle.std.specs.Prelude.{◌≡◌, ℕ, ◌/◌, List, [], ◌∷◌, ◌++◌, filter, map, min, Option, None, Some}
-use Rattle.std.specs.List.{reduce}
+use Rattle.std.specs.Prelude.{◌≡◌, List, [], ◌∷◌, ◌++◌}
 use Rattle.em_record.specs.declared.record.Record.{Record}
 use Rattle.em_weave.specs.declared.side.Side.{Side}
 use Rattle.em_weave.specs.declared.side.Side.TheVariants.{Left, Right}
 use Rattle.em_weave.specs.Woven.{woven}
 use Rattle.aig_defs.specs.Circuit.{Circuit}
 use Rattle.aig_defs.specs.Graph.{graph_edges}
-use Rattle.aig_defs.specs.Sorted.{sorted_defs, constant_def, is_falling}
+use Rattle.aig_defs.specs.Sorted.{sorted_defs, constant_def}
 
 -- each record of the right with the last one of the left before it, or with this one if there is none
 abbrev pub paired : Record → List Side → List (Record × Record)
@@ -26,21 +25,9 @@ abbrev pub AllPairsMet : List (Record × Record) → Type 0
 AllPairsMet [] = Unit {0}
 AllPairsMet ((def, e) ∷ pairs) = (def.a ≡ e.a) × AllPairsMet pairs
 
--- the gates that edges lead to which don't rise
-abbrev pub pair_targets : List (Record × Record) → List ℕ
-pair_targets pairs = map (λ p. p.1.b / 4) (filter (λ p. is_falling p.0 p.1) pairs)
-
--- the lesser of a number and another one, if there is another one
-abbrev pub with_least : Option ℕ → ℕ → Option ℕ
-with_least None v = Some v
-with_least (Some u) v = Some (min u v)
-
 -- Some definitions and edges of a circuit were compared, and these are left. All edges among them come
--- from variables that are defined; the last definition among them, and the least gate among them that
--- doesn't rise, are these.
-pub record ComparesSome (c : Circuit) (before after : List Side) (last : Record) (least : Option ℕ)
-    : Type 0 where
+-- from variables that are defined, and this is the last definition among them.
+pub record ComparesSome (c : Circuit) (before after : List Side) (last : Record) : Type 0 where
   pub whole : woven (sorted_defs c) (graph_edges c) ≡ before ++ after
   pub met : AllPairsMet (paired constant_def before)
   pub last_is : last ≡ last_left constant_def before
-  pub least_is : least ≡ reduce min (pair_targets (paired constant_def before))

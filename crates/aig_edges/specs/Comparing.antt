@@ -1,5 +1,5 @@
 -- Sorted definitions and edges are compared: on Ok the sources and the edges of a graph are written.
-use Rattle.std.specs.Prelude.{◌≡◌, ℕ, ◌+◌, ◌*◌, ◌≤◌, ◌⊎◌, ◌^◌, max, ◌++◌, IsTrue, Result, Ok, Err}
+use Rattle.std.specs.Prelude.{◌≡◌, ℕ, ◌+◌, ◌*◌, ◌≤◌, ◌^◌, max, ◌++◌, IsTrue, Result, Ok, Err}
 use Rattle.em_space.specs.Held.{Holds}
 use Rattle.em_space.specs.Ledger.{Runs, Stops}
 use Rattle.em_space.specs.Queue.{Pays}
@@ -10,13 +10,12 @@ use Rattle.em_chain.specs.declared.chain.Chain.{Chain}
 use Rattle.aig_defs.specs.declared.fault.AigKind.{AigKind}
 use Rattle.aig_defs.specs.declared.fault.AigKind.TheVariants as kind
 use Rattle.aig_defs.specs.Circuit.{Circuit, IsCircuit}
-use Rattle.aig_defs.specs.Faults.{IsTwice, Nowhere}
+use Rattle.aig_defs.specs.Faults.{IsDefined, IsFaultOf, IsTwice, Nowhere}
 use Rattle.aig_defs.specs.Graph.{graph_edges, graph_sources}
-use Rattle.aig_defs.specs.Rising.{IsUpward, IsUpwardFaultOf}
 use Rattle.aig_defs.specs.Sorted.{sorted_defs}
 use Rattle.aig_text.specs.declared.stop.AigStop.{AigStop}
 use Rattle.aig_text.specs.declared.stop.AigStop.TheVariants as stop
-use Rattle.aig_edges.specs.Ranking.{stored_account}
+use Rattle.aig_edges.specs.Accounts.{stored_account}
 use Rattle.aig_edges.specs.declared.comparing.Compared.{Compared}
 
 -- The lists are the sorted definitions and edges of this circuit, which defines no variable twice and
@@ -67,7 +66,7 @@ pub record IsCompared (s t : RigState) (defs edges : Chain) (n : ℕ) (r : Compa
   pub edges_count : r.edges.count ≡ edges.count
   pub sources_blocks : r.sources.blocks ≡ ceiling n (payload_in s)
   pub edges_blocks : r.edges.blocks ≡ ceiling edges.count (payload_in s)
-  pub upward : IsTrue s.device.told → (c : Circuit) → AreSortedOf s defs edges n c → IsUpward c
+  pub defined : IsTrue s.device.told → (c : Circuit) → AreSortedOf s defs edges n c → IsDefined c
   pub sources_are : IsTrue s.device.told → (c : Circuit) → AreSortedOf s defs edges n c
       → chain_items t r.sources ≡ graph_sources c
   pub edges_are : IsTrue s.device.told → (c : Circuit) → AreSortedOf s defs edges n c
@@ -78,13 +77,13 @@ pub record IsCompared (s t : RigState) (defs edges : Chain) (n : ℕ) (r : Compa
       (stored_account (defs.blocks + edges.blocks) (compare_moves s defs edges n))
       (stored_account (r.sources.blocks + r.edges.blocks) 0) s t
 
--- Undefined or Unordered, of each such circuit, with the least variable. What was written stays in
--- use, of which at most two blocks aren't stored.
+-- Undefined, of each such circuit, with the least variable. What was written stays in use, of which at
+-- most two blocks aren't stored.
 pub record IsFaulty (s t : RigState) (defs edges : Chain) (n : ℕ) (fault : AigKind) (place : ℕ)
     : Type 0 where
-  pub kind_is : (fault ≡ kind.Undefined) ⊎ (fault ≡ kind.Unordered)
+  pub kind_is : fault ≡ kind.Undefined
   pub found : IsTrue s.device.told → (c : Circuit) → AreSortedOf s defs edges n c
-      → IsUpwardFaultOf c fault place
+      → IsFaultOf c fault place
   pub goes : Goes (chain_blocks s defs ++ chain_blocks s edges) s t
   pub used : t.used + (defs.blocks + edges.blocks) ≤ s.used + compare_peak s defs edges n
   pub most : t.most + (defs.blocks + edges.blocks)

@@ -1,5 +1,5 @@
 -- What the steps of comparing definitions and edges do.
-use Rattle.std.specs.Prelude.{◌≡◌, ℕ, ◌+◌, ◌-◌, ◌*◌, ◌/◌, ◌<◌, ◌≤◌, ◌^◌, List, [], ◌∷◌, ◌++◌, filter, length, map, Option, None, if◌then◌else◌, IsTrue, Result, Ok, Err}
+use Rattle.std.specs.Prelude.{◌≡◌, ℕ, ◌+◌, ◌-◌, ◌*◌, ◌<◌, ◌≤◌, ◌^◌, List, [], ◌∷◌, ◌++◌, filter, length, map, IsTrue, Result, Ok, Err}
 use Rattle.em_record.specs.declared.record.Record.{Record}
 use Rattle.em_space.specs.Held.{Holds}
 use Rattle.em_frames.specs.Pool.{GivenFrames, LentFrames, singles_of}
@@ -21,12 +21,11 @@ use Rattle.em_weave.specs.declared.side.Side.{Side}
 use Rattle.aig_defs.specs.declared.fault.AigKind.{AigKind}
 use Rattle.aig_defs.specs.declared.fault.AigKind.TheVariants as kind
 use Rattle.aig_defs.specs.Circuit.{Circuit}
-use Rattle.aig_defs.specs.Faults.{IsTwice, Nowhere}
-use Rattle.aig_defs.specs.Rising.{IsUpwardFaultOf}
-use Rattle.aig_defs.specs.Sorted.{constant_def, is_falling, is_source, plain_def}
+use Rattle.aig_defs.specs.Faults.{IsFaultOf, IsTwice, Nowhere}
+use Rattle.aig_defs.specs.Sorted.{constant_def, is_source, plain_def}
 use Rattle.aig_text.specs.declared.stop.AigStop.{AigStop}
 use Rattle.aig_text.specs.declared.stop.AigStop.TheVariants as stop
-use Rattle.aig_edges.specs.Compared.{ComparesSome, with_least}
+use Rattle.aig_edges.specs.Compared.{ComparesSome}
 use Rattle.aig_edges.specs.declared.comparing.Compared.{Compared}
 use Rattle.aig_edges.specs.declared.comparing.Comparison.{Comparison}
 
@@ -100,16 +99,11 @@ pub record Keeps (n : ℕ) (s t : RigState) (k j : Comparison) (def : Record) : 
   pub most : j.sources.count ≤ n
   pub weave_is : j.weave ≡ k.weave
   pub last_is : j.last ≡ def
-  pub least_is : j.least ≡ k.least
 
 abbrev pub KeepsDef : ℕ → RigState → RigState → Comparison → Comparison → Record
     → Result (Unit {0}) EmFault → Type 0
 KeepsDef n s t k j def (Ok x) = Keeps n s t k j def
 KeepsDef n s t k j def (Err fault) = StopsLists n k.edges.count s t k fault
-
--- the least gate that doesn't rise, with one edge more
-abbrev pub least_edge : Record → Option ℕ → Record → Option ℕ
-least_edge last least e = if is_falling last e then with_least least (e.b / 4) else least
 
 -- An edge from the variable that was defined last was written.
 pub record Meets (s t : RigState) (k j : Comparison) (e : Record) : Type 0 where
@@ -117,7 +111,6 @@ pub record Meets (s t : RigState) (k j : Comparison) (e : Record) : Type 0 where
   pub met : k.last.a ≡ e.a
   pub weave_is : j.weave ≡ k.weave
   pub last_is : j.last ≡ k.last
-  pub least_is : j.least ≡ least_edge k.last k.least e
 
 -- It is from another one: nothing was done.
 pub record Unmet (s t : RigState) (k j : Comparison) (e : Record) (fault : AigKind) (place : ℕ)
@@ -142,8 +135,8 @@ pub record ComparesOn (n : ℕ) (s t : RigState) (k j : Comparison) : Type 0 whe
   pub advances : Advances s t k j sides (sources_in (lefts sides)) (rights sides)
   pub most : j.sources.count ≤ n
   pub follows : IsTrue s.device.told → (c : Circuit) (before : List Side)
-      → ComparesSome c before (weave_items s k.weave) k.last k.least
-      → ComparesSome c (before ++ sides) (weave_items t j.weave) j.last j.least
+      → ComparesSome c before (weave_items s k.weave) k.last
+      → ComparesSome c (before ++ sides) (weave_items t j.weave) j.last
 
 -- The same in one step: one record fewer is left, if there was one.
 pub record StepsOne (n : ℕ) (s t : RigState) (k j : Comparison) : Type 0 where
@@ -161,8 +154,8 @@ pub record FindsUnmet (n : ℕ) (s t : RigState) (k j : Comparison) (fault : Aig
   pub edges_most : j.edges.count ≤ edges_due k
   pub kind_is : fault ≡ kind.Undefined
   pub found : IsTrue s.device.told → (c : Circuit) (before : List Side) → Nowhere (IsTwice c)
-      → ComparesSome c before (weave_items s k.weave) k.last k.least
-      → IsUpwardFaultOf c fault place
+      → ComparesSome c before (weave_items s k.weave) k.last
+      → IsFaultOf c fault place
 
 abbrev pub StepsTo : ℕ → RigState → RigState → Comparison → Comparison
     → Result (Unit {0}) AigStop → Type 0
@@ -217,7 +210,6 @@ pub record OpensLists (s t : RigState) (defs edges : Chain) (k : Comparison) : T
   pub held_is : weave_held k.weave ≡ defs.blocks + edges.blocks
   pub owed_is : (weave_account k.weave).owed ≡ 2 * defs.blocks + 2 * edges.blocks + 2
   pub last_is : k.last ≡ constant_def
-  pub least_is : k.least ≡ None
 
 -- Four frames came back, and only these blocks may have changed.
 pub record GivesFour (held : List ℕ) (s t : RigState) : Type 0 where

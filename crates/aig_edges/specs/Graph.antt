@@ -4,7 +4,8 @@ use Rattle.em_record.specs.Shape.{fan_of}
 use Rattle.em_frames.specs.Pool.{PoolCounts}
 use Rattle.em_space.specs.Held.{Holds}
 use Rattle.em_space.specs.Rig.{RigState}
-use Rattle.em_chain.specs.Chain.{chain_blocks, chain_items}
+use Rattle.em_chain.specs.Chain.{chain_blocks, chain_items, payload_in}
+use Rattle.em_chain.specs.Counts.{ceiling}
 use Rattle.aig_defs.specs.declared.circuit.Gate.{Gate}
 use Rattle.aig_defs.specs.declared.circuit.Header.{Header}
 use Rattle.aig_defs.specs.Circuit.{Circuit, IsCircuit, IsHeader}
@@ -53,6 +54,10 @@ pub record IsGraph (s : RigState) (g : Graph) : Type 0 where
 -- the blocks of the edges between ranks
 abbrev pub ordered_blocks : RigState → Ordered → List ℕ
 ordered_blocks s o = chain_blocks s o.edges
+
+-- how many they are if they are packed
+abbrev pub ranked_room : RigState → Graph → ℕ
+ranked_room s g = ceiling (edge_count g.header) (payload_in s)
 
 -- The edges are those between the ranks of this circuit, whose gates stand in this order.
 pub record IsOrderedOf (s : RigState) (o : Ordered) (c : Circuit) (order : List Gate) : Type 0 where

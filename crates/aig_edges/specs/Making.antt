@@ -9,9 +9,9 @@ use Rattle.aig_text.specs.Parts.{parts_blocks}
 use Rattle.aig_text.specs.declared.parts.Parts.{Parts}
 use Rattle.aig_text.specs.declared.stop.AigStop.{AigStop}
 use Rattle.aig_edges.specs.Build.{edge_room, parts_size}
-use Rattle.aig_edges.specs.BuildUpward.{BuildsEach, CalledInRuns, StopsUpward, gate_room, sort_calls, sort_moves, sort_peak, sort_run, source_room}
+use Rattle.aig_edges.specs.BuildGraph.{BuildsEach, CalledInRuns, StopsBuilding, gate_room, sort_calls, sort_moves, sort_peak, sort_run, source_room}
 use Rattle.aig_edges.specs.Graph.{IsGraph, graph_blocks, graph_size}
-use Rattle.aig_edges.specs.Ranking.{stored_account}
+use Rattle.aig_edges.specs.Accounts.{stored_account}
 use Rattle.aig_edges.specs.declared.graph.Graph.{Graph}
 
 -- What was done until the queue, whose frames are out, is ended or abandoned.
@@ -45,7 +45,7 @@ pub record BuildsBeside {Q : Type 0} (q : QueueGhosts Q) (x y : Q) (s t : RigSta
 pub record BuildsNone {Q : Type 0} (q : QueueGhosts Q) (x y : Q) (s t : RigState) (p : Parts)
     (e : AigStop) : Type 0 where
   pub done : DoneUntil q x y s t p
-  pub stops : StopsUpward s p (Err e)
+  pub stops : StopsBuilding s p (Err e)
   pub cause : IfEmStop e (Cause s t)
   pub pays : Pays (q.counts x).unstored (s.pool.shape.frames + 2) s t
 

@@ -15,7 +15,7 @@ ghost use Rattle.em_space.specs.Seen.{seen};
 ghost use Rattle.aig_text.specs.Ascii.{IfEm};
 ghost use Rattle.aig_text.specs.Parts.{IsParts, parts_blocks};
 ghost use Rattle.aig_edges.specs.Build.{UsesUp, parts_size};
-ghost use Rattle.aig_edges.specs.BuildUpward.{BeginsSorting, BuildsUpward, SortCosts, StopsUpward, StoresSorted, sort_calls, sort_moves, sort_peak, sort_run};
+ghost use Rattle.aig_edges.specs.BuildGraph.{BeginsSorting, BuildsGraph, SortCosts, StopsBuilding, StoresSorted, sort_calls, sort_moves, sort_peak, sort_run};
 ghost use Rattle.aig_edges.specs.Making.{BuildsTo};
 
 use crate::comparing::{Compared, compare};
@@ -27,14 +27,14 @@ use aig_text::{AigStop, Parts};
 use em_frames::Device;
 use em_space::{Queue, Rig};
 
-/// Checks that a circuit can be evaluated upwards by its variables, and gives its graph. The
-/// circuit's lines may stand in any order. The queue, which has no item, is used up, and on Ok the
-/// parts' blocks are the graph's or were released.
+/// Checks that a circuit defines nothing twice and all that it uses, and gives its graph. The
+/// circuit's lines, and so its gates, may stand in any order. The queue, which has no item, is used
+/// up, and on Ok the parts' blocks are the graph's or were released.
 ///
 /// It stops with the first of these faults that the circuit has, at the least such variable: `Twice`
-/// if a variable is defined twice, `Undefined` if one is used and not defined, `Unordered` if a gate
-/// has an operand that is a gate's variable and isn't below its own. It stops with `Em` if a call on
-/// the rig or of the queue gave up, and never with `Read`.
+/// if a variable is defined twice, `Undefined` if one is used and not defined. Gates on a cycle are
+/// no fault here. It stops with `Em` if a call on the rig or of the queue gave up, and never with
+/// `Read`.
 pub fn check_and_build<D: Device, Q: Queue>(
     rig: &mut Rig<'_, D>,
     parts: Parts,
@@ -50,10 +50,10 @@ pub fn check_and_build<D: Device, Q: Queue>(
     ensures uses_up { UsesUp (Q.blocks queue (seen D.state rig.old)
         ++ parts_blocks (seen D.state rig.old) parts)
         (Q.counts queue) (seen D.state rig.old) (seen D.state rig.new) }
-    ensures builds { IfOk result (BuildsUpward (Q.blocks queue (seen D.state rig.old)
+    ensures builds { IfOk result (BuildsGraph (Q.blocks queue (seen D.state rig.old)
         ++ parts_blocks (seen D.state rig.old) parts)
         (seen D.state rig.old) (seen D.state rig.new) parts) }
-    ensures stops { StopsUpward (seen D.state rig.old) parts result }
+    ensures stops { StopsBuilding (seen D.state rig.old) parts result }
     ensures costs { SortCosts Q.Queue (sort_calls parts.header) (sort_run parts.header)
         (sort_moves (seen D.state rig.old) parts) (parts_size parts)
         (sort_peak (seen D.state rig.old) parts)
@@ -106,7 +106,7 @@ fn build<D: Device, Q: Queue>(
             place,
         });
     }
-    let gates = sort(rig, queue, gates, Sorted::Gates)?;
+    let gates = sort(rig, queue, gates, Sorted::Themselves)?;
     let edges = sort_edges(rig, queue, &gates, uses)?;
     let Compared { sources, edges } = compare(rig, defs, edges, header.inputs + header.latches)?;
     Ok(Graph {

@@ -4,11 +4,10 @@
 //!     definitions  (1) (2) (3 gate)        edges  (1 to 3) (2 to 3) (3 to output 0)
 //!     as one       def 1, edge 1 to 3, def 2, edge 2 to 3, def 3, edge 3 to output 0
 //!
-//! Kept here: the definition that came last, and the least gate so far that an edge from a gate leads
-//! to and that isn't above it. Left to the lists' writers: definitions are sorted, and none comes
-//! twice.
+//! Kept here: the definition that came last. Left to the lists' writers: definitions are sorted, and
+//! none comes twice.
 
-ghost use Rattle.std.specs.Prelude.{Some, [], ◌≡◌, ◌+◌, ◌<◌, ◌≤◌, ◌++◌, IsTrue, true};
+ghost use Rattle.std.specs.Prelude.{[], ◌≡◌, ◌+◌, ◌<◌, ◌≤◌, ◌++◌, IsTrue, true};
 ghost use Rattle.em_frames.specs.Pool.{singles_of};
 ghost use Rattle.em_space.specs.Held.{Holds};
 ghost use Rattle.em_space.specs.Rig.{Sound};
@@ -17,9 +16,8 @@ ghost use Rattle.em_chain.specs.Chain.{IsChain, chain_blocks};
 ghost use Rattle.em_chain.specs.Effects.{Unmoved};
 ghost use Rattle.em_weave.specs.State.{weave_count};
 ghost use Rattle.aig_defs.specs.Sorted as sorted;
-ghost use Rattle.aig_edges.specs.Compared as compared;
 ghost use Rattle.aig_edges.specs.Comparing.{CanCompare, ComparesTo};
-ghost use Rattle.aig_edges.specs.Comparison.{AllTo, AreLists, CanStep, FinishesTo, GivesFour, HasFramesOf, KeepsDef, MeetsEdge, OpensLists, StepsTo, least_edge};
+ghost use Rattle.aig_edges.specs.Comparison.{AllTo, AreLists, CanStep, FinishesTo, GivesFour, HasFramesOf, KeepsDef, MeetsEdge, OpensLists, StepsTo};
 
 use aig_defs::AigKind;
 use aig_text::AigStop;
@@ -42,13 +40,11 @@ pub struct Comparison {
     pub(crate) edges: Writer,
     /// The definition that came last.
     pub(crate) last: Record,
-    /// The least gate so far that doesn't rise.
-    pub(crate) least: Option<u64>,
 }
 
 /// Compares the sorted definitions of a circuit, of which `count` are sources, with its sorted edges. On
-/// Ok both lists are gone, and the graph's ones are written. It stops with `Undefined` or `Unordered` at
-/// the least variable.
+/// Ok both lists are gone, and the graph's ones are written. It stops with `Undefined` at the least
+/// variable that is used and not defined.
 pub(crate) fn compare<D: Device>(
     rig: &mut Rig<'_, D>,
     defs: Chain,
@@ -66,13 +62,6 @@ pub(crate) fn compare<D: Device>(
             abandon(rig, lists);
             return Err(stop);
         }
-    }
-    if let Some(place) = lists.least {
-        abandon(rig, lists);
-        return Err(AigStop::Fault {
-            kind: AigKind::Unordered,
-            place,
-        });
     }
     if lists.sources.len() != count {
         abandon(rig, lists);
@@ -99,7 +88,6 @@ fn open<D: Device>(rig: &mut Rig<'_, D>, defs: Chain, edges: Chain) -> Compariso
         sources,
         edges,
         last: Record::ZERO,
-        least: None,
     }
 }
 
@@ -117,7 +105,6 @@ fn abandon<D: Device>(rig: &mut Rig<'_, D>, lists: Comparison)
         sources,
         edges,
         last: _,
-        least: _,
     } = lists;
     weave.abandon(rig);
     sources.abandon(rig);
@@ -136,7 +123,6 @@ fn finish<D: Device>(rig: &mut Rig<'_, D>, lists: Comparison) -> Result<Compared
         sources,
         edges,
         last: _,
-        least: _,
     } = lists;
     match weave.end(rig) {
         Ok(()) => {}
@@ -261,34 +247,6 @@ fn meet_edge<D: Device>(
             place: edge.a,
         });
     }
-    lists.least = least_edge(lists.last, lists.least, edge);
     lists.edges.append(rig, edge)?;
     Ok(())
-}
-
-/// The least gate that doesn't rise, with one edge more.
-fn least_edge(last: Record, least: Option<u64>, edge: Record) -> Option<u64>
-    ensures { result ≡ least_edge last least edge }
-{
-    if !is_falling(last, edge) {
-        return least;
-    }
-    Some(least_of(least, edge.b / 4))
-}
-
-/// The lesser of a number and another one, if there is another one.
-fn least_of(least: Option<u64>, gate: u64) -> u64
-    ensures { Some result ≡ compared.with_least least gate }
-{
-    match least {
-        Some(least) => least.min(gate),
-        None => gate,
-    }
-}
-
-/// Whether an edge from a gate, of this definition, leads to a gate that isn't above it.
-fn is_falling(def: Record, edge: Record) -> bool
-    ensures { result ≡ sorted.is_falling def edge }
-{
-    def.c == 2 && edge.b % 4 < 2 && edge.b / 4 <= edge.a
 }

@@ -1,5 +1,5 @@
 //! Checks a circuit, and makes of its chains the graph of its edges, each from the variable that it
-//! comes from; and of a graph the edges between ranks that an evaluator goes along.
+//! comes from. The edges between ranks that an evaluator goes along are a type here.
 #![tactic(auto)]
 
 mod build;
@@ -7,11 +7,11 @@ mod comparing;
 mod graph;
 mod looking;
 mod pushing;
-mod ranking;
 mod sorting;
 mod stop;
 
 pub use build::check_and_build;
 pub use graph::{Graph, Ordered};
-pub use ranking::straight;
+pub use looking::next_record;
+pub use sorting::{Sorted, sort};
 pub use stop::StepStop;

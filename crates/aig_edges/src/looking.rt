@@ -13,11 +13,8 @@ use em_frames::Device;
 use em_record::Record;
 use em_space::{EmFault, Rig};
 
-/// The next record of a list that has one.
-pub(crate) fn next_record<D: Device>(
-    rig: &mut Rig<'_, D>,
-    reader: &mut Reader,
-) -> Result<Record, EmFault>
+/// The next record of a list that has one. A fault is that of reading its block.
+pub fn next_record<D: Device>(rig: &mut Rig<'_, D>, reader: &mut Reader) -> Result<Record, EmFault>
     requires sound { Sound (seen D.state rig.old) }
     requires is { IsReader (seen D.state rig.old) reader.old }
     requires over { reader.old.taking ≡ false }

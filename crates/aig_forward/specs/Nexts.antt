@@ -14,7 +14,7 @@ use Rattle.aig_forward.specs.QueueState.{QueueState}
 pub record CanCollect (keep : ℕ) (q : QueueState) : Type 0 where
   pub sound : Sound q.rig
   pub free : HasSpare q.rig.pool
-  pub few : q.counts.n + q.counts.len < 2 ^ 98
+  pub few : q.counts.n + q.counts.len < 2 ^ 100
   pub least : keep ≤ q.counts.len
 
 -- The first messages were taken, so that `keep` are left.

@@ -38,7 +38,7 @@ pub record HasSpare (p : PoolCounts) : Type 0 where
 pub record CanPush (sent : ℕ) (q : QueueState) : Type 0 where
   pub sound : Sound q.rig
   pub free : CanServe q.rig.pool
-  pub few : q.counts.n + q.counts.len + 2 * sent < 2 ^ 99
+  pub few : q.counts.n + q.counts.len + 2 * sent < 2 ^ 100
   pub limit : q.counts.len + sent < 2 ^ 56
 
 -- At most this many items were taken out of a queue, by a call for each.
@@ -175,7 +175,7 @@ pub record CanSendChain (base last sent now : ℕ) (q : QueueState) (chain : Cha
     : Type 0 where
   pub sound : Sound q.rig
   pub free : HasSpare q.rig.pool
-  pub few : q.counts.n + q.counts.len + 2 * chain.count < 2 ^ 99
+  pub few : q.counts.n + q.counts.len + 2 * chain.count < 2 ^ 100
   pub limit : q.counts.len + chain.count < 2 ^ 56
   pub chain_is : IsChain q.rig chain
   pub apart : IsTrue q.rig.device.told

@@ -31,7 +31,7 @@ pub record CanSendBoth (h : Header) (given gates : Chain) (bits : Reader) (q : Q
     pub sound : Sound q.rig
     pub free : HasSpare q.rig.pool
     pub header : IsHeader h
-    pub few : q.counts.n + 2 * edge_count h < 2 ^ 98
+    pub few : q.counts.n + 2 * edge_count h < 2 ^ 100
     pub empty : q.counts.len ≡ 0
     pub edges : given.count + gates.count ≡ edge_count h
     pub has_bits : HasBits (base_of h) 0 q bits
@@ -69,7 +69,7 @@ pub record CanSpread (h : Header) (given gates bits : Chain) (q : QueueState) : 
   pub sound : Sound q.rig
   pub free : CanEvaluate q.rig.pool
   pub header : IsHeader h
-  pub few : q.counts.n + 2 * edge_count h < 2 ^ 98
+  pub few : q.counts.n + 2 * edge_count h < 2 ^ 100
   pub empty : q.counts.len ≡ 0
   pub chains : HasChains h given gates bits q
 

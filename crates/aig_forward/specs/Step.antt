@@ -30,7 +30,7 @@ use Rattle.aig_forward.specs.declared.step_end.StepEnd.TheVariants.{Printed, End
 -- The frames of a step are free, and few calls of the queue came.
 pub record CanStep {Q : Type 0} (queue : Ghosts Q) (p : PoolCounts) (e : Evaluator Q) : Type 0 where
   pub free : CanBuild p
-  pub few : (queue.counts e.queue).n + 2 * edge_count e.header < 2 ^ 98
+  pub few : (queue.counts e.queue).n + 2 * edge_count e.header < 2 ^ 100
 
 -- A step at one moment: the rig, the evaluator, the stimulus, what the sink has taken, and what the
 -- printer holds back.

@@ -100,7 +100,7 @@ impl<Q: Queue> Evaluator<Q> {
     /// tell, a front of the line went out or is pending. After a stop only `abandon` may be called.
     ///
     /// The queue is called at most twice for each edge, and only if a byte of the stimulus was taken. Its
-    /// calls in all, with these, are below 2^98. Beside its moves at most `step_moves` are made.
+    /// calls in all, with these, are below 2^100. Beside its moves at most `step_moves` are made.
     pub fn step<D: Device, H: Shelf, W: Sink>(
         &mut self,
         rig: &mut Rig<'_, D>,

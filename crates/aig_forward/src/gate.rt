@@ -54,7 +54,7 @@ pub(crate) fn both<D: Device, Q: Queue>(
     requires sound { Sound (seen D.state rig.old) }
     requires is { Q.IsQueue queue.old (seen D.state rig.old) }
     requires free { CanServe (seen D.state rig.old).pool }
-    requires few { (Q.counts queue.old).n + (Q.counts queue.old).len < 2 ^ 99 }
+    requires few { (Q.counts queue.old).n + (Q.counts queue.old).len < 2 ^ 100 }
     ensures frames { Q.HasItsFrames queue.new (seen D.state rig.new) }
     ensures queue { OnOk result (Q.IsQueue queue.new (seen D.state rig.new)) }
     ensures takes { TakesTo 2 (queue_state Q.Queue queue.old (seen D.state rig.old))

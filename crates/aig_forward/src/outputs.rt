@@ -49,7 +49,7 @@ fn put_next<D: Device, Q: Queue, W: Sink>(
     requires sound { Sound (seen D.state rig.old) }
     requires is { Q.IsQueue queue.old (seen D.state rig.old) }
     requires free { CanServe (seen D.state rig.old).pool }
-    requires few { (Q.counts queue.old).n < 2 ^ 99 }
+    requires few { (Q.counts queue.old).n < 2 ^ 100 }
     ensures frames { Q.HasItsFrames queue.new (seen D.state rig.new) }
     ensures queue { OnOk result (Q.IsQueue queue.new (seen D.state rig.new)) }
     ensures puts { PutsBy W.took
@@ -82,7 +82,7 @@ pub(crate) fn put_outputs<D: Device, Q: Queue, W: Sink>(
     requires sound { Sound (seen D.state rig.old) }
     requires is { Q.IsQueue queue.old (seen D.state rig.old) }
     requires free { CanServe (seen D.state rig.old).pool }
-    requires few { (Q.counts queue.old).n + count < 2 ^ 99 }
+    requires few { (Q.counts queue.old).n + count < 2 ^ 100 }
     ensures frames { Q.HasItsFrames queue.new (seen D.state rig.new) }
     ensures queue { OnOk result (Q.IsQueue queue.new (seen D.state rig.new)) }
     ensures prints { OnOk result (PrintsOutputs W.took count

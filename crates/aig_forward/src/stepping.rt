@@ -86,7 +86,7 @@ pub(crate) fn evaluate<D: Device, Q: Queue>(
     requires sound { Sound (seen D.state rig.old) }
     requires is { Q.IsQueue queue.old (seen D.state rig.old) }
     requires empty { (Q.counts queue.old).len ≡ 0 }
-    requires few { (Q.counts queue.old).n + 2 * edge_count header.now < 2 ^ 98 }
+    requires few { (Q.counts queue.old).n + 2 * edge_count header.now < 2 ^ 100 }
     requires free { CanEvaluate (seen D.state rig.old).pool }
     requires header { IsHeader header.now }
     requires chains { HasChains header.now given.now gates.now bits

@@ -4,10 +4,11 @@ use Rattle.std.specs.Prelude.{sum_by}
 use Rattle.std.proofs.lemmas.List.Sums.{sum_by-append}
 use Rattle.std.proofs.Math.Seq.{take-suc}
 use Rattle.aig_defs.specs.declared.circuit.Header.{Header}
+use Rattle.aig_defs.specs.declared.form.Form.{Form}
 use Rattle.aig_defs.specs.Begun.{counts_after}
 use Rattle.aig_defs.specs.Circuit.{IsHeader}
 use Rattle.aig_defs.specs.Items.{Reads, and_then}
-use Rattle.aig_defs.specs.Order.{tail}
+use Rattle.aig_defs.specs.Tail.{tail}
 use Rattle.aig_text.specs.Listing.{Listing, no_records, appended, record_count}
 use Rattle.aig_text.specs.Moment.{Moment, CanFill, FillsSome, ReadsInto, place_in, onto}
 use Rattle.aig_text.specs.Reads.{ReadsItem}
@@ -19,21 +20,21 @@ use Rattle.aig_text.specs.declared.stop.AigStop.{AigStop}
 use Rattle.aig_text.proofs.Drafts.{drafted_is}
 use Rattle.aig_text.proofs.Fillings.{Splits, can_fill, fills_none, fills_next, fills_stops, appended_none, stops_as, stops_then}
 use Rattle.aig_text.proofs.Lines.{unread}
-use Rattle.aig_text.proofs.Rows.{section_more}
+use Rattle.aig_text.proofs.SectionRows.{section_more}
 use Rattle.aig_text.proofs.SectionLines.{counts_appended}
 use Rattle.aig_text.proofs.Steadies.{advances_then}
 
 -- What is to be read of sections is one section, and then the others.
-sections_split : (section : Section) (rest : List Section) (h : Header) (m : Moment)
-    → Splits (listed (section ∷ rest) h) (listed_size (section ∷ rest) h)
-    (section_lines section h (lines_in section h) 0)
-    (lines_size section h (lines_in section h) 0) (listed rest h) (listed_size rest h) m
-sections_split section rest h m = record {
+sections_split : (form : Form) (section : Section) (rest : List Section) (h : Header) (m : Moment)
+    → Splits (listed form (section ∷ rest) h) (listed_size form (section ∷ rest) h)
+    (section_lines form section h (lines_in section h) 0)
+    (lines_size form section h (lines_in section h) 0) (listed form rest h) (listed_size form rest h) m
+sections_split form section rest h m = record {
   reads = refl;
   least = λ given. omega arith;
   counted = λ x q y e given far.
-      ap (λ r. lines_size section h (lines_in section h) 0 given (place_in m) (left m.text)
-      + counts_after r (λ _. listed_size rest h given)) e;
+      ap (λ r. lines_size form section h (lines_in section h) 0 given (place_in m) (left m.text)
+      + counts_after r (λ _. listed_size form rest h given)) e;
 }
 
 taken_more : (i : ℕ) (all : List Section) (d : Section) → i < length all
@@ -61,11 +62,12 @@ listed_more all h i d a b low x y = record {
 }
 
 -- Nothing of the sections was read yet.
-pub sections_begin : {tells : Bool} {k : ℕ} {m : Moment} (h : Header) → CanFill k m
-    → FillsSome tells (listed order h) (listed_size order h) (listed (drop 0 order) h)
-    (listed_size (drop 0 order) h)
+pub sections_begin : {tells : Bool} {k : ℕ} {m : Moment} (form : Form) (h : Header)
+    → CanFill k m
+    → FillsSome tells (listed form order h) (listed_size form order h) (listed form (drop 0 order) h)
+    (listed_size form (drop 0 order) h)
     (HasSections (take 0 order) h) m m
-sections_begin h can = fills_none (listed order h) (listed_size order h) (HasSections [] h) can
+sections_begin form h can = fills_none (listed form order h) (listed_size form order h) (HasSections [] h) can
     (record { counts = record { defs = refl; gates = refl; uses = refl }; rows = refl })
 
 room_by : (i : ℕ) (h : Header) (a : Listing) → i < 4 → IsHeader h → HasSections (take i order) h a
@@ -78,14 +80,14 @@ room_by (suc (suc (suc zero))) h a low k l =
 room_by (suc (suc (suc (suc i)))) h a low k l = absurd (omega arith)
 
 -- All sections were read, and then the tail.
-end_by : {tells : Bool} {old mid : Moment} {text : Source} {k : ℕ} (h : Header)
+end_by : {tells : Bool} {old mid : Moment} {text : Source} {k : ℕ} (form : Form) (h : Header)
     (r : Result (Unit {0}) AigStop)
-    → FillsSome tells (listed order h) (listed_size order h) (listed [] h) (listed_size [] h)
+    → FillsSome tells (listed form order h) (listed_size form order h) (listed form [] h) (listed_size form [] h)
     (HasSections order h) old mid
-    → CanFill k old → ReadsItem tells tail mid.text text r
-    → ReadsInto tells (listed order h) (listed_size order h) (HasSections order h) old
+    → CanFill k old → ReadsItem tells (tail h) mid.text text r
+    → ReadsInto tells (listed form order h) (listed_size form order h) (HasSections order h) old
     (record mid { text = text }) r
-end_by {tells} {old} {mid} {text} h (Ok u) s can t = record {
+end_by {tells} {old} {mid} {text} form h (Ok u) s can t = record {
   advances = advances_then s.advances t.advances;
   frames = (drafted_is can.draft s.adds.drafted).frames;
   fills = record {
@@ -99,7 +101,7 @@ end_by {tells} {old} {mid} {text} h (Ok u) s can t = record {
         (arith, s.counted z given (omega (arith, t.advances.steady.forward)));
   };
 }
-end_by {tells} {old} {mid} {text} h (Err e) s can t = record {
+end_by {tells} {old} {mid} {text} form h (Err e) s can t = record {
   advances = advances_then s.advances t.advances;
   frames = (drafted_is can.draft s.adds.drafted).frames;
   fills = record {
@@ -113,48 +115,48 @@ end_by {tells} {old} {mid} {text} h (Err e) s can t = record {
 }
 
 -- Some sections were read.
-module _ {tells : Bool} {old mid : Moment} (h : Header) (i : ℕ)
-    (s : FillsSome tells (listed order h) (listed_size order h) (listed (drop i order) h)
-    (listed_size (drop i order) h)
+module _ {tells : Bool} {old mid : Moment} (form : Form) (h : Header) (i : ℕ)
+    (s : FillsSome tells (listed form order h) (listed_size form order h) (listed form (drop i order) h)
+    (listed_size form (drop i order) h)
     (HasSections (take i order) h) old mid) where
   -- The next one can be read,
   pub sections_can : i < 4 → IsHeader h → CanFill (2 ^ 43) old
       → CanFill (2 * lines_in (get_or order i Inputs) h) mid
   sections_can low k can = can_fill can s.advances s.adds (room_by i h s.lists low k s.like)
 
-  next_split : i < 4 → Splits (listed (drop i order) h) (listed_size (drop i order) h)
-      (section_lines (get_or order i Inputs) h (lines_in (get_or order i Inputs) h) 0)
-      (lines_size (get_or order i Inputs) h (lines_in (get_or order i Inputs) h) 0)
-      (listed (drop (i + 1) order) h) (listed_size (drop (i + 1) order) h) mid
+  next_split : i < 4 → Splits (listed form (drop i order) h) (listed_size form (drop i order) h)
+      (section_lines form (get_or order i Inputs) h (lines_in (get_or order i Inputs) h) 0)
+      (lines_size form (get_or order i Inputs) h (lines_in (get_or order i Inputs) h) 0)
+      (listed form (drop (i + 1) order) h) (listed_size form (drop (i + 1) order) h) mid
   next_split low =
       let section = get_or order i Inputs in
       let here : section ∷ drop (i + 1) order ≡ drop i order =
       ap (λ k. section ∷ drop k order) (add-one i) ∙ sym (drop-cons order i Inputs low) in
-      subst (λ all. Splits (listed all h) (listed_size all h)
-      (section_lines section h (lines_in section h) 0)
-      (lines_size section h (lines_in section h) 0) (listed (drop (i + 1) order) h)
-      (listed_size (drop (i + 1) order) h) mid)
-      here (sections_split section (drop (i + 1) order) h mid)
+      subst (λ all. Splits (listed form all h) (listed_size form all h)
+      (section_lines form section h (lines_in section h) 0)
+      (lines_size form section h (lines_in section h) 0) (listed form (drop (i + 1) order) h)
+      (listed_size form (drop (i + 1) order) h) mid)
+      here (sections_split form section (drop (i + 1) order) h mid)
 
   -- was read,
   pub sections_next : {now : Moment} {u : Unit {0}} → i < 4
-      → ReadsInto tells (section_lines (get_or order i Inputs) h
+      → ReadsInto tells (section_lines form (get_or order i Inputs) h
       (lines_in (get_or order i Inputs) h) 0)
-      (lines_size (get_or order i Inputs) h (lines_in (get_or order i Inputs) h) 0)
+      (lines_size form (get_or order i Inputs) h (lines_in (get_or order i Inputs) h) 0)
       (HasLines (get_or order i Inputs) h 0 (lines_in (get_or order i Inputs) h)) mid now (Ok u)
-      → FillsSome tells (listed order h) (listed_size order h) (listed (drop (i + 1) order) h)
-      (listed_size (drop (i + 1) order) h) (HasSections (take (i + 1) order) h) old now
+      → FillsSome tells (listed form order h) (listed_size form order h) (listed form (drop (i + 1) order) h)
+      (listed_size form (drop (i + 1) order) h) (HasSections (take (i + 1) order) h) old now
   sections_next low r = fills_next s (HasSections (take (i + 1) order) h) (next_split low)
       r.advances r.fills
       (listed_more order h i Inputs s.lists r.fills.lists low s.like r.fills.like)
 
   -- or stopped.
   pub sections_stop : {now : Moment} {k : ℕ} {e : AigStop} → i < 4 → CanFill k old
-      → ReadsInto tells (section_lines (get_or order i Inputs) h
+      → ReadsInto tells (section_lines form (get_or order i Inputs) h
       (lines_in (get_or order i Inputs) h) 0)
-      (lines_size (get_or order i Inputs) h (lines_in (get_or order i Inputs) h) 0)
+      (lines_size form (get_or order i Inputs) h (lines_in (get_or order i Inputs) h) 0)
       (HasLines (get_or order i Inputs) h 0 (lines_in (get_or order i Inputs) h)) mid now (Err e)
-      → ReadsInto tells (listed order h) (listed_size order h) (HasSections order h) old now (Err e)
+      → ReadsInto tells (listed form order h) (listed_size form order h) (HasSections order h) old now (Err e)
   sections_stop low can r = record {
     advances = advances_then s.advances r.advances;
     frames = r.frames;
@@ -164,11 +166,11 @@ module _ {tells : Bool} {old mid : Moment} (h : Header) (i : ℕ)
   -- All were read, and then the tail.
   pub sections_end : {text : Source} {k : ℕ} (r : Result (Unit {0}) AigStop) → 4 ≤ i → i ≤ 4
       → CanFill k old
-      → ReadsItem tells tail mid.text text r
-      → ReadsInto tells (listed order h) (listed_size order h) (HasSections order h) old
+      → ReadsItem tells (tail h) mid.text text r
+      → ReadsInto tells (listed form order h) (listed_size form order h) (HasSections order h) old
       (record mid { text = text }) r
   sections_end r low high can t =
       let all : i ≡ 4 = omega arith in
-      end_by h r (subst (λ j. FillsSome tells (listed order h) (listed_size order h)
-      (listed (drop j order) h)
-      (listed_size (drop j order) h) (HasSections (take j order) h) old mid) all s) can t
+      end_by form h r (subst (λ j. FillsSome tells (listed form order h) (listed_size form order h)
+      (listed form (drop j order) h)
+      (listed_size form (drop j order) h) (HasSections (take j order) h) old mid) all s) can t

@@ -14,7 +14,7 @@ use Rattle.em_chain.specs.declared.chain.Chain.{Chain}
 use Rattle.em_chain.proofs.Keeps.{payload_kept}
 use Rattle.em_chain.proofs.Sessions.{ceiling_rises}
 use Rattle.aig_defs.specs.declared.circuit.Header.{Header}
-use Rattle.aig_defs.specs.declared.form.Form.TheVariants.{Ascii}
+use Rattle.aig_defs.specs.declared.form.Form.{Form}
 use Rattle.aig_defs.specs.Begun.{circuit_size, counts_after, sections_size}
 use Rattle.aig_defs.specs.Circuit.{Circuit, IsHeader}
 use Rattle.aig_defs.specs.Items.{Reading, Reads, Fails, and_then}
@@ -35,26 +35,26 @@ use Rattle.aig_text.proofs.Ceilings.{ceiling_three}
 use Rattle.aig_text.proofs.Fillings.{stops_as, stops_then}
 use Rattle.aig_text.proofs.Lines.{of_error}
 use Rattle.aig_text.proofs.Listings.{listed_is, listed_size_is}
-use Rattle.aig_text.proofs.Rows.{listed_rows}
+use Rattle.aig_text.proofs.SectionRows.{listed_rows}
 use Rattle.aig_text.proofs.Steadies.{advances_then}
 use Rattle.aig_text.proofs.Whole.{never_gives_up}
 
--- What `read_ascii` promises.
-pub record ReadsAscii (tells : Bool) (old new : Source) (s t : RigState)
+-- What the reader of a circuit promises.
+pub record ReadsCircuit (form : Form) (tells : Bool) (old new : Source) (s t : RigState)
     (result : Result Parts AigStop)
     : Type 0 where
   pub goes : Goes [] s t
   pub parts : IfOk result (GivesParts s t)
-  pub gives : IsTrue tells → GivesCircuit old new t result
+  pub gives : IsTrue tells → GivesCircuit form old new t result
   pub end : IsTrue tells → OnOk result (left new ≡ [])
   pub feed : Advances tells old new
   pub read : OnShelfFault result (Rose old.faults new.faults)
   pub cause : IfEm result (Cause s t)
   pub takes : IsTrue tells → (given : ℕ) → new.feed.place ≤ given
-      → TakesAtMost (size_given old given) s t
+      → TakesAtMost (size_given form old given) s t
   pub full : IsTrue tells → (given : ℕ) → new.feed.place ≤ given
-      → FullOnlyIf (size_given old given) s result
-  pub complete : IsTrue tells → CompletesReading old new s t result
+      → FullOnlyIf (size_given form old given) s result
+  pub complete : IsTrue tells → CompletesReading form old new s t result
   pub owes : OwesAfter s t result
 
 -- a stop of a reader of the text has its cause there
@@ -77,14 +77,21 @@ never_fails old new stop.Read r a q y c h quiet is = quiet c
 never_fails old new (stop.Em fault) r a q y c h quiet is = c
 
 -- The header wasn't read.
-module _ {tells : Bool} {old new : Source} {s : RigState} where
-  header_stops : (e : AigStop) → Sound s → ReadsItem {A = Header} tells (header_line Ascii) old new
+-- the header of a form that is this one
+pub as_form : {tells : Bool} {old new : Source} {r : Result Header AigStop} {f form : Form}
+    → f ≡ form → ReadsItem tells (header_line f) old new r
+    → ReadsItem tells (header_line form) old new r
+as_form {tells} {old} {new} {r} same h =
+    subst (λ k. ReadsItem tells (header_line k) old new r) same h
+
+module _ (form : Form) {tells : Bool} {old new : Source} {s : RigState} where
+  header_stops : (e : AigStop) → Sound s → ReadsItem {A = Header} tells (header_line form) old new
       (Err e)
-      → ReadsAscii tells old new s s (Err e)
+      → ReadsCircuit form tells old new s s (Err e)
   header_stops e sound h = record {
     goes = goes_nothing s sound;
     parts = tt;
-    gives = λ z. stops_then e _ (sections Ascii) (h.gives z);
+    gives = λ z. stops_then e _ (sections form) (h.gives z);
     end = λ z. tt;
     feed = h.advances;
     read = read_by old new e h.cause;
@@ -92,39 +99,39 @@ module _ {tells : Bool} {old new : Source} {s : RigState} where
     takes = λ z given far. record { moves = omega arith; used = omega arith; most = omega arith };
     full = λ z given far. no_em old new e _ h.cause;
     complete = λ z told calm quiet c q is room. absurd (never_fails old new e
-        (after_magic Ascii old.feed.place (left old)) c q []
-        h.cause (stops_then e _ (sections Ascii) (h.gives z)) quiet is);
+        (after_magic form old.feed.place (left old)) c q []
+        h.cause (stops_then e _ (sections form) (h.gives z)) quiet is);
     owes = record { is = inr (omega arith) };
   }
 
   pub header_unread : (e : AigStop) (result : Result Parts AigStop) → IsErrAnd result (λ k. k ≡ e)
       → Sound s
-      → ReadsItem {A = Header} tells (header_line Ascii) old new (Err e)
-      → ReadsAscii tells old new s s result
-  header_unread e result is sound h = of_error (ReadsAscii tells old new s s) result e is
+      → ReadsItem {A = Header} tells (header_line form) old new (Err e)
+      → ReadsCircuit form tells old new s s result
+  header_unread e result is sound h = of_error (ReadsCircuit form tells old new s s) result e is
       (header_stops e sound h)
 
 -- The header was read, and the sections are read after it.
-module _ {tells : Bool} {old mid : Source} {h : Header}
-    (header : ReadsItem tells (header_line Ascii) old mid (Ok h)) where
-  after_header : IsTrue tells → after_magic Ascii old.feed.place (left old)
-      ≡ sections Ascii h mid.feed.place (left mid)
-  after_header z = ap (λ r. and_then r (sections Ascii)) (header.gives z)
+module _ (form : Form) {tells : Bool} {old mid : Source} {h : Header}
+    (header : ReadsItem tells (header_line form) old mid (Ok h)) where
+  after_header : IsTrue tells → after_magic form old.feed.place (left old)
+      ≡ sections form h mid.feed.place (left mid)
+  after_header z = ap (λ r. and_then r (sections form)) (header.gives z)
 
   size_after : IsTrue tells → (given : ℕ)
-      → size_given old given ≡ listed_size order h given mid.feed.place (left mid)
-  size_after z given = ap (λ r. counts_after r (sections_size Ascii given)) (header.gives z)
-      ∙ sym (listed_size_is h given mid.feed.place (left mid))
+      → size_given form old given ≡ listed_size form order h given mid.feed.place (left mid)
+  size_after z given = ap (λ r. counts_after r (sections_size form given)) (header.gives z)
+      ∙ sym (listed_size_is form h given mid.feed.place (left mid))
 
   -- A circuit that is spelled has this header, and no more was read than its size.
   size_within : IsTrue tells → (c : Circuit) (q given : ℕ)
-      → after_magic Ascii old.feed.place (left old) ≡ Reads c q []
-      → size_given old given ≤ circuit_size c.header
+      → after_magic form old.feed.place (left old) ≡ Reads c q []
+      → size_given form old given ≤ circuit_size c.header
   size_within z c q given e =
-      let r = sections_read Ascii h mid.feed.place (left mid) c q [] (sym (after_header z) ∙ e) in
-      let most = size_most Ascii given old.feed.place (left old) h mid.feed.place (left mid)
+      let r = sections_read form h mid.feed.place (left mid) c q [] (sym (after_header z) ∙ e) in
+      let most = size_most form given old.feed.place (left old) h mid.feed.place (left mid)
       (header.gives z) in
-      subst (λ k. size_given old given ≤ circuit_size k) r.header most
+      subst (λ k. size_given form old given ≤ circuit_size k) r.header most
 
 -- what the sections fail with
 unlisted : (e : AigStop) (r : Reading Circuit) → StopsAs e (and_then r (λ c. Reads (listing_of c)))
@@ -197,20 +204,20 @@ never_stops mid new s t n stop.Read r a q y h k is told calm quiet room = quiet 
 never_stops mid new s t n (stop.Em fault) r a q y h k is told calm quiet room = never_gives_up h
     told calm room
 
-module _ {tells : Bool} {old mid new : Source} {h : Header} {s t : RigState}
-    (header : ReadsItem tells (header_line Ascii) old mid (Ok h)) where
-  sections_stop : (e : AigStop) → ReadsListing tells h mid new s t (Err e)
-      → ReadsAscii tells old new s t (Err e)
+module _ (form : Form) {tells : Bool} {old mid new : Source} {h : Header} {s t : RigState}
+    (header : ReadsItem tells (header_line form) old mid (Ok h)) where
+  sections_stop : (e : AigStop) → ReadsListing tells form h mid new s t (Err e)
+      → ReadsCircuit form tells old new s t (Err e)
   sections_stop e r =
       let k = r.by in
       let l = left_by mid new s t k.written e k.stops in
       let few : IsTrue tells → (given : ℕ) → new.feed.place ≤ given
-      → k.written ≤ size_given old given =
-      λ z given far. omega (arith, k.counted z given far, size_after header z given) in
-      let fails : IsTrue tells → StopsAs e (after_magic Ascii old.feed.place (left old)) =
-      λ z. stops_as e _ _ (after_header header z)
-      (unlisted e (sections Ascii h mid.feed.place (left mid))
-      (stops_as e _ _ (sym (listed_is h mid.feed.place (left mid))) (k.reads z))) in
+      → k.written ≤ size_given form old given =
+      λ z given far. omega (arith, k.counted z given far, size_after form header z given) in
+      let fails : IsTrue tells → StopsAs e (after_magic form old.feed.place (left old)) =
+      λ z. stops_as e _ _ (after_header form header z)
+      (unlisted e (sections form h mid.feed.place (left mid))
+      (stops_as e _ _ (sym (listed_is form h mid.feed.place (left mid))) (k.reads z))) in
       record {
         goes = l.goes;
         parts = tt;
@@ -219,11 +226,11 @@ module _ {tells : Bool} {old mid new : Source} {h : Header} {s t : RigState}
         feed = advances_then header.advances r.advances;
         read = stop_read old mid new s t k.written e header.advances.later k.stops;
         cause = stop_cause mid new s t k.written e k.stops;
-        takes = λ z given far. left_takes s t k.written (size_given old given) (few z given far) l;
-        full = λ z given far. stop_full mid new s t k.written (size_given old given) e
+        takes = λ z given far. left_takes s t k.written (size_given form old given) (few z given far) l;
+        full = λ z given far. stop_full mid new s t k.written (size_given form old given) e
             (few z given far) k.stops;
         complete = λ z told calm quiet c q is room.
-            let size = size_within header z c q new.feed.place is in
+            let size = size_within form header z c q new.feed.place is in
             let n = few z new.feed.place (omega arith) in
             absurd (never_stops mid new s t k.written e _ c q [] k.stops (fails z) is told calm
             (λ rose. quiet (omega (arith, rose, header.advances.later)))
@@ -237,8 +244,8 @@ module _ {tells : Bool} {old mid new : Source} {h : Header} {s t : RigState}
       }
 
   pub sections_unread : (e : AigStop) (result : Result Parts AigStop) → IsErrAnd result (λ k. k ≡ e)
-      → ReadsListing tells h mid new s t (Err e) → ReadsAscii tells old new s t result
-  sections_unread e result is r = of_error (ReadsAscii tells old new s t) result e is
+      → ReadsListing tells form h mid new s t (Err e) → ReadsCircuit form tells old new s t result
+  sections_unread e result is r = of_error (ReadsCircuit form tells old new s t) result e is
       (sections_stop e r)
 
 -- The circuit whose records were listed.
@@ -284,21 +291,21 @@ written_takes s t f g k a size e w =
       most = omega (arith, w.most, w.used);
     }
 
-module _ {tells : Bool} {old mid new : Source} {h : Header} {s t : RigState}
-    (header : ReadsItem tells (header_line Ascii) old mid (Ok h)) (is : IsHeader h) where
+module _ (form : Form) {tells : Bool} {old mid new : Source} {h : Header} {s t : RigState}
+    (header : ReadsItem tells (header_line form) old mid (Ok h)) (is : IsHeader h) where
   -- All was read.
   pub circuit_read : (f g k : Chain) → Advances tells mid new
-      → WritesListing tells h mid new s t f g k
-      → ReadsAscii tells old new s t (Ok (record { header = h; defs = f; gates = g; uses = k }))
+      → WritesListing tells form h mid new s t f g k
+      → ReadsCircuit form tells old new s t (Ok (record { header = h; defs = f; gates = g; uses = k }))
   circuit_read f g k on w =
       let a = w.lists in
-      let at : IsTrue tells → ListedCircuit (sections Ascii h mid.feed.place (left mid)) a
+      let at : IsTrue tells → ListedCircuit (sections form h mid.feed.place (left mid)) a
       new.feed.place (left new) =
-      λ z. listed_circuit (sections Ascii h mid.feed.place (left mid)) a new.feed.place (left new)
-      (sym (listed_is h mid.feed.place (left mid)) ∙ w.reads z) in
+      λ z. listed_circuit (sections form h mid.feed.place (left mid)) a new.feed.place (left new)
+      (sym (listed_is form h mid.feed.place (left mid)) ∙ w.reads z) in
       let all : IsTrue tells → (given : ℕ) → new.feed.place ≤ given
-      → size_given old given ≡ record_count a =
-      λ z given far. size_after header z given ∙ w.counted z given far in
+      → size_given form old given ≡ record_count a =
+      λ z given far. size_after form header z given ∙ w.counted z given far in
       record {
         goes = w.writes.goes;
         parts = record {
@@ -325,8 +332,8 @@ module _ {tells : Bool} {old mid new : Source} {h : Header} {s t : RigState}
             let c = at z in
             record {
               circuit = c.circuit;
-              reads = after_header header z ∙ c.reads;
-              header = sym (sections_read Ascii h mid.feed.place (left mid) c.circuit new.feed.place
+              reads = after_header form header z ∙ c.reads;
+              header = sym (sections_read form h mid.feed.place (left mid) c.circuit new.feed.place
                   (left new) c.reads).header;
               defs = λ told. w.writes.defs.items told ∙ ap (λ (l : Listing). l.defs) (sym c.is);
               gates = λ told. w.writes.gates.items told ∙ ap (λ (l : Listing). l.gates) (sym c.is);
@@ -339,12 +346,12 @@ module _ {tells : Bool} {old mid new : Source} {h : Header} {s t : RigState}
                 w.writes.uses.count_is,
               );
             };
-        end = λ z. let c = at z in sections_end Ascii h mid.feed.place (left mid) c.circuit
+        end = λ z. let c = at z in sections_end form h mid.feed.place (left mid) c.circuit
             new.feed.place (left new) c.reads;
         feed = advances_then header.advances on;
         read = tt;
         cause = tt;
-        takes = λ z given far. written_takes s t f g k a (size_given old given) (all z given far)
+        takes = λ z given far. written_takes s t f g k a (size_given form old given) (all z given far)
             w.writes;
         full = λ z given far. tt;
         complete = λ z told calm quiet c q e room. refl;

@@ -8,6 +8,7 @@ use Rattle.em_chain.specs.Chain.{payload_in}
 use Rattle.em_chain.specs.declared.chain.Chain.{Chain}
 use Rattle.em_chain.proofs.Sessions.{ceiling_rises}
 use Rattle.aig_defs.specs.declared.circuit.Header.{Header}
+use Rattle.aig_defs.specs.declared.form.Form.{Form}
 use Rattle.aig_text.specs.Draft.{BeginsDraft, FinishesDraft, GivesFrames, LendsFrames, LeavesDraft, draft_account, draft_blocks}
 use Rattle.aig_text.specs.Listing.{record_count}
 use Rattle.aig_text.specs.Moment.{AddsSome, ReadsInto, StopsFilling}
@@ -21,9 +22,10 @@ use Rattle.aig_text.proofs.Lines.{of_error}
 use Rattle.aig_text.proofs.Whole.{drafted_left, drafted_refused, drafted_stopped, drafted_whole}
 
 -- All sections, read into a new draft.
-abbrev ReadsAll : Bool → Header → Source → Source → RigState → RigState → Draft → Draft
+abbrev ReadsAll : Bool → Form → Header → Source → Source → RigState → RigState → Draft → Draft
     → Result (Unit {0}) AigStop → Type 0
-ReadsAll tells h old new a b d e result = ReadsInto tells (listed order h) (listed_size order h)
+ReadsAll tells form h old new a b d e result = ReadsInto tells (listed form order h)
+    (listed_size form order h)
     (HasSections order h) (record { text = old; rig = a; draft = d })
     (record { text = new; rig = b; draft = e }) result
 
@@ -58,13 +60,13 @@ module _ (old new : Source) {s a b t : RigState} {d : Draft} (e : Draft) (sound 
   stopped_by n stop.Read k g v = (some_left n k.0 g v, k.1)
   stopped_by n (stop.Em fault) k g v = drafted_stopped lends unmoved begins k g v
 
-module _ {tells : Bool} {h : Header} {old new : Source} {s a b t : RigState} {d e : Draft}
+module _ {tells : Bool} {form : Form} {h : Header} {old new : Source} {s a b t : RigState} {d e : Draft}
     (lends : LendsFrames 3 s a) (unmoved : Unmoved s a) (begins : BeginsDraft a d) where
   -- They were read, and the draft was finished,
   pub sections_written : (c : Chain × Chain × Chain) (u : Unit {0})
-      → ReadsAll tells h old new a b d e (Ok u)
+      → ReadsAll tells form h old new a b d e (Ok u)
       → GivesFrames 3 (draft_blocks b e) b t → FinishesDraft b t e c.0 c.1 c.2
-      → OnlyMoves (draft_account e).unstored b t → ReadsListing tells h old new s t (Ok c)
+      → OnlyMoves (draft_account e).unstored b t → ReadsListing tells form h old new s t (Ok c)
   sections_written c u r g f o = record {
     advances = r.advances;
     by = record {
@@ -79,11 +81,11 @@ module _ {tells : Bool} {h : Header} {old new : Source} {s a b t : RigState} {d 
   -- which gave up,
   pub sections_refused : (fault : EmFault) (u : Unit {0})
       (result : Result (Chain × Chain × Chain) AigStop)
-      → IsErrAnd result (λ k. k ≡ stop.Em fault) → ReadsAll tells h old new a b d e (Ok u)
+      → IsErrAnd result (λ k. k ≡ stop.Em fault) → ReadsAll tells form h old new a b d e (Ok u)
       → GivesFrames 3 (draft_blocks b e) b t → OnlyMoves (draft_account e).unstored b t
-      → DeviceCause b t fault → ReadsListing tells h old new s t result
+      → DeviceCause b t fault → ReadsListing tells form h old new s t result
   sections_refused fault u result is r g o c =
-      of_error (ReadsListing tells h old new s t) result (stop.Em fault) is (record {
+      of_error (ReadsListing tells form h old new s t) result (stop.Em fault) is (record {
         advances = r.advances;
         by = record {
           written = record_count r.fills.lists;
@@ -94,9 +96,9 @@ module _ {tells : Bool} {h : Header} {old new : Source} {s a b t : RigState} {d 
       })
 
   -- or they stopped, and it was abandoned.
-  pub sections_stopped : (k : AigStop) → Sound s → ReadsAll tells h old new a b d e (Err k)
+  pub sections_stopped : (k : AigStop) → Sound s → ReadsAll tells form h old new a b d e (Err k)
       → GivesFrames 3 [] b t → Unmoved b t
-      → ReadsListing tells h old new s t (Err k)
+      → ReadsListing tells form h old new s t (Err k)
   sections_stopped k sound r g v = record {
     advances = r.advances;
     by = record {

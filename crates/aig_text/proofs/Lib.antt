@@ -12,8 +12,9 @@ pub mod Listings
 pub mod Magics
 pub mod Numbers
 pub mod PartsLaws
-pub mod Rows
+pub mod Passed
 pub mod SectionLines
+pub mod SectionRows
 pub mod Steadies
 pub mod Texts
 pub mod Whole

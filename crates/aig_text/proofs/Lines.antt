@@ -1,7 +1,7 @@
 -- A line that is read, and its records that are written.
-use Rattle.std.proofs.Common.{◌≡◌, ◌<◌, ◌≤◌, Bool, cond, List, ℕ, sym, ap, subst, arith, Result, Ok, Err}
-use Rattle.std.specs.Prelude.{IsErrAnd, nat_lt}
-use Rattle.std.proofs.lemmas.Bool.{lt-ltb}
+use Rattle.std.proofs.Common.{◌≡◌, ◌<◌, ◌≤◌, Bool, true, false, cond, List, ℕ, refl, sym, ap, subst, arith, Result, Ok, Err}
+use Rattle.std.specs.Prelude.{IsErrAnd}
+use Rattle.std.proofs.lemmas.Bool.{le-leb, lt-ltb}
 use Rattle.em_space.specs.Rig.{RigState}
 use Rattle.em_space.specs.declared.fault.EmFault.{EmFault}
 use Rattle.aig_defs.specs.Items.{Reads, Item, and_then, ◌>>=◌}
@@ -9,6 +9,7 @@ use Rattle.aig_text.specs.Draft.{Drafted, HasDraftFrames, StopsDraft}
 use Rattle.aig_text.specs.Listing.{Listing, no_records, record_count}
 use Rattle.aig_text.specs.Moment.{Moment, AddsListing, CanFill, ReadsInto, StopsFilling}
 use Rattle.aig_text.specs.Reads.{ReadCause, ReadsItem}
+use Rattle.aig_text.specs.Sections.{line_begun}
 use Rattle.aig_text.specs.Source.{Source, left}
 use Rattle.aig_text.specs.declared.draft.Draft.{Draft}
 use Rattle.aig_text.specs.declared.stop.AigStop.{AigStop}
@@ -16,8 +17,8 @@ use Rattle.aig_text.specs.declared.stop.AigStop.TheVariants as stop
 use Rattle.aig_text.proofs.Fillings.{adds_none, stops_then}
 
 -- the size of a line that adds w records
-abbrev pub weight_begun : ℕ → ℕ → ℕ → List ℕ → ℕ
-weight_begun w given p x = cond (nat_lt p given) w 0
+abbrev pub weight_begun : Bool → ℕ → ℕ → ℕ → List ℕ → ℕ
+weight_begun bytes w given p x = cond (line_begun bytes given p) w 0
 
 -- an error that was handed on
 pub of_error : {T E : Type 0} (P : Result T E → Type 0) (r : Result T E) (e : E)
@@ -39,17 +40,25 @@ unread text lists stop.Read a later c = (
 )
 unread text lists (stop.Em fault) a later c = absurd c
 
-line_begun : (w p given : ℕ) (x : List ℕ) → p < given → weight_begun w given p x ≡ w
-line_begun w p given x low = ap (λ test. cond test w 0) (lt-ltb p given low)
+begun_by : (bytes : Bool) (p q given : ℕ) → (bytes ≡ true → p < q) → p ≤ q → q ≤ given
+    → line_begun bytes given p ≡ true
+begun_by true p q given forward on far = lt-ltb p given (omega (arith, forward refl, far))
+begun_by false p q given forward on far = le-leb p given (omega (arith, on, far))
 
-module _ {A : Type 0} {tells : Bool} {line : Item A} {k : ℕ} {old : Moment} {text : Source} (w : ℕ)
+weighs : (bytes : Bool) (w p q given : ℕ) (x : List ℕ) → (bytes ≡ true → p < q) → p ≤ q
+    → q ≤ given → weight_begun bytes w given p x ≡ w
+weighs bytes w p q given x forward on far =
+    ap (λ test. cond test w 0) (begun_by bytes p q given forward on far)
+
+module _ {A : Type 0} {tells : Bool} {line : Item A} {k : ℕ} {old : Moment} {text : Source}
+    (bytes : Bool) (w : ℕ)
     (write : A → Listing) (IsLike : Listing → Type 0) (can : CanFill k old) where
   -- The line wasn't read.
   pub line_unread : (e : AigStop) (r : Result (Unit {0}) AigStop) → IsErrAnd r (λ f. f ≡ e)
       → ReadsItem {A = A} tells line old.text text (Err e)
-      → ReadsInto tells (line >>= λ v. Reads (write v)) (weight_begun w) IsLike old
+      → ReadsInto tells (line >>= λ v. Reads (write v)) (weight_begun bytes w) IsLike old
       (record old { text = text }) r
-  line_unread e r is h = of_error (ReadsInto tells (line >>= λ v. Reads (write v)) (weight_begun w)
+  line_unread e r is h = of_error (ReadsInto tells (line >>= λ v. Reads (write v)) (weight_begun bytes w)
       IsLike old (record old { text = text })) r e is (record {
         advances = h.advances;
         frames = can.draft.frames;
@@ -63,14 +72,14 @@ module _ {A : Type 0} {tells : Bool} {line : Item A} {k : ℕ} {old : Moment} {t
 
   module _ {rig : RigState} {draft : Draft} (value : A) (read : ReadsItem tells line old.text text
       (Ok value))
-      (forward : old.text.feed.place < text.feed.place) (frames : HasDraftFrames rig draft) where
+      (forward : bytes ≡ true → old.text.feed.place < text.feed.place) (frames : HasDraftFrames rig draft) where
     -- It was read, and a record wasn't written.
     pub line_refused : (n : ℕ) (fault : EmFault) (r : Result (Unit {0}) AigStop)
         → IsErrAnd r (λ f. f ≡ stop.Em fault) → n ≤ w → StopsDraft old.rig rig old.draft n fault
-        → ReadsInto tells (line >>= λ v. Reads (write v)) (weight_begun w) IsLike old
+        → ReadsInto tells (line >>= λ v. Reads (write v)) (weight_begun bytes w) IsLike old
         (record { text = text; rig = rig; draft = draft }) r
     line_refused n fault r is few h =
-        of_error (ReadsInto tells (line >>= λ v. Reads (write v)) (weight_begun w) IsLike old
+        of_error (ReadsInto tells (line >>= λ v. Reads (write v)) (weight_begun bytes w) IsLike old
         (record { text = text; rig = rig; draft = draft })) r (stop.Em fault) is (record {
           advances = read.advances;
           frames = frames;
@@ -79,7 +88,11 @@ module _ {A : Type 0} {tells : Bool} {line : Item A} {k : ℕ} {old : Moment} {t
             stops = h;
             reads = λ z. tt;
             counted = λ z given far.
-                omega (arith, line_begun w old.text.feed.place given (left old.text) (omega arith));
+                omega (
+                  arith,
+                  weighs bytes w old.text.feed.place text.feed.place given (left old.text) forward
+                      read.advances.steady.forward far,
+                );
           };
         })
 
@@ -87,7 +100,7 @@ module _ {A : Type 0} {tells : Bool} {line : Item A} {k : ℕ} {old : Moment} {t
     pub line_done : Drafted old.rig rig old.draft draft (write value).defs (write value).gates
         (write value).uses
         → IsLike (write value) → record_count (write value) ≡ w
-        → ReadsInto tells (line >>= λ v. Reads (write v)) (weight_begun w) IsLike old
+        → ReadsInto tells (line >>= λ v. Reads (write v)) (weight_begun bytes w) IsLike old
         (record { text = text; rig = rig; draft = draft }) (Ok tt)
     line_done h like count = record {
       advances = read.advances;
@@ -100,7 +113,8 @@ module _ {A : Type 0} {tells : Bool} {line : Item A} {k : ℕ} {old : Moment} {t
         counted = λ z given far.
             omega (
               arith,
-              line_begun w old.text.feed.place given (left old.text) (omega arith),
+              weighs bytes w old.text.feed.place text.feed.place given (left old.text) forward
+                  read.advances.steady.forward far,
               count,
             );
       };

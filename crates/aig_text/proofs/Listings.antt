@@ -1,19 +1,21 @@
 -- What the sections list is what stands for the circuit that they spell.
-use Rattle.std.proofs.Common.{append_assoc, ◌≡◌, ◌+◌, ◌*◌, cond, List, [], ◌∷◌, ◌++◌, ℕ, zero, suc, refl, sym, ap, ◌∙◌}
+use Rattle.std.proofs.Common.{append_assoc, ◌≡◌, ◌+◌, ◌*◌, cond, List, [], ◌∷◌, ◌++◌, ℕ, zero, suc, refl, sym, ap, ◌∙◌, arith}
 use Rattle.std.specs.Prelude.{nat_lt}
 use Rattle.std.proofs.lemmas.List.{append-nil}
 use Rattle.aig_defs.specs.declared.circuit.Gate.{Gate}
 use Rattle.aig_defs.specs.declared.circuit.Header.{Header}
 use Rattle.aig_defs.specs.declared.circuit.Latch.{Latch}
-use Rattle.aig_defs.specs.declared.form.Form.TheVariants.{Ascii}
-use Rattle.aig_defs.specs.Begun.{counts_after, items_begun, section_size, sections_size}
+use Rattle.aig_defs.specs.declared.form.Form.{Form}
+use Rattle.aig_defs.specs.declared.form.Form.TheVariants.{Ascii, Binary}
+use Rattle.aig_defs.specs.Begun.{counts_after, inputs_size, items_begun, section_size, sections_size}
 use Rattle.aig_defs.specs.Chains.{numbered, input_def, latch_def, gate_def, gate_record, latch_use, output_use}
 use Rattle.aig_defs.specs.Circuit.{Circuit}
 use Rattle.aig_defs.specs.Items.{Reading, Reads, Fails, Item, and_then, times}
-use Rattle.aig_defs.specs.Order.{input_row, latch_row, output_row, gate_row, tail, sections}
+use Rattle.aig_defs.specs.Order.{input_row, latch_row, output_row, gate_row, sections}
+use Rattle.aig_defs.specs.Tail.{tail}
 use Rattle.aig_text.specs.Listing.{Listing, no_records, appended, listing_of}
 use Rattle.aig_text.specs.Moment.{onto}
-use Rattle.aig_text.specs.Sections.{of_input, of_latch, of_output, of_gate, section_line, section_lines, lines_in, order, listed, listed_size, weight}
+use Rattle.aig_text.specs.Sections.{of_input, of_latch, of_output, of_gate, section_line, section_lines, lines_in, order, listed, listed_size, lines_size, weight}
 use Rattle.aig_text.specs.declared.section.Section.{Section}
 use Rattle.aig_text.specs.declared.section.Section.TheVariants.{Inputs, Latches, Outputs, Gates}
 use Rattle.aig_text.proofs.Fillings.{appended_none, onto_none, onto_onto}
@@ -36,9 +38,9 @@ after_is (Reads a p x) f m n h = h p x
 after_is (Fails kind place) f m n h = refl
 
 -- The lines of a section, whose values are listed one by one.
-module _ {A : Type 0} (section : Section) (h : Header) (item : ℕ → Item A) (one : ℕ → A → Listing)
+module _ {A : Type 0} (form : Form) (section : Section) (h : Header) (item : ℕ → Item A) (one : ℕ → A → Listing)
     (all : ℕ → List A → Listing)
-    (line_is : (i p : ℕ) (x : List ℕ) → section_line section h i p x ≡ and_then (item i p x)
+    (line_is : (i p : ℕ) (x : List ℕ) → section_line form section h i p x ≡ and_then (item i p x)
     (λ v. Reads (one i v)))
     (none : (i : ℕ) → all i [] ≡ no_records)
     (more : (i : ℕ) (v : A) (vs : List A) → all i (v ∷ vs) ≡ appended (one i v) (all (i + 1) vs))
@@ -51,10 +53,10 @@ module _ {A : Type 0} (section : Section) (h : Header) (item : ℕ → Item A) (
     appended_after i v (Fails kind place) = refl
 
     pub lines_are : (n i p : ℕ) (x : List ℕ)
-        → section_lines section h n i p x ≡ and_then (times n i item p x) (λ vs. Reads (all i vs))
+        → section_lines form section h n i p x ≡ and_then (times n i item p x) (λ vs. Reads (all i vs))
     lines_are zero i p x = ap (λ l. Reads l p x) (sym (none i))
     lines_are (suc n) i p x =
-        ap (λ r. and_then r (λ first q y. and_then (section_lines section h n (i + 1) q y)
+        ap (λ r. and_then r (λ first q y. and_then (section_lines form section h n (i + 1) q y)
         (λ rest. Reads (appended first rest)))) (line_is i p x)
         ∙ and_then_twice (item i p x) (λ v. Reads (one i v)) _
         ∙ and_then_is (item i p x) _
@@ -67,21 +69,21 @@ module _ {A : Type 0} (section : Section) (h : Header) (item : ℕ → Item A) (
         (λ vs. Reads (v ∷ vs))) (λ vs. Reads (all i vs)))
 
     pub begun_is : (given n i p : ℕ) (x : List ℕ)
-        → items_begun given n i (section_line section h) p x ≡ items_begun given n i item p x
+        → items_begun given n i (section_line form section h) p x ≡ items_begun given n i item p x
     begun_is given zero i p x = refl
     begun_is given (suc n) i p x = ap (λ k. cond (nat_lt p given) (1 + k) 0)
-        (ap (λ r. counts_after r (λ _. items_begun given n (i + 1) (section_line section h)))
+        (ap (λ r. counts_after r (λ _. items_begun given n (i + 1) (section_line form section h)))
         (line_is i p x)
         ∙ after_is (item i p x) (one i) _ _ (begun_is given n (i + 1)))
 
     -- its size, with that of what comes after it
     pub size_is : (given n : ℕ) (m k : ℕ → List ℕ → ℕ) → ((p : ℕ) (x : List ℕ) → m p x ≡ k p x)
         → (p : ℕ) (x : List ℕ)
-        → weight section * items_begun given n 0 (section_line section h) p x + counts_after
-        (section_lines section h n 0 p x) (λ _. m)
+        → weight section * items_begun given n 0 (section_line form section h) p x + counts_after
+        (section_lines form section h n 0 p x) (λ _. m)
         ≡ section_size given (weight section) n item k p x
     size_is given n m k e p x =
-        ap (λ j. weight section * j + counts_after (section_lines section h n 0 p x) (λ _. m))
+        ap (λ j. weight section * j + counts_after (section_lines form section h n 0 p x) (λ _. m))
         (begun_is given n 0 p x)
         ∙ ap (λ j. weight section * items_begun given n 0 item p x + j)
         (ap (λ r. counts_after r (λ _. m)) (lines_are n 0 p x)
@@ -90,21 +92,21 @@ module _ {A : Type 0} (section : Section) (h : Header) (item : ℕ → Item A) (
     -- and what it and the sections after it list
     pub section_listed : (rest : List Section) (acc : Listing) (next : List A → Item Circuit)
         → ((vs : List A) (q : ℕ) (y : List ℕ)
-        → and_then (listed rest h q y) (onto (appended acc (all 0 vs)))
+        → and_then (listed form rest h q y) (onto (appended acc (all 0 vs)))
         ≡ and_then (next vs q y) (λ c. Reads (listing_of c))) → (p : ℕ) (x : List ℕ)
-        → and_then (listed (section ∷ rest) h p x) (onto acc)
+        → and_then (listed form (section ∷ rest) h p x) (onto acc)
         ≡ and_then (and_then (times (lines_in section h) 0 item p x) next) (λ c. Reads (listing_of c))
     section_listed rest acc next e p x =
         let n = lines_in section h in
-        let deep : Listing → Item Listing = λ a q y. and_then (and_then (listed rest h q y) (onto a))
+        let deep : Listing → Item Listing = λ a q y. and_then (and_then (listed form rest h q y) (onto a))
         (onto acc) in
-        and_then_twice (section_lines section h n 0 p x) (λ a q y. and_then (listed rest h q y)
+        and_then_twice (section_lines form section h n 0 p x) (λ a q y. and_then (listed form rest h q y)
         (onto a)) (onto acc)
         ∙ ap (λ r. and_then r deep) (lines_are n 0 p x)
         ∙ and_then_twice (times n 0 item p x) (λ vs. Reads (all 0 vs)) deep
         ∙ and_then_is (times n 0 item p x) (λ vs q y. deep (all 0 vs) q y)
         (λ vs q y. and_then (next vs q y) (λ c. Reads (listing_of c)))
-        (λ vs q y. onto_onto acc (all 0 vs) (listed rest h q y) ∙ e vs q y)
+        (λ vs q y. onto_onto acc (all 0 vs) (listed form rest h q y) ∙ e vs q y)
         ∙ sym (and_then_twice (times n 0 item p x) next (λ c. Reads (listing_of c)))
 
 -- what the lines of each section list
@@ -130,7 +132,34 @@ all_gates i vs = record {
       [];
 }
 
-module _ (h : Header) where
+-- inputs without bytes are read where they stand
+free_counts : (h : Header) (m : ℕ → List ℕ → ℕ) (n i p : ℕ) (x : List ℕ)
+    → counts_after (times n i (input_row Binary h) p x) (λ _. m) ≡ m p x
+free_counts h m zero i p x = refl
+free_counts h m (suc n) i p x =
+    after_is (times n (i + 1) (input_row Binary h) p x) (λ vs. 2 * (i + 1) ∷ vs) m m
+    (λ p x. refl)
+    ∙ free_counts h m n (i + 1) p x
+
+-- The size of the inputs, with that of what comes after them.
+inputs_size_is : (form : Form) (h : Header) (given : ℕ) (m k : ℕ → List ℕ → ℕ)
+    → ((p : ℕ) (x : List ℕ) → m p x ≡ k p x) → (p : ℕ) (x : List ℕ)
+    → lines_size form Inputs h h.inputs 0 given p x
+    + counts_after (section_lines form Inputs h h.inputs 0 p x) (λ _. m)
+    ≡ inputs_size form given h k p x
+inputs_size_is Ascii h given m k e p x =
+    size_is Ascii Inputs h (input_row Ascii h) of_input all_inputs (λ i p x. refl) (λ i. refl)
+    (λ i v vs. refl) given h.inputs m k e p x
+inputs_size_is Binary h given m k e p x =
+    ap (λ r. lines_size Binary Inputs h h.inputs 0 given p x + counts_after r (λ _. m))
+    (lines_are Binary Inputs h (input_row Binary h) of_input all_inputs (λ i p x. refl) (λ i. refl)
+    (λ i v vs. refl) h.inputs 0 p x)
+    ∙ ap (λ j. lines_size Binary Inputs h h.inputs 0 given p x + j)
+    (after_is (times h.inputs 0 (input_row Binary h) p x) (all_inputs 0) m k e
+    ∙ free_counts h k h.inputs 0 p x)
+    ∙ omega arith
+
+module _ (form : Form) (h : Header) where
   tail_listed : (acc : Listing) (c : Circuit) → acc ≡ listing_of c → (r : Reading (Unit {0}))
       → and_then (and_then r (λ _. Reads no_records)) (onto acc) ≡ and_then
       (and_then r (λ _. Reads c)) (λ c. Reads (listing_of c))
@@ -138,19 +167,19 @@ module _ (h : Header) where
   tail_listed acc c e (Fails kind place) = refl
 
   -- The sections list what stands for the circuit,
-  pub listed_is : (p : ℕ) (x : List ℕ) → listed order h p x ≡ and_then (sections Ascii h p x)
+  pub listed_is : (p : ℕ) (x : List ℕ) → listed form order h p x ≡ and_then (sections form h p x)
       (λ c. Reads (listing_of c))
-  listed_is p x = onto_none (listed order h p x)
-      ∙ section_listed Inputs h (input_row Ascii h) of_input all_inputs (λ i p x. refl) (λ i. refl)
+  listed_is p x = onto_none (listed form order h p x)
+      ∙ section_listed form Inputs h (input_row form h) of_input all_inputs (λ i p x. refl) (λ i. refl)
       (λ i v vs. refl)
       (Latches ∷ Outputs ∷ Gates ∷ []) no_records _ (λ inputs.
-      section_listed Latches h (latch_row Ascii h) of_latch all_latches (λ i p x. refl) (λ i. refl)
+      section_listed form Latches h (latch_row form h) of_latch all_latches (λ i p x. refl) (λ i. refl)
       (λ i v vs. refl)
       (Outputs ∷ Gates ∷ []) (all_inputs 0 inputs) _ (λ latches.
-      section_listed Outputs h (output_row h) of_output all_outputs (λ i p x. refl) (λ i. refl)
+      section_listed form Outputs h (output_row h) of_output all_outputs (λ i p x. refl) (λ i. refl)
       (λ i v vs. refl)
       (Gates ∷ []) (appended (all_inputs 0 inputs) (all_latches 0 latches)) _ (λ outputs.
-      section_listed Gates h (gate_row Ascii h) of_gate all_gates (λ i p x. refl) (λ i. refl)
+      section_listed form Gates h (gate_row form h) of_gate all_gates (λ i p x. refl) (λ i. refl)
       (λ i v vs. refl)
       [] (appended (appended (all_inputs 0 inputs) (all_latches 0 latches)) (all_outputs 0 outputs))
       _ (λ gates q y.
@@ -167,18 +196,17 @@ module _ (h : Header) where
         append_assoc (numbered input_def 0 inputs) (numbered latch_def 0 latches)
             (numbered gate_def 0 gates),
         append-nil (numbered latch_use 0 latches ++ numbered output_use 0 outputs),
-      ) refl) (tail q y))))) p x
+      ) refl) (tail h q y))))) p x
 
   -- and count for its size.
-  pub listed_size_is : (given p : ℕ) (x : List ℕ) → listed_size order h given p x
-      ≡ sections_size Ascii given h p x
+  pub listed_size_is : (given p : ℕ) (x : List ℕ) → listed_size form order h given p x
+      ≡ sections_size form given h p x
   listed_size_is given =
-      size_is Inputs h (input_row Ascii h) of_input all_inputs (λ i p x. refl) (λ i. refl)
-      (λ i v vs. refl) given h.inputs _ _
-      (size_is Latches h (latch_row Ascii h) of_latch all_latches (λ i p x. refl) (λ i. refl)
+      inputs_size_is form h given _ _
+      (size_is form Latches h (latch_row form h) of_latch all_latches (λ i p x. refl) (λ i. refl)
       (λ i v vs. refl) given h.latches _ _
-      (size_is Outputs h (output_row h) of_output all_outputs (λ i p x. refl) (λ i. refl)
+      (size_is form Outputs h (output_row h) of_output all_outputs (λ i p x. refl) (λ i. refl)
       (λ i v vs. refl) given h.outputs _ _
-      (size_is Gates h (gate_row Ascii h) of_gate all_gates (λ i p x. refl) (λ i. refl)
+      (size_is form Gates h (gate_row form h) of_gate all_gates (λ i p x. refl) (λ i. refl)
       (λ i v vs. refl) given h.gates _ _
       (λ p x. refl))))

@@ -1,4 +1,4 @@
--- What the reader of the ASCII form gives, and what it takes.
+-- What the reader of a circuit gives, and what it takes.
 use Rattle.std.specs.Prelude.{◌≡◌, ◌≤◌, ◌<◌, ◌+◌, ◌*◌, ℕ, max, [], Result, Ok, Err, IsTrue, IsOk}
 use Rattle.em_record.specs.Count.{Rose}
 use Rattle.em_space.specs.Ledger.{Session}
@@ -7,7 +7,7 @@ use Rattle.em_space.specs.declared.fault.EmFault.{EmFault}
 use Rattle.em_chain.specs.Chain.{IsChain, IsPacked, chain_items, payload_in}
 use Rattle.em_chain.specs.Counts.{ceiling}
 use Rattle.em_chain.specs.declared.chain.Chain.{Chain}
-use Rattle.aig_defs.specs.declared.form.Form.TheVariants.{Ascii}
+use Rattle.aig_defs.specs.declared.form.Form.{Form}
 use Rattle.aig_defs.specs.Begun.{circuit_size, size_read}
 use Rattle.aig_defs.specs.Chains.{defs_of, gates_of, uses_of}
 use Rattle.aig_defs.specs.Circuit.{Circuit, IsCircuit, IsHeader}
@@ -62,26 +62,26 @@ pub record GivesParts (old new : RigState) (p : Parts) : Type 0 where
   pub stands : IsTrue new.device.told → OfSomeCircuit new p
 
 -- the size of what was read after the magic, if `given` bytes of the text were given
-abbrev pub size_given : Source → ℕ → ℕ
-size_given text given = size_read Ascii given text.feed.place (left text)
+abbrev pub size_given : Form → Source → ℕ → ℕ
+size_given form text given = size_read form given text.feed.place (left text)
 
 -- The text spells a circuit. The parts have its header, their chains its records, and these are as
 -- many as its size says.
-pub record StandsFor (old new : Source) (s : RigState) (p : Parts) : Type 0 where
+pub record StandsFor (form : Form) (old new : Source) (s : RigState) (p : Parts) : Type 0 where
   pub circuit : Circuit
-  pub reads : after_magic Ascii old.feed.place (left old)
+  pub reads : after_magic form old.feed.place (left old)
       ≡ Reads circuit new.feed.place (left new)
   pub header : circuit.header ≡ p.header
   pub defs : IsTrue s.device.told → chain_items s p.defs ≡ defs_of circuit
   pub gates : IsTrue s.device.told → chain_items s p.gates ≡ gates_of circuit
   pub uses : IsTrue s.device.told → chain_items s p.uses ≡ uses_of circuit
   pub counted : (given : ℕ) → new.feed.place ≤ given
-      → size_given old given ≡ p.defs.count + p.gates.count + p.uses.count
+      → size_given form old given ≡ p.defs.count + p.gates.count + p.uses.count
 
 -- the answer is a circuit's parts, or the fault of the text
-abbrev pub GivesCircuit : Source → Source → RigState → Result Parts AigStop → Type 0
-GivesCircuit old new s (Ok p) = StandsFor old new s p
-GivesCircuit old new s (Err e) = StopsAs e (after_magic Ascii old.feed.place (left old))
+abbrev pub GivesCircuit : Form → Source → Source → RigState → Result Parts AigStop → Type 0
+GivesCircuit form old new s (Ok p) = StandsFor form old new s p
+GivesCircuit form old new s (Err e) = StopsAs e (after_magic form old.feed.place (left old))
 
 -- What reading a circuit of this size takes at most.
 pub record TakesAtMost (size : ℕ) (old new : RigState) : Type 0 where
@@ -99,10 +99,11 @@ FullOnlyIf size s result = IfEm result
     (λ fault. IfFull fault (λ _. s.blocks < s.used + enough_for s size))
 
 -- a text that spells a circuit is read if there is room, and nothing fails
-abbrev pub CompletesReading : Source → Source → RigState → RigState → Result Parts AigStop → Type 0
-CompletesReading old new s t result = IsTrue s.device.told
+abbrev pub CompletesReading : Form → Source → Source → RigState → RigState
+    → Result Parts AigStop → Type 0
+CompletesReading form old new s t result = IsTrue s.device.told
     → (Rose s.device.faults t.device.faults → ⊥) → (Rose old.faults new.faults → ⊥)
-    → (c : Circuit) (q : ℕ) → after_magic Ascii old.feed.place (left old) ≡ Reads c q []
+    → (c : Circuit) (q : ℕ) → after_magic form old.feed.place (left old) ≡ Reads c q []
     → s.used + enough_for s (circuit_size c.header) ≤ s.blocks → IsOk result
 
 -- The blocks in use rose by at most the moves made, after a stop by at most three more. Or the

@@ -6,6 +6,7 @@ pub mod Listing
 pub mod Magic
 pub mod Moment
 pub mod Parts
+pub mod Passed
 pub mod Reads
 pub mod Sections
 pub mod Source

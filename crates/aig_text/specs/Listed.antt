@@ -4,6 +4,7 @@ use Rattle.em_record.specs.Count.{Rose}
 use Rattle.em_space.specs.Rig.{RigState}
 use Rattle.em_chain.specs.declared.chain.Chain.{Chain}
 use Rattle.aig_defs.specs.declared.circuit.Header.{Header}
+use Rattle.aig_defs.specs.declared.form.Form.{Form}
 use Rattle.aig_defs.specs.Items.{Reads}
 use Rattle.aig_text.specs.Draft.{GivesUpDraft, LeavesDraft, WritesThree}
 use Rattle.aig_text.specs.Listing.{Listing, record_count}
@@ -14,15 +15,16 @@ use Rattle.aig_text.specs.declared.stop.AigStop.{AigStop}
 use Rattle.aig_text.specs.declared.stop.AigStop.TheVariants as stop
 
 -- The sections were read, and three chains have their records.
-pub record WritesListing (tells : Bool) (h : Header) (old new : Source) (s t : RigState)
+pub record WritesListing (tells : Bool) (form : Form) (h : Header) (old new : Source)
+    (s t : RigState)
     (f g k : Chain) : Type 0 where
   pub lists : Listing
   pub like : HasSections order h lists
   pub writes : WritesThree s t f g k lists.defs lists.gates lists.uses
   pub reads : IsTrue tells
-      → listed order h old.feed.place (left old) ≡ Reads lists new.feed.place (left new)
+      → listed form order h old.feed.place (left old) ≡ Reads lists new.feed.place (left new)
   pub counted : IsTrue tells → (given : ℕ) → new.feed.place ≤ given
-      → listed_size order h given old.feed.place (left old) ≡ record_count lists
+      → listed_size form order h given old.feed.place (left old) ≡ record_count lists
 
 -- why the sections stopped, with n records at most to be written
 abbrev pub LeavesListing : ℕ → Source → Source → RigState → RigState → AigStop → Type 0
@@ -31,21 +33,23 @@ LeavesListing n old new s t stop.Read = LeavesDraft s t n × Rose old.faults new
 LeavesListing n old new s t (stop.Em fault) = GivesUpDraft s t n fault
 
 -- The sections stopped. Only records of what counts as read were to be written.
-pub record StopsListing (tells : Bool) (h : Header) (old new : Source) (s t : RigState)
+pub record StopsListing (tells : Bool) (form : Form) (h : Header) (old new : Source)
+    (s t : RigState)
     (e : AigStop) : Type 0 where
   pub written : ℕ
   pub stops : LeavesListing written old new s t e
-  pub reads : IsTrue tells → StopsAs e (listed order h old.feed.place (left old))
+  pub reads : IsTrue tells → StopsAs e (listed form order h old.feed.place (left old))
   pub counted : IsTrue tells → (given : ℕ) → new.feed.place ≤ given
-      → written ≤ listed_size order h given old.feed.place (left old)
+      → written ≤ listed_size form order h given old.feed.place (left old)
 
-abbrev pub ListingBy : Bool → Header → Source → Source → RigState → RigState
+abbrev pub ListingBy : Bool → Form → Header → Source → Source → RigState → RigState
     → Result (Chain × Chain × Chain) AigStop → Type 0
-ListingBy tells h old new s t (Ok c) = WritesListing tells h old new s t c.0 c.1 c.2
-ListingBy tells h old new s t (Err e) = StopsListing tells h old new s t e
+ListingBy tells form h old new s t (Ok c) = WritesListing tells form h old new s t c.0 c.1 c.2
+ListingBy tells form h old new s t (Err e) = StopsListing tells form h old new s t e
 
 -- What the reader of all sections promises.
-pub record ReadsListing (tells : Bool) (h : Header) (old new : Source) (s t : RigState)
+pub record ReadsListing (tells : Bool) (form : Form) (h : Header) (old new : Source)
+    (s t : RigState)
     (result : Result (Chain × Chain × Chain) AigStop) : Type 0 where
   pub advances : Advances tells old new
-  pub by : ListingBy tells h old new s t result
+  pub by : ListingBy tells form h old new s t result

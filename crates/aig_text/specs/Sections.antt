@@ -1,14 +1,15 @@
 -- The lines of a circuit's sections, by the records that are written of them.
-use Rattle.std.specs.Prelude.{◌≡◌, sum_by, ℕ, zero, suc, ◌+◌, ◌*◌, nat_lt, if◌then◌else◌, List, [], ◌∷◌, length, All}
+use Rattle.std.specs.Prelude.{◌≡◌, sum_by, ℕ, zero, suc, ◌+◌, ◌*◌, nat_le, nat_lt, Bool, true, false, if◌then◌else◌, List, [], ◌∷◌, length, All}
 use Rattle.aig_defs.specs.declared.circuit.Gate.{Gate}
 use Rattle.aig_defs.specs.declared.circuit.Header.{Header}
 use Rattle.aig_defs.specs.declared.circuit.Latch.{Latch}
-use Rattle.aig_defs.specs.declared.form.Form.TheVariants.{Ascii}
+use Rattle.aig_defs.specs.declared.form.Form.{Form}
 use Rattle.aig_defs.specs.Begun.{counts_after, items_begun}
 use Rattle.aig_defs.specs.Chains.{input_def, latch_def, gate_def, gate_record, latch_use, output_use}
 use Rattle.aig_defs.specs.Circuit.{IsDefining, IsGate, IsLatch, IsUsed}
 use Rattle.aig_defs.specs.Items.{Reads, Item, ◌>>=◌, ◌>>◌}
-use Rattle.aig_defs.specs.Order.{input_row, latch_row, output_row, gate_row, tail}
+use Rattle.aig_defs.specs.Order.{is_ascii, input_row, latch_row, output_row, gate_row}
+use Rattle.aig_defs.specs.Tail.{tail}
 use Rattle.aig_text.specs.declared.section.Section.{Section}
 use Rattle.aig_text.specs.declared.section.Section.TheVariants.{Inputs, Latches, Outputs, Gates}
 use Rattle.aig_text.specs.Listing.{Listing, no_records, appended, HasCounts}
@@ -30,19 +31,19 @@ of_output i literal = record { defs = []; gates = []; uses = output_use i litera
 abbrev pub of_gate : ℕ → Gate → Listing
 of_gate i gate = record { defs = gate_def i gate ∷ []; gates = gate_record i gate ∷ []; uses = [] }
 
--- line i of a section
-abbrev pub section_line : Section → Header → ℕ → Item Listing
-section_line Inputs h i = input_row Ascii h i >>= λ literal. Reads (of_input i literal)
-section_line Latches h i = latch_row Ascii h i >>= λ latch. Reads (of_latch i latch)
-section_line Outputs h i = output_row h i >>= λ literal. Reads (of_output i literal)
-section_line Gates h i = gate_row Ascii h i >>= λ gate. Reads (of_gate i gate)
+-- line i of a section; in the binary form an input takes no byte
+abbrev pub section_line : Form → Section → Header → ℕ → Item Listing
+section_line form Inputs h i = input_row form h i >>= λ literal. Reads (of_input i literal)
+section_line form Latches h i = latch_row form h i >>= λ latch. Reads (of_latch i latch)
+section_line form Outputs h i = output_row h i >>= λ literal. Reads (of_output i literal)
+section_line form Gates h i = gate_row form h i >>= λ gate. Reads (of_gate i gate)
 
 -- n lines of a section, the first with number i
-abbrev pub section_lines : Section → Header → ℕ → ℕ → Item Listing
-section_lines section h zero i = Reads no_records
-section_lines section h (suc n) i = do
-  first ← section_line section h i
-  rest ← section_lines section h n (i + 1)
+abbrev pub section_lines : Form → Section → Header → ℕ → ℕ → Item Listing
+section_lines form section h zero i = Reads no_records
+section_lines form section h (suc n) i = do
+  first ← section_line form section h i
+  rest ← section_lines form section h n (i + 1)
   Reads (appended first rest)
 
 -- how many lines a section has
@@ -68,9 +69,22 @@ share Gates = record { defs = 1; gates = 1; uses = 0 }
 abbrev pub weight : Section → ℕ
 weight section = (share section).defs + (share section).gates + (share section).uses
 
+-- whether the lines of a section have bytes
+abbrev pub has_bytes : Form → Section → Bool
+has_bytes form Inputs = is_ascii form
+has_bytes form Latches = true
+has_bytes form Outputs = true
+has_bytes form Gates = true
+
+-- whether a line at this place was begun: its first byte was given, or all bytes before it
+abbrev pub line_begun : Bool → ℕ → ℕ → Bool
+line_begun true given p = nat_lt p given
+line_begun false given p = nat_le p given
+
 -- the size of what was read of a line, if `given` bytes were given
-abbrev pub line_size : Section → ℕ → ℕ → List ℕ → ℕ
-line_size section given p x = if nat_lt p given then weight section else 0
+abbrev pub line_size : Form → Section → ℕ → ℕ → List ℕ → ℕ
+line_size form section given p x =
+    if line_begun (has_bytes form section) given p then weight section else 0
 
 -- what a line of a section spells
 abbrev pub Row : Section → Type 0
@@ -138,22 +152,28 @@ abbrev pub order : List Section
 order = Inputs ∷ Latches ∷ Outputs ∷ Gates ∷ []
 
 -- these sections, and the tail after them
-abbrev pub listed : List Section → Header → Item Listing
-listed [] h = tail >> Reads no_records
-listed (section ∷ sections) h = do
-  first ← section_lines section h (lines_in section h) 0
-  rest ← listed sections h
+abbrev pub listed : Form → List Section → Header → Item Listing
+listed form [] h = tail h >> Reads no_records
+listed form (section ∷ sections) h = do
+  first ← section_lines form section h (lines_in section h) 0
+  rest ← listed form sections h
   Reads (appended first rest)
 
+-- how many of n items were begun; if they have no bytes, all stand at this place
+abbrev pub lines_begun : Bool → ℕ → ℕ → ℕ → (ℕ → Item Listing) → ℕ → List ℕ → ℕ
+lines_begun true given n i item p x = items_begun given n i item p x
+lines_begun false given n i item p x = if nat_le p given then n else 0
+
 -- the size of what was read of lines of a section, if `given` bytes were given
-abbrev pub lines_size : Section → Header → ℕ → ℕ → ℕ → ℕ → List ℕ → ℕ
-lines_size section h n i given p x =
-    weight section * items_begun given n i (section_line section h) p x
+abbrev pub lines_size : Form → Section → Header → ℕ → ℕ → ℕ → ℕ → List ℕ → ℕ
+lines_size form section h n i given p x =
+    weight section
+    * lines_begun (has_bytes form section) given n i (section_line form section h) p x
 
 -- and of these sections
-abbrev pub listed_size : List Section → Header → ℕ → ℕ → List ℕ → ℕ
-listed_size [] h given p x = 0
-listed_size (section ∷ sections) h given p x =
-    lines_size section h (lines_in section h) 0 given p x
-    + counts_after (section_lines section h (lines_in section h) 0 p x)
-    (λ _. listed_size sections h given)
+abbrev pub listed_size : Form → List Section → Header → ℕ → ℕ → List ℕ → ℕ
+listed_size form [] h given p x = 0
+listed_size form (section ∷ sections) h given p x =
+    lines_size form section h (lines_in section h) 0 given p x
+    + counts_after (section_lines form section h (lines_in section h) 0 p x)
+    (λ _. listed_size form sections h given)

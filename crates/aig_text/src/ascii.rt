@@ -3,44 +3,87 @@ ghost use Rattle.std.specs.Prelude.{◌≡◌, ◌<◌, ◌≤◌, [], true, ℕ
 ghost use Rattle.em_record.specs.Count.{Rose};
 ghost use Rattle.em_space.specs.Rig.{Cause, Goes, Sound};
 ghost use Rattle.em_space.specs.Seen.{seen};
-ghost use Rattle.aig_defs.specs.Circuit.{IsHeader};
+ghost use Rattle.aig_defs.specs.Circuit.{IsDefining, IsGate, IsHeader, IsLatch};
+ghost use Rattle.aig_defs.specs.Order.{gate_row, input_row, is_ascii, latch_row};
+ghost use Rattle.aig_defs.specs.declared.form.Form.TheVariants.{Ascii};
 ghost use Rattle.aig_text.specs.Ascii.{CompletesReading, FullOnlyIf, GivesCircuit, GivesParts, IfEm, OwesAfter, TakesAtMost, size_given};
-ghost use Rattle.aig_text.specs.Reads.{Advances, OnShelfFault};
+ghost use Rattle.aig_text.specs.Reads.{Advances, OnShelfFault, ReadsItem};
 ghost use Rattle.aig_text.specs.Source.{CanRead, left, source};
-ghost use Rattle.aig_text.specs.Listed.{ReadsListing};
 
-use crate::draft::Draft;
-use crate::line::header_line;
+use crate::circuit::read_circuit;
+use crate::line::{gate_line, input_line, latch_line};
 use crate::parts::Parts;
-use crate::section::read_sections;
+use crate::rows::Rows;
 use crate::stop::AigStop;
-use aig_defs::Header;
-use em_chain::Chain;
+use aig_defs::{Form, Gate, Header, Latch};
 use em_frames::Device;
 use em_io::{Feed, Shelf};
 use em_space::Rig;
 
-/// Reads all sections into three chains: definitions, gates and uses of literals.
-fn read_lists<D: Device, H: Shelf>(
-    header: &Header,
-    rig: &mut Rig<'_, D>,
-    feed: &mut Feed,
-    shelf: &mut H,
-) -> Result<(Chain, Chain, Chain), AigStop>
-    requires header { IsHeader header.now }
-    requires text { CanRead (source H.Shelf feed.old shelf.old) }
-    requires sound { Sound (seen D.state rig.old) }
-    requires free { 3 < (seen D.state rig.old).pool.free }
-    ensures { ReadsListing H.tells header.now (source H.Shelf feed.old shelf.old)
-        (source H.Shelf feed.new shelf.new) (seen D.state rig.old) (seen D.state rig.new) result }
-{
-    let mut draft = Draft::new(rig);
-    match read_sections(header, rig, feed, shelf, &mut draft) {
-        Ok(()) => Ok(draft.finish(rig)?),
-        Err(stop) => {
-            draft.abandon(rig);
-            Err(stop)
-        }
+/// The rows of the ASCII form: a line each.
+struct AsciiRows;
+
+impl Rows for AsciiRows {
+    ghost form = { Ascii };
+
+    fn which(&self) -> Form
+        ensures { result ≡ Ascii }
+    {
+        Form::Ascii
+    }
+
+    fn input_row<H: Shelf>(
+        &self,
+        header: &Header,
+        before: u64,
+        feed: &mut Feed,
+        shelf: &mut H,
+    ) -> Result<u64, AigStop>
+        requires open { CanRead (source H.Shelf feed.old shelf.old) }
+        requires header { IsHeader header.now }
+        requires before { before < header.now.inputs }
+        ensures reads { ReadsItem H.tells (input_row Ascii header.now before)
+            (source H.Shelf feed.old shelf.old) (source H.Shelf feed.new shelf.new) result }
+        ensures is { IfOk result (λ literal. IsDefining header.now literal) }
+        ensures forward { is_ascii Ascii ≡ true → OnOk result (feed.old.place < feed.new.place) }
+    {
+        input_line(feed, shelf, header)
+    }
+
+    fn latch_row<H: Shelf>(
+        &self,
+        header: &Header,
+        before: u64,
+        feed: &mut Feed,
+        shelf: &mut H,
+    ) -> Result<Latch, AigStop>
+        requires open { CanRead (source H.Shelf feed.old shelf.old) }
+        requires header { IsHeader header.now }
+        requires before { before < header.now.latches }
+        ensures reads { ReadsItem H.tells (latch_row Ascii header.now before)
+            (source H.Shelf feed.old shelf.old) (source H.Shelf feed.new shelf.new) result }
+        ensures is { IfOk result (λ latch. IsLatch header.now latch) }
+        ensures forward { OnOk result (feed.old.place < feed.new.place) }
+    {
+        latch_line(feed, shelf, header)
+    }
+
+    fn gate_row<H: Shelf>(
+        &self,
+        header: &Header,
+        before: u64,
+        feed: &mut Feed,
+        shelf: &mut H,
+    ) -> Result<Gate, AigStop>
+        requires open { CanRead (source H.Shelf feed.old shelf.old) }
+        requires header { IsHeader header.now }
+        requires before { before < header.now.gates }
+        ensures reads { ReadsItem H.tells (gate_row Ascii header.now before)
+            (source H.Shelf feed.old shelf.old) (source H.Shelf feed.new shelf.new) result }
+        ensures is { IfOk result (λ gate. IsGate header.now gate) }
+        ensures forward { OnOk result (feed.old.place < feed.new.place) }
+    {
+        gate_line(feed, shelf, header)
     }
 }
 
@@ -60,8 +103,8 @@ fn read_lists<D: Device, H: Shelf>(
 ///
 /// The form is that of the AIGER report (Biere 2007, format 20070427). A number has 1 to 20 digits;
 /// a header number is at most 2^40. One space stands between two numbers, and one newline ends a
-/// line; after the last line it may be missing. Symbols and comments
-/// can't be read yet: any byte after the last gate is `Extra`.
+/// line; after the last line it may be missing. Symbols and a comment may follow the gates; they
+/// are passed over.
 pub fn read_ascii<D: Device, H: Shelf>(
     rig: &mut Rig<'_, D>,
     feed: &mut Feed,
@@ -73,7 +116,7 @@ pub fn read_ascii<D: Device, H: Shelf>(
     requires free { 5 < (seen D.state rig.old).pool.free }
     ensures goes { Goes [] (seen D.state rig.old) (seen D.state rig.new) }
     ensures parts { IfOk result (GivesParts (seen D.state rig.old) (seen D.state rig.new)) }
-    ensures gives { IsTrue H.tells → GivesCircuit (source H.Shelf feed.old shelf.old)
+    ensures gives { IsTrue H.tells → GivesCircuit Ascii (source H.Shelf feed.old shelf.old)
         (source H.Shelf feed.new shelf.new) (seen D.state rig.new) result }
     ensures end { IsTrue H.tells → OnOk result (left (source H.Shelf feed.new shelf.new) ≡ []) }
     ensures feed { Advances H.tells (source H.Shelf feed.old shelf.old)
@@ -81,21 +124,14 @@ pub fn read_ascii<D: Device, H: Shelf>(
     ensures read { OnShelfFault result (Rose (H.faults shelf.old) (H.faults shelf.new)) }
     ensures cause { IfEm result (Cause (seen D.state rig.old) (seen D.state rig.new)) }
     ensures takes { IsTrue H.tells → (given : ℕ) → feed.new.place ≤ given
-        → TakesAtMost (size_given (source H.Shelf feed.old shelf.old) given)
+        → TakesAtMost (size_given Ascii (source H.Shelf feed.old shelf.old) given)
         (seen D.state rig.old) (seen D.state rig.new) }
     ensures full { IsTrue H.tells → (given : ℕ) → feed.new.place ≤ given
-        → FullOnlyIf (size_given (source H.Shelf feed.old shelf.old) given)
+        → FullOnlyIf (size_given Ascii (source H.Shelf feed.old shelf.old) given)
         (seen D.state rig.old) result }
-    ensures complete { IsTrue H.tells → CompletesReading (source H.Shelf feed.old shelf.old)
+    ensures complete { IsTrue H.tells → CompletesReading Ascii (source H.Shelf feed.old shelf.old)
         (source H.Shelf feed.new shelf.new) (seen D.state rig.old) (seen D.state rig.new) result }
     ensures owes { OwesAfter (seen D.state rig.old) (seen D.state rig.new) result }
 {
-    let header = header_line(feed, shelf)?;
-    let (defs, gates, uses) = read_lists(&header, rig, feed, shelf)?;
-    Ok(Parts {
-        header,
-        defs,
-        gates,
-        uses,
-    })
+    read_circuit(&AsciiRows, rig, feed, shelf)
 }

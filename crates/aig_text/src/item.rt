@@ -106,6 +106,11 @@ fn within(limit: Limit, value: u128) -> Result<u64, AigKind>
                 return Err(AigKind::LiteralRange);
             }
         }
+        Limit::Position(count) => {
+            if value >= count as u128 {
+                return Err(AigKind::BadSymbol);
+            }
+        }
     }
     Ok(value as u64)
 }

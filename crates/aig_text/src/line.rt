@@ -1,16 +1,16 @@
 // The lines that a circuit's text is made of.
-ghost use Rattle.std.specs.Prelude.{◌≡◌, ◌+◌, ◌^◌, ◌<◌, ◌≤◌, [], IfOk, IsTrue, None, OnOk};
-ghost use Rattle.aig_defs.specs.Circuit.{IsGate, IsHeader, IsLatch};
+ghost use Rattle.std.specs.Prelude.{◌≡◌, ◌+◌, ◌^◌, ◌<◌, ◌≤◌, true, IfOk, None, OnOk};
+ghost use Rattle.aig_defs.specs.Circuit.{IsDefining, IsGate, IsHeader, IsLatch};
 ghost use Rattle.aig_defs.specs.Items.{number_fault};
-ghost use Rattle.aig_defs.specs.Order.{header_number, header_line, counts_fit, literal_line, latch_line, gate_line, tail};
-ghost use Rattle.aig_defs.specs.declared.form.Form.TheVariants.{Ascii};
+ghost use Rattle.aig_defs.specs.Order.{header_number, header_line, counts_fit, literal_line, latch_line, gate_line};
+ghost use Rattle.aig_defs.specs.declared.form.Limit.TheVariants.{Defining};
 ghost use Rattle.aig_text.specs.Limits.{IsLimit};
 ghost use Rattle.aig_text.specs.Reads.{ReadsItem};
-ghost use Rattle.aig_text.specs.Source.{CanRead, source, left};
+ghost use Rattle.aig_text.specs.Source.{CanRead, source};
 
-use crate::item::{last_end, line_end, look, number, space};
+use crate::item::{last_end, line_end, number, space};
 use crate::stop::{AigStop, fault};
-use aig_defs::{AigKind, Gate, Header, Latch, Limit};
+use aig_defs::{AigKind, Form, Gate, Header, Latch, Limit};
 use em_io::{Feed, Shelf};
 
 /// A space and a number of the header.
@@ -25,11 +25,27 @@ fn header_number<H: Shelf>(feed: &mut Feed, shelf: &mut H) -> Result<u64, AigSto
     number(feed, shelf, Limit::Count)
 }
 
+/// Whether the counts of a header fit the form.
+fn counts_fit(form: Form, header: &Header) -> bool
+    requires inputs { header.now.inputs ≤ 2 ^ 40 }
+    requires latches { header.now.latches ≤ 2 ^ 40 }
+    requires gates { header.now.gates ≤ 2 ^ 40 }
+    ensures fit { result ≡ counts_fit form header.now }
+    ensures enough { result ≡ true
+        → header.now.inputs + header.now.latches + header.now.gates ≤ header.now.max }
+{
+    let defined = header.inputs + header.latches + header.gates;
+    match form {
+        Form::Ascii => defined <= header.max,
+        Form::Binary => header.max == defined,
+    }
+}
+
 /// The line of the header, after the magic.
 #[tactic(auto, using(crate::proofs::Steadies::steadies))]
-pub fn header_line<H: Shelf>(feed: &mut Feed, shelf: &mut H) -> Result<Header, AigStop>
+pub fn header_line<H: Shelf>(feed: &mut Feed, shelf: &mut H, form: Form) -> Result<Header, AigStop>
     requires { CanRead (source H.Shelf feed.old shelf.old) }
-    ensures reads { ReadsItem H.tells (header_line Ascii) (source H.Shelf feed.old shelf.old)
+    ensures reads { ReadsItem H.tells (header_line form) (source H.Shelf feed.old shelf.old)
         (source H.Shelf feed.new shelf.new) result }
     ensures is { IfOk result (λ header. IsHeader header) }
 {
@@ -40,7 +56,7 @@ pub fn header_line<H: Shelf>(feed: &mut Feed, shelf: &mut H) -> Result<Header, A
         outputs: header_number(feed, shelf)?,
         gates: header_number(feed, shelf)?,
     };
-    if header.inputs + header.latches + header.gates > header.max {
+    if !counts_fit(form, &header) {
         return fault(AigKind::BadCounts, 4);
     }
     last_end(feed, shelf)?;
@@ -62,8 +78,21 @@ pub fn literal_line<H: Shelf>(feed: &mut Feed, shelf: &mut H, limit: Limit) -> R
     Ok(literal)
 }
 
+/// The line of an input.
+pub fn input_line<H: Shelf>(feed: &mut Feed, shelf: &mut H, header: &Header) -> Result<u64, AigStop>
+    requires open { CanRead (source H.Shelf feed.old shelf.old) }
+    requires header { IsHeader header.now }
+    ensures reads { ReadsItem H.tells (literal_line (Defining header.now.max))
+        (source H.Shelf feed.old shelf.old) (source H.Shelf feed.new shelf.new) result }
+    ensures is { IfOk result (λ literal. IsDefining header.now literal) }
+    ensures forward { OnOk result (feed.old.place < feed.new.place) }
+{
+    let literal = literal_line(feed, shelf, Limit::Defining(header.max))?;
+    Ok(literal)
+}
+
 /// The line of a latch.
-#[tactic(auto, using(crate::proofs::Steadies::steadies, crate::proofs::Rows::ranges))]
+#[tactic(auto, using(crate::proofs::Steadies::steadies, crate::proofs::SectionRows::ranges))]
 pub fn latch_line<H: Shelf>(
     feed: &mut Feed,
     shelf: &mut H,
@@ -100,18 +129,4 @@ pub fn gate_line<H: Shelf>(feed: &mut Feed, shelf: &mut H, header: &Header) -> R
     let rhs1 = number(feed, shelf, Limit::Used(header.max))?;
     line_end(feed, shelf)?;
     Ok(Gate { lhs, rhs0, rhs1 })
-}
-
-/// The end of the text, after the gates.
-#[tactic(auto, using(crate::proofs::Steadies::steadies))]
-pub fn tail<H: Shelf>(feed: &mut Feed, shelf: &mut H) -> Result<(), AigStop>
-    requires { CanRead (source H.Shelf feed.old shelf.old) }
-    ensures reads { ReadsItem H.tells tail (source H.Shelf feed.old shelf.old)
-        (source H.Shelf feed.new shelf.new) result }
-    ensures end { IsTrue H.tells → OnOk result (left (source H.Shelf feed.new shelf.new) ≡ []) }
-{
-    match look(feed, shelf)? {
-        None => Ok(()),
-        Some(_) => fault(AigKind::Extra, feed.place()),
-    }
 }

@@ -1,8 +1,8 @@
 // The first bytes of a circuit's text.
-ghost use Rattle.std.specs.Prelude.{◌≡◌, ◌+◌, ◌^◌, ◌<◌, true, IfOk, OnOk};
+ghost use Rattle.std.specs.Prelude.{◌≡◌, ◌+◌, ◌^◌, ◌<◌, true, OnOk};
 ghost use Rattle.aig_defs.specs.declared.fault.AigKind.TheVariants.{BadMagic};
 ghost use Rattle.aig_defs.specs.Order.{ascii_magic};
-ghost use Rattle.aig_text.specs.Magic.{letter};
+ghost use Rattle.aig_text.specs.Magic.{letter, form_letter};
 ghost use Rattle.aig_text.specs.Reads.{IfFault, ReadsItem};
 ghost use Rattle.aig_text.specs.Source.{CanRead, source};
 
@@ -30,10 +30,32 @@ fn letter<H: Shelf>(feed: &mut Feed, shelf: &mut H, wanted: u8) -> Result<(), Ai
     Ok(())
 }
 
-/// Reads the magic: true after `aag`, which begins the ASCII form. Any other text is `BadMagic` at
-/// 0, unless the shelf fails first. So is one that begins with `aig`: the binary form can't be read
-/// yet, and the answer is never false. `Read` comes only if the shelf's count of faults rose; then
-/// the feed is not used again.
+/// The byte of the magic that names the form: whether it is that of the ASCII form.
+#[tactic(auto, using(crate::proofs::Steadies::steadies, crate::proofs::Magics::letters))]
+fn form_letter<H: Shelf>(feed: &mut Feed, shelf: &mut H) -> Result<bool, AigStop>
+    requires text { CanRead (source H.Shelf feed.old shelf.old) }
+    requires place { feed.old.place < 2 ^ 50 }
+    ensures reads { ReadsItem H.tells form_letter (source H.Shelf feed.old shelf.old)
+        (source H.Shelf feed.new shelf.new) result }
+    ensures place { OnOk result (feed.new.place ≡ feed.old.place + 1) }
+    ensures fault { IfFault result (λ kind place. (kind ≡ BadMagic) × (place ≡ 0)) }
+{
+    match feed.peek(shelf)? {
+        Some(b'a') => {
+            feed.take();
+            Ok(true)
+        }
+        Some(b'i') => {
+            feed.take();
+            Ok(false)
+        }
+        _ => fault(AigKind::BadMagic, 0),
+    }
+}
+
+/// Reads the magic: true after `aag`, which begins the ASCII form, and false after `aig`, which
+/// begins the binary form. Any other text is `BadMagic` at 0, unless the shelf fails first. `Read`
+/// comes only if the shelf's count of faults rose; then the feed is not used again.
 ///
 /// The slot was opened with Ok, the feed hasn't failed, and nothing was taken from it.
 #[tactic(auto, using(crate::proofs::Steadies::steadies))]
@@ -43,11 +65,10 @@ pub fn read_magic<H: Shelf>(feed: &mut Feed, shelf: &mut H) -> Result<bool, AigS
     ensures reads { ReadsItem H.tells ascii_magic (source H.Shelf feed.old shelf.old)
         (source H.Shelf feed.new shelf.new) result }
     ensures place { OnOk result (feed.new.place ≡ 3) }
-    ensures ascii { IfOk result (λ b. b ≡ true) }
     ensures fault { IfFault result (λ kind place. (kind ≡ BadMagic) × (place ≡ 0)) }
 {
     letter(feed, shelf, b'a')?;
-    letter(feed, shelf, b'a')?;
+    let ascii = form_letter(feed, shelf)?;
     letter(feed, shelf, b'g')?;
-    Ok(true)
+    Ok(ascii)
 }

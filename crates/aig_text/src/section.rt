@@ -1,5 +1,5 @@
 // The sections of a circuit's text, read line by line into the three lists.
-ghost use Rattle.std.specs.Prelude.{◌≡◌, ◌*◌, ◌^◌};
+ghost use Rattle.std.specs.Prelude.{◌≡◌, ◌*◌, ◌<◌, ◌^◌};
 ghost use Rattle.em_space.specs.Seen.{seen};
 ghost use Rattle.aig_defs.specs.Circuit.{IsHeader};
 ghost use Rattle.aig_text.specs.Moment.{CanFill, ReadsInto, moment};
@@ -7,8 +7,10 @@ ghost use Rattle.aig_text.specs.Sections.{HasSections, HasLines, listed, listed_
 ghost use Rattle.aig_text.specs.declared.section.Section.TheVariants.{Inputs, Latches, Outputs, Gates};
 
 use crate::draft::Draft;
-use crate::line::{gate_line, latch_line, literal_line, tail};
+use crate::line::literal_line;
+use crate::rows::Rows;
 use crate::stop::AigStop;
+use crate::tail::tail;
 use aig_defs::{Header, Limit};
 use em_frames::Device;
 use em_io::{Feed, Shelf};
@@ -27,7 +29,7 @@ const AS_NEXT: u64 = 0;
 
 const AS_OUTPUT: u64 = 1;
 
-/// A section of a circuit's text: lines of one kind.
+/// A section of a circuit's text: rows of one kind.
 #[derive(Clone, Copy, Debug, PartialEq, Eq, Drop)]
 pub(crate) enum Section {
     Inputs,
@@ -45,7 +47,7 @@ const ORDER: [Section; 4] = [
 ];
 
 impl Section {
-    /// How many lines it has.
+    /// How many rows it has.
     fn lines(self, header: &Header) -> u64
         ensures { result ≡ lines_in self header.now }
     {
@@ -58,8 +60,9 @@ impl Section {
     }
 }
 
-/// The line of an input, of which this many stand before it.
-fn read_input<D: Device, H: Shelf>(
+/// The row of an input, of which this many stand before it.
+fn read_input<R: Rows, D: Device, H: Shelf>(
+    rows: &R,
     header: &Header,
     before: u64,
     rig: &mut Rig<'_, D>,
@@ -68,13 +71,15 @@ fn read_input<D: Device, H: Shelf>(
     draft: &mut Draft,
 ) -> Result<(), AigStop>
     requires header { IsHeader header.now }
+    requires before { before < header.now.inputs }
     requires fill { CanFill 2 (moment H.Shelf feed.old shelf.old (seen D.state rig.old) draft.old) }
-    ensures { ReadsInto H.tells (section_line Inputs header.now before) (line_size Inputs)
+    ensures { ReadsInto H.tells (section_line R.form Inputs header.now before)
+        (line_size R.form Inputs)
         (HasLines Inputs header.now before 1)
         (moment H.Shelf feed.old shelf.old (seen D.state rig.old) draft.old)
         (moment H.Shelf feed.new shelf.new (seen D.state rig.new) draft.new) result }
 {
-    let literal = literal_line(feed, shelf, Limit::Defining(header.max))?;
+    let literal = rows.input_row(header, before, feed, shelf)?;
     draft.add_def(
         rig,
         Record {
@@ -87,8 +92,9 @@ fn read_input<D: Device, H: Shelf>(
     Ok(())
 }
 
-/// The line of a latch, of which this many stand before it.
-fn read_latch<D: Device, H: Shelf>(
+/// The row of a latch, of which this many stand before it.
+fn read_latch<R: Rows, D: Device, H: Shelf>(
+    rows: &R,
     header: &Header,
     before: u64,
     rig: &mut Rig<'_, D>,
@@ -97,13 +103,15 @@ fn read_latch<D: Device, H: Shelf>(
     draft: &mut Draft,
 ) -> Result<(), AigStop>
     requires header { IsHeader header.now }
+    requires before { before < header.now.latches }
     requires fill { CanFill 2 (moment H.Shelf feed.old shelf.old (seen D.state rig.old) draft.old) }
-    ensures { ReadsInto H.tells (section_line Latches header.now before) (line_size Latches)
+    ensures { ReadsInto H.tells (section_line R.form Latches header.now before)
+        (line_size R.form Latches)
         (HasLines Latches header.now before 1)
         (moment H.Shelf feed.old shelf.old (seen D.state rig.old) draft.old)
         (moment H.Shelf feed.new shelf.new (seen D.state rig.new) draft.new) result }
 {
-    let latch = latch_line(feed, shelf, header)?;
+    let latch = rows.latch_row(header, before, feed, shelf)?;
     draft.add_def(
         rig,
         Record {
@@ -125,8 +133,9 @@ fn read_latch<D: Device, H: Shelf>(
     Ok(())
 }
 
-/// The line of an output, of which this many stand before it.
-fn read_output<D: Device, H: Shelf>(
+/// The row of an output, of which this many stand before it.
+fn read_output<R: Rows, D: Device, H: Shelf>(
+    rows: &R,
     header: &Header,
     before: u64,
     rig: &mut Rig<'_, D>,
@@ -135,8 +144,10 @@ fn read_output<D: Device, H: Shelf>(
     draft: &mut Draft,
 ) -> Result<(), AigStop>
     requires header { IsHeader header.now }
+    requires before { before < header.now.outputs }
     requires fill { CanFill 2 (moment H.Shelf feed.old shelf.old (seen D.state rig.old) draft.old) }
-    ensures { ReadsInto H.tells (section_line Outputs header.now before) (line_size Outputs)
+    ensures { ReadsInto H.tells (section_line R.form Outputs header.now before)
+        (line_size R.form Outputs)
         (HasLines Outputs header.now before 1)
         (moment H.Shelf feed.old shelf.old (seen D.state rig.old) draft.old)
         (moment H.Shelf feed.new shelf.new (seen D.state rig.new) draft.new) result }
@@ -154,8 +165,9 @@ fn read_output<D: Device, H: Shelf>(
     Ok(())
 }
 
-/// The line of a gate, of which this many stand before it.
-fn read_gate<D: Device, H: Shelf>(
+/// The row of a gate, of which this many stand before it.
+fn read_gate<R: Rows, D: Device, H: Shelf>(
+    rows: &R,
     header: &Header,
     before: u64,
     rig: &mut Rig<'_, D>,
@@ -164,13 +176,15 @@ fn read_gate<D: Device, H: Shelf>(
     draft: &mut Draft,
 ) -> Result<(), AigStop>
     requires header { IsHeader header.now }
+    requires before { before < header.now.gates }
     requires fill { CanFill 2 (moment H.Shelf feed.old shelf.old (seen D.state rig.old) draft.old) }
-    ensures { ReadsInto H.tells (section_line Gates header.now before) (line_size Gates)
+    ensures { ReadsInto H.tells (section_line R.form Gates header.now before)
+        (line_size R.form Gates)
         (HasLines Gates header.now before 1)
         (moment H.Shelf feed.old shelf.old (seen D.state rig.old) draft.old)
         (moment H.Shelf feed.new shelf.new (seen D.state rig.new) draft.new) result }
 {
-    let gate = gate_line(feed, shelf, header)?;
+    let gate = rows.gate_row(header, before, feed, shelf)?;
     let variable = gate.lhs / 2;
     draft.add_def(
         rig,
@@ -193,8 +207,9 @@ fn read_gate<D: Device, H: Shelf>(
     Ok(())
 }
 
-/// A line of a section, of which this many stand before it.
-fn read_row<D: Device, H: Shelf>(
+/// A row of a section, of which this many stand before it.
+fn read_row<R: Rows, D: Device, H: Shelf>(
+    rows: &R,
     section: Section,
     header: &Header,
     before: u64,
@@ -204,22 +219,25 @@ fn read_row<D: Device, H: Shelf>(
     draft: &mut Draft,
 ) -> Result<(), AigStop>
     requires header { IsHeader header.now }
+    requires before { before < lines_in section header.now }
     requires fill { CanFill 2 (moment H.Shelf feed.old shelf.old (seen D.state rig.old) draft.old) }
-    ensures { ReadsInto H.tells (section_line section header.now before) (line_size section)
+    ensures { ReadsInto H.tells (section_line R.form section header.now before)
+        (line_size R.form section)
         (HasLines section header.now before 1)
         (moment H.Shelf feed.old shelf.old (seen D.state rig.old) draft.old)
         (moment H.Shelf feed.new shelf.new (seen D.state rig.new) draft.new) result }
 {
     match section {
-        Section::Inputs => read_input(header, before, rig, feed, shelf, draft),
-        Section::Latches => read_latch(header, before, rig, feed, shelf, draft),
-        Section::Outputs => read_output(header, before, rig, feed, shelf, draft),
-        Section::Gates => read_gate(header, before, rig, feed, shelf, draft),
+        Section::Inputs => read_input(rows, header, before, rig, feed, shelf, draft),
+        Section::Latches => read_latch(rows, header, before, rig, feed, shelf, draft),
+        Section::Outputs => read_output(rows, header, before, rig, feed, shelf, draft),
+        Section::Gates => read_gate(rows, header, before, rig, feed, shelf, draft),
     }
 }
 
-/// All lines of a section.
-fn read_rows<D: Device, H: Shelf>(
+/// All rows of a section.
+fn read_rows<R: Rows, D: Device, H: Shelf>(
+    rows: &R,
     section: Section,
     header: &Header,
     rig: &mut Rig<'_, D>,
@@ -230,14 +248,15 @@ fn read_rows<D: Device, H: Shelf>(
     requires header { IsHeader header.now }
     requires fill { CanFill (2 * lines_in section header.now)
         (moment H.Shelf feed.old shelf.old (seen D.state rig.old) draft.old) }
-    ensures { ReadsInto H.tells (section_lines section header.now (lines_in section header.now) 0)
-        (lines_size section header.now (lines_in section header.now) 0)
+    ensures { ReadsInto H.tells
+        (section_lines R.form section header.now (lines_in section header.now) 0)
+        (lines_size R.form section header.now (lines_in section header.now) 0)
         (HasLines section header.now 0 (lines_in section header.now))
         (moment H.Shelf feed.old shelf.old (seen D.state rig.old) draft.old)
         (moment H.Shelf feed.new shelf.new (seen D.state rig.new) draft.new) result }
 {
     for before in 0..section.lines(header) {
-        match read_row(section, header, before, rig, feed, shelf, draft) {
+        match read_row(rows, section, header, before, rig, feed, shelf, draft) {
             Ok(()) => {}
             Err(stop) => return Err(stop),
         }
@@ -245,8 +264,9 @@ fn read_rows<D: Device, H: Shelf>(
     Ok(())
 }
 
-/// All sections, and the text's end.
-pub(crate) fn read_sections<D: Device, H: Shelf>(
+/// All sections, and what follows them up to the text's end.
+pub(crate) fn read_sections<R: Rows, D: Device, H: Shelf>(
+    rows: &R,
     header: &Header,
     rig: &mut Rig<'_, D>,
     feed: &mut Feed,
@@ -256,16 +276,17 @@ pub(crate) fn read_sections<D: Device, H: Shelf>(
     requires header { IsHeader header.now }
     requires fill { CanFill (2 ^ 43)
         (moment H.Shelf feed.old shelf.old (seen D.state rig.old) draft.old) }
-    ensures { ReadsInto H.tells (listed order header.now) (listed_size order header.now)
+    ensures { ReadsInto H.tells (listed R.form order header.now)
+        (listed_size R.form order header.now)
         (HasSections order header.now)
         (moment H.Shelf feed.old shelf.old (seen D.state rig.old) draft.old)
         (moment H.Shelf feed.new shelf.new (seen D.state rig.new) draft.new) result }
 {
     for section in ORDER {
-        match read_rows(section, header, rig, feed, shelf, draft) {
+        match read_rows(rows, section, header, rig, feed, shelf, draft) {
             Ok(()) => {}
             Err(stop) => return Err(stop),
         }
     }
-    tail(feed, shelf)
+    tail(feed, shelf, header)
 }

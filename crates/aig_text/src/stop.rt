@@ -8,8 +8,8 @@ use em_space::EmFault;
 /// Why a reader of circuits stopped.
 #[derive(Clone, Copy, Debug, PartialEq, Eq, Drop)]
 pub enum AigStop {
-    /// This is the circuit's first fault. The place is a byte's offset; for `Twice`, `Undefined`,
-    /// `Cyclic` and `Unordered` it is the variable.
+    /// This is the circuit's first fault. The place is a byte's offset; for `Twice`, `Undefined` and
+    /// `Cyclic` it is the variable.
     Fault { kind: AigKind, place: u64 },
     /// The shelf failed: its count of faults rose.
     Read,

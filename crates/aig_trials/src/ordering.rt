@@ -4,17 +4,19 @@ ghost use Rattle.em_space.specs.Seen.{seen};
 ghost use Rattle.aig_text.specs.Ascii.{GivesParts};
 ghost use Rattle.aig_text.specs.Parts.{IsParts};
 ghost use Rattle.aig_edges.specs.Graph.{IsGraph, IsOrdered};
-ghost use Rattle.aig_edges.specs.RankUpward.{OfUpwardCircuit};
+ghost use Rattle.aig_order.specs.OrderGraph.{OfDefinedCircuit};
 ghost use Rattle.aig_trials.specs.Frames.{HasFrames, LeavesFrames};
 
-use aig_edges::{Graph, Ordered, check_and_build, straight};
+use aig_bin::read_binary;
+use aig_edges::{Graph, Ordered, check_and_build};
+use aig_order::order;
 use aig_text::{AigStop, Parts, read_ascii, read_magic};
 use em_frames::Device;
 use em_io::{Feed, Shelf};
 use em_plain::ScanQueue;
 use em_space::Rig;
 
-/// Reads a circuit from its first byte.
+/// Reads a circuit from its first byte, in the form that its magic names.
 fn read_circuit<D: Device, H: Shelf>(
     rig: &mut Rig<'_, D>,
     feed: &mut Feed,
@@ -26,8 +28,11 @@ fn read_circuit<D: Device, H: Shelf>(
     ensures leaves { LeavesFrames (seen D.state rig.old) (seen D.state rig.new) }
     ensures parts { IfOk result (GivesParts (seen D.state rig.old) (seen D.state rig.new)) }
 {
-    read_magic(feed, shelf)?;
-    read_ascii(rig, feed, shelf)
+    if read_magic(feed, shelf)? {
+        read_ascii(rig, feed, shelf)
+    } else {
+        read_binary(rig, feed, shelf)
+    }
 }
 
 /// Makes the graph of a circuit by a new queue.
@@ -36,11 +41,24 @@ fn build<D: Device>(rig: &mut Rig<'_, D>, parts: Parts) -> Result<Graph, AigStop
     requires has { HasFrames (seen D.state rig.old) }
     ensures leaves { LeavesFrames (seen D.state rig.old) (seen D.state rig.new) }
     ensures is { IfOk result (IsGraph (seen D.state rig.new)) }
-    ensures upward { IfOk result (λ g. IsTrue (seen D.state rig.new).device.told
-        → OfUpwardCircuit (seen D.state rig.new) g) }
+    ensures defined { IfOk result (λ g. IsTrue (seen D.state rig.new).device.told
+        → OfDefinedCircuit (seen D.state rig.new) g) }
 {
     let queue = ScanQueue::new(rig)?;
     check_and_build(rig, parts, queue)
+}
+
+/// Makes the edges between ranks of a graph by a new queue.
+fn rank<D: Device>(rig: &mut Rig<'_, D>, graph: Graph) -> Result<Ordered, AigStop>
+    requires graph { IsGraph (seen D.state rig.old) graph }
+    requires defined { IsTrue (seen D.state rig.old).device.told
+        → OfDefinedCircuit (seen D.state rig.old) graph }
+    requires has { HasFrames (seen D.state rig.old) }
+    ensures leaves { LeavesFrames (seen D.state rig.old) (seen D.state rig.new) }
+    ensures is { IfOk result (IsOrdered (seen D.state rig.new)) }
+{
+    let queue = ScanQueue::new(rig)?;
+    order(rig, graph, queue)
 }
 
 /// Reads a circuit from its first byte, and makes its edges between ranks. All frames are back.
@@ -57,6 +75,5 @@ pub fn read_ordered<D: Device, H: Shelf>(
 {
     let parts = read_circuit(rig, feed, shelf)?;
     let graph = build(rig, parts)?;
-    let ordered = straight(rig, graph)?;
-    Ok(ordered)
+    rank(rig, graph)
 }

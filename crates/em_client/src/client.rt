@@ -23,7 +23,7 @@ pub fn drain<D: Device, Q: Queue>(
     requires sound { Sound (seen D.state rig.old) }
     requires is { Q.IsQueue queue.old (seen D.state rig.old) }
     requires free { CanServe (seen D.state rig.old).pool }
-    requires few { (Q.counts queue.old).n + length out.old < 2 ^ 99 }
+    requires few { (Q.counts queue.old).n + length out.old < 2 ^ 100 }
     requires room { (Q.counts queue.old).len ≤ length out.old }
     ensures sound { Sound (seen D.state rig.new) }
     ensures touches { Touches (Q.blocks queue.old (seen D.state rig.old))
@@ -72,7 +72,7 @@ pub fn beside<D: Device, Q: Queue>(
     requires apart { IsTrue (seen D.state rig.old).device.told
         → Apart (Q.blocks queue.old (seen D.state rig.old))
         (writer_blocks (seen D.state rig.old) writer.old) }
-    requires few { (Q.counts queue.old).n + limit < 2 ^ 99 }
+    requires few { (Q.counts queue.old).n + limit < 2 ^ 100 }
     requires count { writer.old.count + limit < 2 ^ 56 }
     requires blocks { writer.old.blocks + limit < 2 ^ 56 }
     ensures sound { Sound (seen D.state rig.new) }

@@ -1,5 +1,6 @@
-ghost use Rattle.std.specs.Prelude.{◌≡◌};
+ghost use Rattle.std.specs.Prelude.{◌≡◌, ◌≤◌, ◌++◌, length, take, drop};
 ghost use Rattle.std.specs.Borrow.{sem};
+ghost use Rattle.em_record.specs.Order.{in_order};
 
 use em_record::Record;
 use std::marker::Model;
@@ -36,4 +37,21 @@ impl Area {
     {
         self.records.as_mut_slice()
     }
+
+    /// Puts the first `count` records in order, by std's `sort_unstable`, and leaves the others.
+    pub fn sort(&mut self, count: usize)
+        requires room { count ≤ length self.old }
+        ensures sorted { self.new ≡ in_order (take count self.old) ++ drop count self.old }
+    {
+        sort_front(self.records.as_mut_slice(), count);
+    }
+}
+
+/// Puts the first `count` records in order, and leaves the others.
+fn sort_front(records: &mut [Record], count: usize)
+    requires room { count ≤ length records.old }
+    ensures sorted { records.new ≡ in_order (take count records.old) ++ drop count records.old }
+    ensures len { length records.new ≡ length records.old }
+{
+    records[..count].sort_unstable();
 }

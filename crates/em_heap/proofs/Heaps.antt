@@ -181,18 +181,6 @@ ascends_far (x ∷ xs) (suc p) zero d h a f = absurd (omega arith)
 ascends_far (x ∷ xs) (suc p) (suc k) d h a f =
     ascends_far xs p k d h.1 (omega arith) (omega arith)
 
--- a list ascends if no record is below the one before it
-pub ascends_by_next : (xs : List Record) (d : Record)
-    → ((k j : ℕ) → j ≡ k + 1 → j < length xs → is_below (get_or xs j d) (get_or xs k d) ≡ false)
-    → IsAscending xs
-ascends_by_next [] d h = tt
-ascends_by_next (x ∷ []) d h = (tt, tt)
-ascends_by_next (x ∷ y ∷ ys) d h =
-    let rest = ascends_by_next (y ∷ ys) d
-    (λ k j e f. h (suc k) (suc j) (omega arith) (omega arith)) in
-    let first = h 0 1 (omega arith) (omega arith) in
-    ((first, at_least_trans x y ys first rest.0), rest)
-
 -- An ascending list is a heap.
 pub ascending_heap : (xs : List Record) (n : ℕ) → n ≤ length xs → IsAscending (take n xs)
     → IsHeap xs n

@@ -1,5 +1,5 @@
 -- The calls of a queue that is a list of its items.
-use Rattle.std.proofs.Common.{◌≡◌, ◌==◌, if◌then◌else◌, ℕ, ◌+◌, ◌-◌, ◌<◌, ◌≤◌, refl, sym, ap, ◌∙◌, arith, IsTrue, Option, Result, Ok, Err, OnOk}
+use Rattle.std.proofs.Common.{◌≡◌, ◌==◌, if◌then◌else◌, ℕ, ◌+◌, ◌-◌, ◌<◌, ◌≤◌, max, refl, sym, ap, ◌∙◌, arith, IsTrue, Option, Result, Ok, Err, OnOk}
 use Rattle.std.proofs.lemmas.Bool.{cond-false, cond_both, eqb-true, ne_eqb}
 use Rattle.em_record.specs.Order.{with_record, in_order}
 use Rattle.em_record.specs.Shape.{payload_of}
@@ -23,18 +23,27 @@ use Rattle.em_plain.specs.ScanQueue.{IsScanQueue, QueueHasFrame, counted, counts
 use Rattle.em_plain.specs.declared.scan_queue.ScanQueue.{ScanQueue}
 use Rattle.em_chain.proofs.Sessions.{ceiling_rises}
 
--- it holds no more blocks than its calls can fill
+-- it holds no more blocks than the calls since it was empty can fill
 pub queue_room : (s : RigState) (q : ScanQueue) → Sound s → IsScanQueue s q
-    → q.writer.blocks ≤ ceiling q.calls (payload_of s.pool.shape)
+    → q.writer.blocks ≤ ceiling q.longest (payload_of s.pool.shape)
 queue_room s q h i =
     let low = h.shape.block_low in
     let len = i.len_most in
-    let k = i.rest.k_most in
     let since = i.rest.since_most in
     let full = i.filled_is in
     let e = rw full at (writer_blocks_are s q.writer low i.writer) in
-    let r = ceiling_rises q.writer.count q.calls (payload_of s.pool.shape) (omega arith)
+    let r = ceiling_rises q.writer.count q.longest (payload_of s.pool.shape) (omega arith)
     (omega arith) in
+    omega arith
+
+-- it never held more blocks than all its calls can fill, and one
+pub most_called : (s : RigState) (q : ScanQueue) → Sound s → QueueHasFrame s q
+    → q.most ≤ ceiling q.calls (payload_of s.pool.shape) + 1
+most_called s q h f =
+    let low = h.shape.block_low in
+    let k = f.k_most in
+    let most = f.most_most in
+    let r = ceiling_rises q.longest q.calls (payload_of s.pool.shape) (omega arith) (omega arith) in
     omega arith
 
 -- after a call that was counted, with this list and this many moves
@@ -54,8 +63,8 @@ frames_after s t q v spent h i f has later e =
     let since = i.rest.since_most in
     let most = i.rest.most_most in
     let room = queue_room s q h i in
-    let r = ceiling_rises q.calls (q.calls + 1) (payload_of s.pool.shape) (omega arith)
-    (omega arith) in
+    let r = ceiling_rises q.longest (max q.longest (q.since + 1)) (payload_of s.pool.shape)
+    (omega arith) (omega arith) in
     record {
       frame = has;
       areas = omega arith;

@@ -60,14 +60,15 @@ counted q = record q {
 abbrev pub settled : ScanQueue → ScanQueue
 settled q = record q { since = if q.writer.count == 0 then 0 else q.since }
 
--- The part on frames and numbers: it never held more blocks than all its calls can fill, and one.
+-- The part on frames and numbers: it never held more blocks than the calls between two moments at which
+-- it was empty can fill, and one.
 pub record QueueHasFrame (s : RigState) (q : ScanQueue) : Type 0 where
   pub frame : WriterHasFrame s q.writer
   pub areas : s.pool.free_areas ≤ 2
   pub spent_most : q.spent ≤ s.moves
   pub k_most : q.longest ≤ q.calls
   pub since_most : q.since ≤ q.longest
-  pub most_most : q.most ≤ ceiling q.calls (payload_of s.pool.shape) + 1
+  pub most_most : q.most ≤ ceiling q.longest (payload_of s.pool.shape) + 1
 
 -- What ties the queue to its blocks: every block but the last is full.
 pub record IsScanQueue (s : RigState) (q : ScanQueue) : Type 0 where

@@ -1,13 +1,13 @@
--- Laws of records in order that belong into em_record, beside its `Commutes`: other places, and parts.
-use Rattle.std.proofs.Common.{◌≡◌, ℕ, zero, suc, ◌<◌, List, [], ◌∷◌, ◌++◌, length, get_or, set, Bool, true, false, refl, sym, ap, ◌∙◌, arith, ◌⊎◌, inl, inr, ⊎_elim, get_or-set_same, get_or-set_other, length-set}
+-- Laws of records in order: other places, and parts.
+use Rattle.std.proofs.Common.{◌≡◌, ℕ, zero, suc, ◌+◌, ◌<◌, List, [], ◌∷◌, ◌++◌, length, get_or, set, Bool, true, false, refl, sym, ap, ◌∙◌, arith, ◌⊎◌, inl, inr, ⊎_elim, get_or-set_same, get_or-set_other, length-set}
 use Rattle.std.proofs.lemmas.Bool.{cases_lt, cases_Bool}
 use Rattle.std.proofs.lemmas.List.Sorted.{IsPermutation-keeps}
 use Rattle.std.specs.List.Sorted.{IsPermutation}
 use Rattle.std.specs.List.{swap}
 use Rattle.em_record.specs.declared.record.Record.{Record}
 use Rattle.em_record.specs.Order.{is_below, AtLeast, AllAtLeast, IsAscending, with_record, in_order}
-use Rattle.em_record.proofs.Order.{below_ranks, with_first, with_later}
-use Rattle.em_record.proofs.Commutes.{with_commutes, order_cons}
+use Rattle.em_record.proofs.Order.{below_ranks, at_least_trans, with_first, with_later}
+use Rattle.em_record.proofs.Commutes.{with_commutes, order_cons, order_ascending}
 
 -- No record is below itself.
 pub below_itself : (x : Record) → is_below x x ≡ false
@@ -102,3 +102,19 @@ ascends_apart (x ∷ xs) ys h =
     let r = ascends_apart xs ys h.1 in
     let a = at_least_apart x xs ys h.0 in
     ((a.0, r.0), r.1, (a.1, r.2))
+
+-- a list ascends if no record is below the one before it
+pub ascends_by_next : (xs : List Record) (d : Record)
+    → ((k j : ℕ) → j ≡ k + 1 → j < length xs → is_below (get_or xs j d) (get_or xs k d) ≡ false)
+    → IsAscending xs
+ascends_by_next [] d h = tt
+ascends_by_next (x ∷ []) d h = (tt, tt)
+ascends_by_next (x ∷ y ∷ ys) d h =
+    let rest = ascends_by_next (y ∷ ys) d
+    (λ k j e f. h (suc k) (suc j) (omega arith) (omega arith)) in
+    let first = h 0 1 (omega arith) (omega arith) in
+    ((first, at_least_trans x y ys first rest.0), rest)
+
+-- A list with the same records that ascends is these records in order.
+pub order_of : (xs ys : List Record) → IsPermutation xs ys → IsAscending ys → ys ≡ in_order xs
+order_of xs ys same rises = sym (order_ascending ys rises) ∙ order_permutation xs ys same

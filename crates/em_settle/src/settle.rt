@@ -34,11 +34,10 @@ pub trait Settle: Drop {
     fn key(&self, item: Record) -> Record
         ensures { result ≡ key_of self.now item };
 
-    /// What an operation does if this is stored under its key.
+    /// What an operation does if this is stored under its key. It has an answer for every record: a
+    /// device that doesn't tell its contents may give any.
     fn step(&self, stored: Option<Record>, op: Record) -> Step
         requires ready { IsReady self.now }
-        requires stored { IfSome stored (IsKept self.now) }
-        requires op { IsOp self.now op }
         ensures { result ≡ step_of self.now stored op };
 
     /// Records in order have keys in order.

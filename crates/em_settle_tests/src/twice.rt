@@ -1,5 +1,5 @@
 //! Two operations one after another, over any kind of tree.
-ghost use Rattle.std.specs.Prelude.{◌≡◌, ◌↔◌, true, Option, IfSome};
+ghost use Rattle.std.specs.Prelude.{◌≡◌, ◌↔◌, true};
 
 use em_record::Record;
 use em_settle::{Settle, Step};
@@ -12,9 +12,6 @@ pub fn settle_twice<S: Settle>(
     second: Record,
 ) -> (Step, Step)
     requires ready { S.IsReady settle.now }
-    requires stored { IfSome stored (S.IsKept settle.now) }
-    requires first { S.IsOp settle.now first }
-    requires second { S.IsOp settle.now second }
     ensures first { result.0 ≡ S.step_of settle.now stored first }
     ensures second { result.1 ≡ S.step_of settle.now result.0.stored second }
 {

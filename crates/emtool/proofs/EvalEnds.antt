@@ -29,11 +29,9 @@ use Rattle.aig_defs.specs.declared.circuit.Gate.{Gate}
 use Rattle.aig_defs.specs.declared.circuit.Header.{Header}
 use Rattle.aig_defs.specs.Begun.{circuit_size}
 use Rattle.aig_defs.specs.Circuit.{Circuit}
-use Rattle.aig_defs.specs.Founded.{upwards}
 use Rattle.aig_defs.specs.Stimulus.{output_lines, stimulus_of}
 use Rattle.aig_defs.specs.Value.{run_of}
 use Rattle.aig_edges.specs.Graph.{IsOrdered, IsOrderedOf, edge_count, ordered_blocks}
-use Rattle.aig_edges.specs.RankUpward.{RanksUpwards}
 use Rattle.aig_edges.specs.declared.graph.Ordered.{Ordered}
 use Rattle.aig_forward.specs.Evaluator.{BeginsEvaluator, BeginsFor, Evaluates, FailsToBegin, evaluator_blocks, without_frames}
 use Rattle.aig_forward.specs.Outputs.{KeepsFront}
@@ -543,15 +541,14 @@ module _ {Q : Type 0} {queue : QueueGhosts Q} {s m a b t : RigState} {o : Ordere
 -- At first an evaluator evaluates each circuit whose edges these are, from the state of zeros.
 pub evaluates_first : {Q : Type 0} {queue : QueueGhosts Q} {s m a : RigState} {o : Ordered} {q : Q}
     {e : Evaluator Q} → Made queue s m a o q e → (IsTrue m.device.told → BeginsFor queue m a o e)
-    → IsTrue s.device.told → (c : Circuit) → RanksUpwards s o c
-    → Evaluates queue a e c (upwards c.gates) (replicate (length c.latches) false)
-evaluates_first {queue = queue} {a = a} {e = e} u meaning z c ranks =
+    → IsTrue s.device.told → (c : Circuit) (order : List Gate) → IsOrderedOf s o c order
+    → Evaluates queue a e c order (replicate (length c.latches) false)
+evaluates_first {queue = queue} {a = a} {e = e} u meaning z c order is =
     let latches : e.header.latches ≡ length c.latches =
-    ap (λ (h : Header). h.latches) (u.begins.header ∙ sym ranks.is.header)
-    ∙ sym ranks.is.is.lengths.latches in
-    subst (λ (n : ℕ). Evaluates queue a e c (upwards c.gates) (replicate n false)) latches
-    (meaning (u.lends.touches.told ∙ z) c (upwards c.gates)
-    (ordered_of c (upwards c.gates) u.can.is u.lends z ranks.is))
+    ap (λ (h : Header). h.latches) (u.begins.header ∙ sym is.header)
+    ∙ sym is.is.lengths.latches in
+    subst (λ (n : ℕ). Evaluates queue a e c order (replicate n false)) latches
+    (meaning (u.lends.touches.told ∙ z) c order (ordered_of c order u.can.is u.lends z is))
 
 -- An evaluator was made, its steps were made, its frames came back, and what was pending was sent.
 pub record Evaluated {H W Q : Type 0} (h : ShelfGhosts H) (w : SinkGhosts W) (queue : QueueGhosts Q)
@@ -621,17 +618,17 @@ module _ {H W Q : Type 0} {h : ShelfGhosts H} {w : SinkGhosts W} {queue : QueueG
         done result (w.faults mid) (w.faults out_after) v.sends.ends v.steps.end (λ rose. tt)
 
     -- what went out
-    pub prints_due : IsTrue h.tells → IsTrue s.device.told → (c : Circuit) → RanksUpwards s o c
-        → PrintsAll w.took (output_lines (run_of c (stimulus_of o.header.inputs text).steps))
+    pub prints_due : IsTrue h.tells → IsTrue s.device.told → (c : Circuit) (order : List Gate)
+        → IsOrderedOf s o c order → PrintsAll w.took (output_lines (run_of c (stimulus_of o.header.inputs text).steps))
         (w.state out) (w.state out_after) result
-    prints_due z y c ranks =
+    prints_due z y c order is =
         let lines = output_lines (run_of c (stimulus_of o.header.inputs text).steps) in
         let p : PrintsLines w.took lines (w.state out) (w.state mid) pending done =
         subst (λ (n : Header). PrintsLines w.took (output_lines (run_of c
         (stimulus_of n.inputs text).steps)) (w.state out) (w.state mid) pending done)
         v.made.begins.header
-        (v.steps.prints z ((made_touches v.made).told ∙ y) c (upwards c.gates)
-        (replicate (length c.latches) false) (evaluates_first v.made v.meaning y c ranks)) in
+        (v.steps.prints z ((made_touches v.made).told ∙ y) c order
+        (replicate (length c.latches) false) (evaluates_first v.made v.meaning y c order is)) in
         let sent = ends_by (λ r. OnDue r (w.state out_after ≡ w.took (w.state mid) pending)
         → OnDue r (w.state out_after ≡ w.took (w.state out) lines)) done result
         (w.faults mid) (w.faults out_after) v.sends.ends
@@ -713,7 +710,7 @@ runs_none h w {s = s} {t = t} {o = o} {fault = fault} shelf out rule ok u packed
   write_later = omega arith;
   ends = λ z. tt;
   end = tt;
-  prints = λ z y c ranks. record { all = tt; part = part-of (sent-nothing rule ok _ refl) };
+  prints = λ z y c order is. record { all = tt; part = part-of (sent-nothing rule ok _ refl) };
   cause = unmade_cause u;
   full = full_due (FillsSteps h.tells s.most (circuit_size o.header)
       (steps_of o.header.inputs ((h.stand shelf).slot Second).left ((h.stand shelf).slot Second)) t)

@@ -1,9 +1,9 @@
 -- Worked evaluations: what is due of them, and their size.
-use Rattle.std.specs.Prelude.{◌≡◌, ℕ, List, [], ◌∷◌, true, false, codes, map, refl}
+use Rattle.std.specs.Prelude.{◌≡◌, ℕ, List, [], ◌∷◌, ◌++◌, true, false, codes, map, refl}
 use Rattle.em_io.specs.Shelf.{SlotState}
-use Rattle.aig_defs.specs.declared.fault.AigKind.TheVariants.{Extension, LiteralRange, StimLength, Twice, Undefined, Unordered}
+use Rattle.aig_defs.specs.declared.fault.AigKind.TheVariants.{BadDelta, BadSymbol, Cyclic, Extension, LiteralRange, StimLength, Twice, Undefined}
 use Rattle.emtool.specs.EvalDue.{eval_output, eval_status}
-use Rattle.emtool.specs.EvalSize.{circuit_read, passes_read, steps_read}
+use Rattle.emtool.specs.EvalSize.{circuit_read, eval_cost, eval_room, passes_read, steps_read}
 use Rattle.emtool.specs.declared.status.Malform.TheVariants.{Aig}
 use Rattle.emtool.specs.declared.status.Status.{Status}
 use Rattle.emtool.specs.declared.status.Status.TheVariants.{Done, Malformed}
@@ -20,10 +20,37 @@ toggle = codes "aag 1 0 1 2 0\n2 3\n2\n3\n"
 abbrev late_line : List ℕ
 late_line = codes "aag 4 2 0 1 2\n2\n4\n8\n8 6 2\n6 2 4\n"
 
+-- the same input, by a gate that uses a gate of a greater variable
+abbrev greater : List ℕ
+greater = codes "aag 3 1 0 1 2\n2\n4\n4 2 6\n6 2 2\n"
+
+-- the half adder of the format's report, whose first gate uses the two others, which have greater
+-- variables
+abbrev report_adder : List ℕ
+report_adder = codes "aag 7 2 0 2 3\n2\n4\n6\n12\n6 13 15\n12 2 4\n14 3 5\n"
+    ++ codes "i0 x\ni1 y\no0 s\no1 c\nc\nhalf adder\n"
+
+-- a cycle of two gates, and a gate that uses one of them
+abbrev cycle : List ℕ
+cycle = codes "aag 4 1 0 1 3\n2\n4\n4 2 6\n6 2 8\n8 2 6\n"
+
+-- a cycle of two gates, and a gate that doesn't depend on it
+abbrev cycle_beside : List ℕ
+cycle_beside = codes "aag 4 1 0 1 3\n2\n4\n4 2 2\n6 2 8\n8 2 6\n"
+
 -- a latch with a greater variable than the gate that reads it, which is 1 after the first 1 of the
 -- input
 abbrev above : List ℕ
 above = codes "aag 3 1 1 1 1\n2\n6 5\n6\n4 3 7\n"
+
+-- the conjunction in the binary form: inputs without a line, and a gate as two deltas of 2
+abbrev binary_conjunction : List ℕ
+binary_conjunction = codes "aig 3 2 0 1 1\n6\n" ++ 2 ∷ 2 ∷ []
+
+-- the half adder of the format's report, in the binary form, with symbols and a comment
+abbrev half_adder : List ℕ
+half_adder = codes "aig 5 2 0 2 3\n10\n6\n" ++ 2 ∷ 2 ∷ 3 ∷ 2 ∷ 1 ∷ 2 ∷ []
+    ++ codes "i0 x\ni1 y\no0 s\no1 c\nc\nhalf adder\n"
 
 -- circuit and stimulus, and the status and the output that are due
 abbrev Row : Type 0
@@ -43,12 +70,23 @@ evaluations : Hold (
     ∷ ((codes "aag 3 2 0 1 1\n2\n4\n9\n6 2 4\n", []), (Malformed (Aig LiteralRange) 18, []))
     ∷ ((late_line, codes "00\n01\n10\n11\n"), (Done, codes "0\n0\n0\n1\n"))
     ∷ ((above, codes "0\n1\n0\n0\n"), (Done, codes "0\n0\n1\n1\n"))
+    ∷ ((greater, codes "1\n0\n"), (Done, codes "1\n0\n"))
+    ∷ ((report_adder, codes "00\n01\n10\n11\n"), (Done, codes "00\n10\n10\n01\n"))
+    ∷ ((binary_conjunction, codes "00\n01\n10\n11\n"), (Done, codes "0\n0\n0\n1\n"))
+    ∷ ((half_adder, codes "00\n01\n10\n11\n"), (Done, codes "00\n10\n10\n01\n"))
+    ∷ ((conjunction ++ codes "i2 x\n", []), (Malformed (Aig BadSymbol) 27, []))
+    ∷ (
+      (codes "aig 3 2 0 1 1\n6\n" ++ 0 ∷ 2 ∷ [], codes "00\n"),
+      (Malformed (Aig BadDelta) 16, []),
+    )
+    ∷ (
+      (codes "aig 3 2 0 1 1\n6\n" ++ 130 ∷ 0 ∷ 2 ∷ [], codes "11\n"),
+      (Done, codes "1\n"),
+    )
     ∷ ((codes "aag 5 1 0 1 1\n2\n6\n6 2 10\n", codes "0\n"), (Malformed (Aig Undefined) 5, []))
     ∷ ((codes "aag 5 1 0 1 2\n2\n6\n6 2 10\n6 2 2\n", []), (Malformed (Aig Twice) 3, []))
-    ∷ (
-      (codes "aag 4 1 0 1 3\n2\n4\n4 2 6\n6 2 8\n8 2 6\n", codes "0\n"),
-      (Malformed (Aig Unordered) 2, []),
-    )
+    ∷ ((cycle, codes "0\n"), (Malformed (Aig Cyclic) 2, []))
+    ∷ ((cycle_beside, codes "0\n"), (Malformed (Aig Cyclic) 3, []))
     ∷ [])
 evaluations = refl
 
@@ -63,9 +101,40 @@ size_of_conjunction = refl
 passes_of_conjunction : passes_read conjunction ≡ 1
 passes_of_conjunction = refl
 
+-- Two passes find the gates if one uses a gate of a greater variable. If there is a cycle, those count
+-- that found a gate, and if a variable is used and not defined, none.
+passes_of_rows : map passes_read (greater ∷ report_adder ∷ late_line ∷ cycle ∷ cycle_beside
+    ∷ codes "aag 5 1 0 1 1\n2\n6\n6 2 10\n" ∷ []) ≡ 2 ∷ 2 ∷ 1 ∷ 0 ∷ 1 ∷ 0 ∷ []
+passes_of_rows = refl
+
+-- The report's half adder has two inputs, two outputs and three gates. At the default shape four steps
+-- and two passes cost 8 times 4096 moves at most, and 33 blocks.
+size_of_report_adder : circuit_read (slot_with []) report_adder ≡ 10
+size_of_report_adder = refl
+
+cost_of_report_adder : eval_cost (record { block = 1024; frames = 256 }) 10 4 2 ≡ 32768
+cost_of_report_adder = refl
+
+room_of_report_adder : eval_room (record { block = 1024; frames = 256 }) 10 4 ≡ 33
+room_of_report_adder = refl
+
 -- the header's line and the first byte of the next one were given: one input
 size_of_a_front : circuit_read (slot_with (codes "\n4\n6\n6 2 4\n")) conjunction ≡ 1
 size_of_a_front = refl
+
+-- In the binary form inputs count once the header was read, also if the text ends there or breaks
+-- after it; a gate is begun once the first byte of its deltas was given.
+sizes_of_binary_fronts : map (λ (text : List ℕ). circuit_read (slot_with []) text)
+    (codes "aig 3 2 0 1" ∷ codes "aig 3 2 0 1 2\n6" ∷ codes "aig 3 2 0 1 1" ∷ codes "aig 3 2 0 1 1\n"
+    ∷ codes "aig 3 2 0 1 1\nx" ∷ codes "aig 3 2 0 1 1\n6\n"
+    ∷ (codes "aig 3 2 0 1 1\n6\n" ++ 0 ∷ []) ∷ binary_conjunction ∷ [])
+    ≡ 0 ∷ 0 ∷ 2 ∷ 2 ∷ 3 ∷ 3 ∷ 5 ∷ 5 ∷ []
+sizes_of_binary_fronts = refl
+
+-- the header's line without its end was given, then its end too
+size_of_a_binary_front : map (λ left. circuit_read (slot_with left) binary_conjunction)
+    ((codes "\n6\n" ++ 2 ∷ 2 ∷ []) ∷ (codes "6\n" ++ 2 ∷ 2 ∷ []) ∷ []) ≡ 0 ∷ 2 ∷ []
+size_of_a_binary_front = refl
 
 -- a line is begun once its first byte was given, and the faulty one counts
 steps_of_a_front : map (λ left. steps_read conjunction (slot_with left) (codes "11\n0\n"))

@@ -14,9 +14,9 @@ use Rattle.aig_defs.specs.declared.circuit.Header.{Header}
 use Rattle.aig_defs.specs.declared.fault.AigKind.{AigKind}
 use Rattle.aig_defs.specs.Items.{Reads}
 use Rattle.aig_defs.specs.Stimulus.{output_lines, steps_begun, stimulus_of}
-use Rattle.aig_defs.specs.TextFault.{ascii_text, upward_text_fault}
+use Rattle.aig_defs.specs.TextFault.{either_text, text_fault}
 use Rattle.aig_defs.specs.Value.{run_of}
-use Rattle.aig_defs.proofs.RisingText.{upward_text_none}
+use Rattle.aig_defs.proofs.EitherText.{text_none}
 use Rattle.aig_defs.specs.Begun.{circuit_size}
 use Rattle.aig_edges.specs.declared.graph.Ordered.{Ordered}
 use Rattle.emtool.specs.Asked.{asked_of_eval}
@@ -51,7 +51,7 @@ module _ (tells : Bool) (x y stimulus : List ℕ) (e : IsTrue tells → x ≡ y)
   circuit_cause faults later a c (Fault (Text kind) line) cause = absurd cause
   circuit_cause faults later a c (Fault (Aig kind) place) cause = λ t d.
       fault_due y stimulus kind place
-      (subst (λ (v : List ℕ). upward_text_fault v ≡ Some (kind, place)) (e t) (cause t d))
+      (subst (λ (v : List ℕ). text_fault v ≡ Some (kind, place)) (e t) (cause t d))
   circuit_cause faults later a c Read cause = cause
   circuit_cause faults later a c Write cause = absurd cause
   circuit_cause faults later a c (Em fault) cause = cause
@@ -73,7 +73,7 @@ module _ (tells : Bool) (x y stimulus : List ℕ) (e : IsTrue tells → x ≡ y)
         (omega arith) in
         let most : used ≤ eval_room c.pool.shape size 0 =
         subst (λ (v : List ℕ). used ≤ eval_room c.pool.shape (circuit_read (slots First) v) 0) (e t)
-        (f.size_is t) in
+        (f.size_is t d) in
         omega (arith, more, most);
   }
 
@@ -93,7 +93,7 @@ module _ (tells : Bool) (x y stimulus : List ℕ) (e : IsTrue tells → x ≡ y)
           let first = cause t (subst (λ (v : DeviceState). IsTrue v.told) before d) in
           same ∙ sym (rule.nothing old.output ok)
           ∙ ap (took old.output) (sym (nothing_due y stimulus kind place
-          (subst (λ (v : List ℕ). upward_text_fault v ≡ Some (kind, place)) (e t) first)));
+          (subst (λ (v : List ℕ). text_fault v ≡ Some (kind, place)) (e t) first)));
       part = λ t d. part_none;
     }
     circuit_stopped faults later a c Read before cause =
@@ -108,15 +108,15 @@ module _ (tells told : Bool) (x y z w : List ℕ) (m : RigState) (o : Ordered)
     (e : IsTrue tells → x ≡ y) (f : IsTrue tells → z ≡ w)
     (spells : IsTrue tells → SpellsEdges told x m o) where
   reads_file : (t : IsTrue tells)
-      → ascii_text 0 y ≡ Reads (spells t).circuit (spells t).place []
+      → either_text 0 y ≡ Reads (spells t).circuit (spells t).place []
   reads_file t =
-      subst (λ (v : List ℕ). ascii_text 0 v ≡ Reads (spells t).circuit (spells t).place []) (e t)
+      subst (λ (v : List ℕ). either_text 0 v ≡ Reads (spells t).circuit (spells t).place []) (e t)
       (spells t).reads
 
   -- the circuit has no fault
-  pub none_first : IsTrue tells → IsTrue told → upward_text_fault y ≡ None
-  none_first t d = upward_text_none y (spells t).circuit (spells t).place [] (reads_file t)
-      ((spells t).upward d)
+  pub none_first : IsTrue tells → IsTrue told → text_fault y ≡ None
+  none_first t d = text_none y (spells t).circuit (spells t).place [] (reads_file t)
+      ((spells t).orders d).is.ordered.faultless
 
   -- the status is that of the stimulus's first fault, or of none
   pub status_after : (fault : Option (AigKind × ℕ)) → IsTrue tells → IsTrue told
@@ -155,16 +155,18 @@ module _ (tells told : Bool) (x y z w : List ℕ) (m : RigState) (o : Ordered)
   pub steps_fills : (slots : Slot → SlotState) (c : RigState) (stop : Stop)
       → 0 < payload_of c.pool.shape
       → (IsTrue tells → circuit_size o.header ≤ circuit_read (slots First) x)
-      → (IsTrue tells → m.most ≤ eval_room c.pool.shape (circuit_read (slots First) x) 0)
+      → (IsTrue tells → IsTrue told
+      → m.most ≤ eval_room c.pool.shape (circuit_read (slots First) x) 0)
+      → c.device.told ≡ told
       → IfStopsFull stop (FillsSteps tells m.most (circuit_size o.header)
       (steps_of o.header.inputs z (slots Second)) c)
       → IfStopsFull stop (FillsRun tells (asked_of_eval y w) slots c)
-  steps_fills slots c (Fault kind place) some size before p = tt
-  steps_fills slots c Read some size before p = tt
-  steps_fills slots c Write some size before p = tt
-  steps_fills slots c (Em em.DeviceFault) some size before p = tt
-  steps_fills slots c (Em (em.Damaged block)) some size before p = tt
-  steps_fills slots c (Em (em.Full used)) some size before p = record {
+  steps_fills slots c (Fault kind place) some size before same p = tt
+  steps_fills slots c Read some size before same p = tt
+  steps_fills slots c Write some size before same p = tt
+  steps_fills slots c (Em em.DeviceFault) some size before same p = tt
+  steps_fills slots c (Em (em.Damaged block)) some size before same p = tt
+  steps_fills slots c (Em (em.Full used)) some size before same p = record {
     paid = p.paid;
     size = λ t d.
         let slot = slots Second in
@@ -180,7 +182,7 @@ module _ (tells told : Bool) (x y z w : List ℕ) (m : RigState) (o : Ordered)
         let rises = eval_room_rises c.pool.shape read 0 n some (omega arith) in
         let first : m.most ≤ eval_room c.pool.shape read 0 =
         subst (λ (v : List ℕ). m.most ≤ eval_room c.pool.shape (circuit_read (slots First) v) 0) (e t)
-        (before t) in
+        (before t (subst (λ (b : Bool). IsTrue b) same d)) in
         let most = p.size_is t in
         rw count (omega (arith, grows, rises, first, most));
   }

@@ -6,7 +6,7 @@ use Rattle.aig_defs.specs.declared.fault.AigKind.{AigKind}
 use Rattle.aig_defs.specs.Circuit.{Circuit}
 use Rattle.aig_defs.specs.Items.{Reads}
 use Rattle.aig_defs.specs.Stimulus.{output_lines, steps_begun, stimulus_of}
-use Rattle.aig_defs.specs.TextFault.{ascii_text, upward_text_fault}
+use Rattle.aig_defs.specs.TextFault.{either_text, text_fault}
 use Rattle.aig_defs.specs.Value.{run_of}
 use Rattle.em_io.specs.Shelf.{SlotState}
 use Rattle.emtool.specs.EvalDue.{aig_status, eval_output, eval_output_for, eval_status, eval_status_for, lines_for, steps_for}
@@ -17,7 +17,7 @@ use Rattle.emtool.proofs.RoomLaws.{times_rises}
 
 -- At a fault of the circuit that is the status, and nothing is printed.
 module _ (circuit stimulus : List ℕ) (kind : AigKind) (place : ℕ)
-    (fault : upward_text_fault circuit ≡ Some (kind, place)) where
+    (fault : text_fault circuit ≡ Some (kind, place)) where
   pub fault_due : eval_status circuit stimulus ≡ Malformed (Aig kind) place
   fault_due = ap (λ f. eval_status_for f circuit stimulus) fault
 
@@ -27,7 +27,7 @@ module _ (circuit stimulus : List ℕ) (kind : AigKind) (place : ℕ)
 -- If the circuit has none, the stimulus's first fault is the status, and the lines of the steps before
 -- it are printed.
 module _ (circuit stimulus : List ℕ) (c : Circuit) (p : ℕ) (x : List ℕ)
-    (none : upward_text_fault circuit ≡ None) (reads : ascii_text 0 circuit ≡ Reads c p x) where
+    (none : text_fault circuit ≡ None) (reads : either_text 0 circuit ≡ Reads c p x) where
   pub steps_due : eval_status circuit stimulus
       ≡ aig_status (stimulus_of c.header.inputs stimulus).fault
   steps_due = ap (λ f. eval_status_for f circuit stimulus) none
@@ -40,7 +40,7 @@ module _ (circuit stimulus : List ℕ) (c : Circuit) (p : ℕ) (x : List ℕ)
 
 -- the steps that were begun, for a circuit that was read
 pub steps_counted : (circuit stimulus : List ℕ) (c : Circuit) (p : ℕ) (x : List ℕ)
-    (slot : SlotState) → ascii_text 0 circuit ≡ Reads c p x
+    (slot : SlotState) → either_text 0 circuit ≡ Reads c p x
     → steps_read circuit slot stimulus
     ≡ steps_begun c.header.inputs (given_of slot stimulus) stimulus
 steps_counted circuit stimulus c p x slot reads =

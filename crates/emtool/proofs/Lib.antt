@@ -3,6 +3,7 @@ pub mod Circuit
 pub mod CircuitCosts
 pub mod CircuitEdges
 pub mod CircuitMade
+pub mod EitherForm
 pub mod EndLaws
 pub mod EvalEnds
 mod EvalRows

@@ -3,7 +3,7 @@ use Rattle.std.proofs.Common.{◌≡◌, ℕ, ◌||◌, List, [], Bool, true, fa
 use Rattle.em_io.specs.Shelf.{IsFresh, Leaves, SlotState, Stand}
 use Rattle.em_io.specs.declared.shelf.Slot.{Slot}
 use Rattle.em_io.specs.declared.shelf.Slot.TheVariants.{First, Second}
-use Rattle.aig_defs.specs.TextFault.{upward_text_fault}
+use Rattle.aig_defs.specs.TextFault.{text_fault}
 use Rattle.emtool.specs.Due.{names_of, text_in}
 use Rattle.emtool.specs.Opens.{IsAllRead, OpensNamed, ReadsNamed}
 use Rattle.em_space.specs.declared.fault.EmFault.TheVariants as em
@@ -167,7 +167,7 @@ pub opens_eval : (tells told : Bool) (circuit stimulus : List ℕ) (a e : Stand)
     → (IsTrue tells → OnEnd s (IsSome (a.text First circuit)))
     → (IsTrue tells → OnDone s (IsSome (a.text Second stimulus)))
     → (IsTrue tells → IsTrue told → (e.slot Second).opened ≡ true
-    → upward_text_fault (text_in a First (Some circuit)) ≡ None)
+    → text_fault (text_in a First (Some circuit)) ≡ None)
     → OpensNamed tells told (names_of Eval circuit stimulus) a e s
 opens_eval tells told circuit stimulus a e s text first second end done faultless = record {
   texts = text;

@@ -140,7 +140,7 @@ pub calls_more : (x k : ℕ) → x * (k + 1) ≡ x * k + x
 calls_more x k = omega arith
 
 -- all calls are few
-calls_few : (x k n : ℕ) → x ≤ 2 ^ 43 → k ≤ 2 ^ 50 → n ≤ x * k → n + x < 2 ^ 98
+calls_few : (x k n : ℕ) → x ≤ 2 ^ 43 → k ≤ 2 ^ 50 → n ≤ x * k → n + x < 2 ^ 100
 calls_few x k n low few h =
     let more = times_rises x k (2 ^ 50) few in omega (arith, more)
 

@@ -5,7 +5,7 @@ use Rattle.aig_defs.specs.declared.fault.AigKind.{AigKind}
 use Rattle.aig_defs.specs.Circuit.{Circuit}
 use Rattle.aig_defs.specs.Items.{Reading, Reads, Fails}
 use Rattle.aig_defs.specs.Stimulus.{Stimulus, no_steps, output_lines, stimulus_of}
-use Rattle.aig_defs.specs.TextFault.{ascii_text, upward_text_fault}
+use Rattle.aig_defs.specs.TextFault.{either_text, text_fault}
 use Rattle.aig_defs.specs.Value.{run_of}
 use Rattle.emtool.specs.declared.status.Malform.TheVariants.{Aig}
 use Rattle.emtool.specs.declared.status.Status.{Status}
@@ -29,19 +29,19 @@ lines_for (Fails kind place) steps = []
 -- what is due, if this is the circuit's fault
 abbrev pub eval_status_for : Option (AigKind × ℕ) → List ℕ → List ℕ → Status
 eval_status_for None circuit stimulus =
-    aig_status (steps_for (ascii_text 0 circuit) stimulus).fault
+    aig_status (steps_for (either_text 0 circuit) stimulus).fault
 eval_status_for (Some fault) circuit stimulus = Malformed (Aig fault.0) fault.1
 
 abbrev pub eval_output_for : Option (AigKind × ℕ) → List ℕ → List ℕ → List ℕ
 eval_output_for None circuit stimulus =
-    lines_for (ascii_text 0 circuit) (steps_for (ascii_text 0 circuit) stimulus).steps
+    lines_for (either_text 0 circuit) (steps_for (either_text 0 circuit) stimulus).steps
 eval_output_for (Some fault) circuit stimulus = []
 
 -- the status: the circuit's first fault, else the stimulus's, else Done
 abbrev pub eval_status : List ℕ → List ℕ → Status
-eval_status circuit stimulus = eval_status_for (upward_text_fault circuit) circuit stimulus
+eval_status circuit stimulus = eval_status_for (text_fault circuit) circuit stimulus
 
 -- the output: nothing at a fault of the circuit, else the lines of the steps before the stimulus's
 -- first fault
 abbrev pub eval_output : List ℕ → List ℕ → List ℕ
-eval_output circuit stimulus = eval_output_for (upward_text_fault circuit) circuit stimulus
+eval_output circuit stimulus = eval_output_for (text_fault circuit) circuit stimulus

@@ -12,13 +12,13 @@ use Rattle.aig_defs.specs.Faults.{circuit_fault}
 use Rattle.aig_defs.specs.Founded.{passes_of}
 use Rattle.aig_defs.specs.Items.{Reading, Reads, Fails}
 use Rattle.aig_defs.specs.Stimulus.{steps_begun}
-use Rattle.aig_defs.specs.TextFault.{ascii_text}
+use Rattle.aig_defs.specs.TextFault.{either_text}
 
 -- how many bytes of a slot's text were given: none if it wasn't opened
 abbrev pub given_of : SlotState → List ℕ → ℕ
 given_of slot text = if slot.ready then length text - length slot.left else 0
 
--- E: the size of what was read of the circuit
+-- E: the size of what was read of the circuit; the inputs of a binary text count once its header was
 abbrev pub circuit_read : SlotState → List ℕ → ℕ
 circuit_read slot text = text_size (given_of slot text) text
 
@@ -30,7 +30,7 @@ steps_after (Fails kind place) given stimulus = 0
 -- T: how many steps were begun
 abbrev pub steps_read : List ℕ → SlotState → List ℕ → ℕ
 steps_read circuit slot stimulus =
-    steps_after (ascii_text 0 circuit) (given_of slot stimulus) stimulus
+    steps_after (either_text 0 circuit) (given_of slot stimulus) stimulus
 
 -- the passes over a circuit, or 0 if a variable is defined twice or used undefined
 abbrev pub passes_unless : Option (AigKind × ℕ) → ℕ → ℕ
@@ -45,14 +45,15 @@ passes_after (Fails kind place) = 0
 
 -- r: the passes over the gates
 abbrev pub passes_read : List ℕ → ℕ
-passes_read circuit = passes_after (ascii_text 0 circuit)
+passes_read circuit = passes_after (either_text 0 circuit)
 
 -- the transfer cost of an evaluation: (T + r + 2) times that of 2E records
 abbrev pub eval_cost : ShapeNumbers → ℕ → ℕ → ℕ → ℕ
 eval_cost shape size steps passes = (steps + passes + 2) * cost shape (2 * size)
 
--- The most blocks that an evaluation may hold: those of its queue, which has at most 4E calls for
--- the graph, or 2E for each step; and those of at most eight lists of E records.
+-- The most blocks that an evaluation may hold: those of its queue, which has at most 2E calls between
+-- two moments at which it is empty while graph and ranks are made, and 2E for each step; and those of at
+-- most ten lists of E records.
 abbrev pub eval_room : ShapeNumbers → ℕ → ℕ → ℕ
 eval_room shape size steps = 3 * (ceiling ((steps + 1) * (2 * size)) (payload_of shape) + 2)
     + 8 * (ceiling size (payload_of shape) + 2)

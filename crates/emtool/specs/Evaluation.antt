@@ -17,17 +17,16 @@ use Rattle.aig_defs.specs.declared.circuit.Gate.{Gate}
 use Rattle.aig_defs.specs.Begun.{circuit_size}
 use Rattle.aig_defs.specs.Circuit.{Circuit}
 use Rattle.aig_defs.specs.Items.{Reads}
-use Rattle.aig_defs.specs.Rising.{IsUpward}
 use Rattle.aig_defs.specs.Stimulus.{Stimulus, output_lines, steps_begun, stimulus_of}
-use Rattle.aig_defs.specs.TextFault.{ascii_text, upward_text_fault}
+use Rattle.aig_defs.specs.TextFault.{either_text, text_fault}
 use Rattle.aig_defs.specs.Value.{run_from, run_of}
-use Rattle.aig_edges.specs.Graph.{IsOrdered, edge_count, ordered_blocks}
-use Rattle.aig_edges.specs.RankUpward.{RanksUpwards}
+use Rattle.aig_edges.specs.Graph.{IsOrdered, IsOrderedOf, edge_count, ordered_blocks}
 use Rattle.aig_edges.specs.declared.graph.Ordered.{Ordered}
 use Rattle.aig_forward.specs.Evaluator.{Evaluates, HasEvaluatorFrames, IsEvaluator, evaluator_blocks}
 use Rattle.aig_forward.specs.Outputs.{KeepsFront}
 use Rattle.aig_forward.specs.Step.{step_room}
 use Rattle.aig_forward.specs.declared.evaluator.Evaluator.{Evaluator}
+use Rattle.aig_order.specs.OrderGraph.{OrdersCircuit}
 use Rattle.emtool.specs.EvalSize.{circuit_read, eval_room, given_of}
 use Rattle.emtool.specs.Opens.{IsAllRead}
 use Rattle.emtool.specs.Run.{IsReady, ReadsFirst}
@@ -36,15 +35,14 @@ use Rattle.emtool.specs.declared.status.Malform.TheVariants.{Text, Aig}
 use Rattle.emtool.specs.declared.stop.Stop.{Stop}
 use Rattle.emtool.specs.declared.stop.Stop.TheVariants.{Fault, Read, Write, Em}
 
--- The text spells a circuit, whose header the edges have. If the device tells, it can be evaluated
--- upwards, and the edges are those between its ranks.
+-- The text spells a circuit, whose header the edges have. If the device tells, it has no fault, and the
+-- edges are those between its ranks by (pass, variable), with the number of its passes.
 pub record SpellsEdges (told : Bool) (text : List ℕ) (t : RigState) (o : Ordered) : Type 0 where
   pub circuit : Circuit
   pub place : ℕ
-  pub reads : ascii_text 0 text ≡ Reads circuit place []
+  pub reads : either_text 0 text ≡ Reads circuit place []
   pub header : circuit.header ≡ o.header
-  pub upward : IsTrue told → IsUpward circuit
-  pub ranks : IsTrue told → RanksUpwards t o circuit
+  pub orders : IsTrue told → OrdersCircuit t o circuit
 
 -- Edges between ranks were made of the whole text, in a packed list, and all their blocks were stored.
 pub record MakesEdges {H : Type 0} (h : ShelfGhosts H) (s t : RigState) (shelf shelf_after : H)
@@ -59,7 +57,7 @@ pub record MakesEdges {H : Type 0} (h : ShelfGhosts H) (s t : RigState) (shelf s
   pub all_read : IsAllRead h.tells ((h.stand shelf_after).slot First)
   pub size : IsTrue h.tells → circuit_size o.header
       ≤ circuit_read ((h.stand shelf_after).slot First) ((h.stand shelf).slot First).left
-  pub most : IsTrue h.tells → t.most ≤ eval_room t.pool.shape
+  pub most : IsTrue h.tells → IsTrue s.device.told → t.most ≤ eval_room t.pool.shape
       (circuit_read ((h.stand shelf_after).slot First) ((h.stand shelf).slot First).left) 0
 
 -- why no edges were made: the first fault of the text, if shelf and device tell; the shelf's count of
@@ -67,15 +65,16 @@ pub record MakesEdges {H : Type 0} (h : ShelfGhosts H) (s t : RigState) (shelf s
 abbrev pub CircuitCause : Bool → List ℕ → Faults → Faults → RigState → RigState → Stop → Type 0
 CircuitCause tells text faults after old new (Fault (Text kind) line) = ⊥
 CircuitCause tells text faults after old new (Fault (Aig kind) place) =
-    IsTrue tells → IsTrue old.device.told → upward_text_fault text ≡ Some (kind, place)
+    IsTrue tells → IsTrue old.device.told → text_fault text ≡ Some (kind, place)
 CircuitCause tells text faults after old new Read = Rose faults.read after.read
 CircuitCause tells text faults after old new Write = ⊥
 CircuitCause tells text faults after old new (Em fault) = Cause old new fault
 
--- What a full device says of an evaluation that read a circuit of this size and began so many steps.
+-- What a full device says of an evaluation that read a circuit of this size and began this many steps.
+-- How many notes wait in the queue while gates are ordered depends on what the device gives back.
 pub record FillsEval (tells : Bool) (size steps : ℕ) (new : RigState) (used : ℕ) : Type 0 where
   pub paid : (2 ^ 64 - 1 ≤ new.moves) ⊎ (used ≤ new.moves + 2 * new.pool.shape.frames)
-  pub size_is : IsTrue tells → used ≤ eval_room new.pool.shape size steps
+  pub size_is : IsTrue tells → IsTrue new.device.told → used ≤ eval_room new.pool.shape size steps
 
 -- What it says of the steps of an evaluation, if at most `before` blocks were in use before them.
 pub record FillsSteps (tells : Bool) (before size steps : ℕ) (new : RigState) (used : ℕ)
@@ -227,7 +226,7 @@ pub record PrintsAll (took : List ℕ → List ℕ → List ℕ) (lines old new 
   pub part : SentPart took old lines new
 
 -- An evaluation by these edges, which are all that is on the rig: as `PrintsSteps`, with nothing pending,
--- from the state in which all latches are 0.
+-- for a circuit in any order of its gates, from the state in which all latches are 0.
 pub record RunsSteps {H W : Type 0} (h : ShelfGhosts H) (w : SinkGhosts W) (s t : RigState)
     (o : Ordered) (shelf shelf_after : H) (out out_after : W) (result : Result (Unit {0}) Stop)
     : Type 0 where
@@ -238,8 +237,8 @@ pub record RunsSteps {H W : Type 0} (h : ShelfGhosts H) (w : SinkGhosts W) (s t 
   pub ends : IsTrue h.tells
       → EndsSteps (stimulus_of o.header.inputs ((h.stand shelf).slot Second).left) result
   pub end : OnOk result (IsAllRead h.tells ((h.stand shelf_after).slot Second))
-  pub prints : IsTrue h.tells → IsTrue s.device.told → (c : Circuit) → RanksUpwards s o c
-      → PrintsAll w.took (output_lines (run_of c
+  pub prints : IsTrue h.tells → IsTrue s.device.told → (c : Circuit) (order : List Gate)
+      → IsOrderedOf s o c order → PrintsAll w.took (output_lines (run_of c
       (stimulus_of o.header.inputs ((h.stand shelf).slot Second).left).steps))
       (w.state out) (w.state out_after) result
   pub cause : IfErr result (StepsCause (fault_counts (h.faults shelf) (w.faults out))

@@ -3,6 +3,7 @@ pub mod Asked
 pub mod Bound
 pub mod CommandLine
 pub mod Due
+pub mod EitherForm
 pub mod EvalDue
 pub mod EvalSize
 pub mod Evaluation

@@ -3,7 +3,7 @@ use Rattle.std.specs.Prelude.{◌≡◌, ℕ, Bool, true, IsTrue, IsNone, IsSome
 use Rattle.em_io.specs.Shelf.{SlotState, Stand}
 use Rattle.em_io.specs.declared.shelf.Slot.{Slot}
 use Rattle.em_io.specs.declared.shelf.Slot.TheVariants.{First, Second}
-use Rattle.aig_defs.specs.TextFault.{upward_text_fault}
+use Rattle.aig_defs.specs.TextFault.{text_fault}
 use Rattle.emtool.specs.Due.{text_in}
 use Rattle.emtool.specs.Status.{OnDone, OnEnd}
 use Rattle.emtool.specs.declared.status.Status.{Status}
@@ -32,4 +32,4 @@ pub record OpensNamed (tells told : Bool) (names : Slot → Option (List ℕ)) (
   pub first : IsTrue tells
       → IfSome (names First) (λ name. OnEnd status (IsSome (old.text First name)))
   pub second : IsTrue tells → IsTrue told → (new.slot Second).opened ≡ true → IfSome (names Second)
-      (λ name. upward_text_fault (text_in old First (names First)) ≡ None)
+      (λ name. text_fault (text_in old First (names First)) ≡ None)

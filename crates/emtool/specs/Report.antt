@@ -42,7 +42,6 @@ aig_kind_name aig.Cyclic = codes "Cyclic"
 aig_kind_name aig.StimLength = codes "StimLength"
 aig_kind_name aig.StimChar = codes "StimChar"
 aig_kind_name aig.TooLong = codes "TooLong"
-aig_kind_name aig.Unordered = codes "Unordered"
 
 -- the name of what is wrong with an input
 abbrev pub malform_name : Malform → List ℕ

@@ -22,10 +22,10 @@ Commands:
                 is faulty
                 example: emtool stab spans.txt
   eval CIRCUIT STIMULUS
-                the circuit is in the ASCII form of AIGER, with its variables numbered in the order of
-                the text and no symbols or comment; each line of STIMULUS is a step, with a `0` or `1`
-                for each input; prints the outputs of each step on a line; where a line of STIMULUS is
-                faulty, the lines of the steps before it; nothing where the circuit is
+                the circuit is in the ASCII or the binary form of AIGER, without a cycle of gates;
+                each line of STIMULUS is a step, with a `0` or `1` for each input; prints the outputs
+                of each step on a line; where a line of STIMULUS is faulty, the lines of the steps
+                before it; nothing where the circuit is
                 example: emtool eval adder.aag adder.txt
 
 Options, before the files:

@@ -51,7 +51,6 @@ fn aig_kind(kind: AigKind) -> &'static [u8]
         AigKind::StimLength => b"StimLength",
         AigKind::StimChar => b"StimChar",
         AigKind::TooLong => b"TooLong",
-        AigKind::Unordered => b"Unordered",
     }
 }
 

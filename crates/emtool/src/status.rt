@@ -43,8 +43,8 @@ pub struct Usage {
 pub enum Malform {
     /// A line of a command file; the place is the line's number, from 1.
     Text(TextKind),
-    /// A circuit or a stimulus. The place is a byte's offset; for `Twice`, `Undefined`, `Cyclic` and
-    /// `Unordered` it is the variable.
+    /// A circuit or a stimulus. The place is a byte's offset; for `Twice`, `Undefined` and `Cyclic` it
+    /// is the variable.
     Aig(AigKind),
 }
 

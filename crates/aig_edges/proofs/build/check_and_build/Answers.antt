@@ -2,9 +2,9 @@ use Rattle.std.proofs.Common.{Result}
 use Rattle.em_space.specs.Seen.{seen}
 use Rattle.aig_text.specs.declared.stop.AigStop.{AigStop}
 use Rattle.aig_text.proofs.Lines.{of_error}
-use Rattle.aig_edges.specs.BuildUpward.{StoresSorted}
+use Rattle.aig_edges.specs.BuildGraph.{StoresSorted}
 use Rattle.aig_edges.specs.declared.graph.Graph.{Graph}
-use Rattle.aig_edges.proofs.Ended.{builds_upward, cause_left, costs_ended, costs_left, pays_left, pays_unended, stores_ended, up_ended, up_left}
+use Rattle.aig_edges.proofs.Ended.{builds_graph, cause_left, costs_ended, costs_left, pays_left, pays_unended, stores_ended, up_ended, up_left}
 use Rattle.aig_edges.proofs.build.check_and_build.Goals as goal
 
 pub returns-in_err-end-in-Ok-clause-uses_up : goal.returns-in_err-end-in-Ok-clause-uses_up
@@ -33,7 +33,7 @@ returns-in_ok-end-in-Ok-clause-costs g c =
 
 pub returns-in_ok-end-in-Ok-clause-builds : goal.returns-in_ok-end-in-Ok-clause-builds
 returns-in_ok-end-in-Ok-clause-builds g c =
-    builds_upward g.Q.Queue c.args.queue c.build.new.queue c.args.parts c.in-Ok.ensures.builds
+    builds_graph g.Q.Queue c.args.queue c.build.new.queue c.args.parts c.in-Ok.ensures.builds
     c.end.ensures.ends
 
 pub returns-in_ok-end-in-Ok-clause-stores : goal.returns-in_ok-end-in-Ok-clause-stores

@@ -5,7 +5,7 @@ use Rattle.aig_text.proofs.Lines.{of_error}
 use Rattle.aig_edges.specs.Comparing.{ComparesTo}
 use Rattle.aig_edges.specs.declared.comparing.Compared.{Compared}
 use Rattle.aig_edges.proofs.AllCompared.{can_on}
-use Rattle.aig_edges.proofs.ComparedLists.{can_start, compare_damaged, compare_falls, compare_is, compare_stopped, compare_unfinished}
+use Rattle.aig_edges.proofs.ComparedLists.{can_start, compare_damaged, compare_is, compare_stopped, compare_unfinished}
 use Rattle.aig_edges.proofs.comparing.compare.Goals as goal
 
 pub compare_all-requires-clause-can : goal.compare_all-requires-clause-can
@@ -21,14 +21,6 @@ returns-in-Err g c =
     record {
       done = compare_stopped _ c.in-Err.stop c.requires.can c.open-lists.ensures.opens
           c.in-Err.ensures.done b.gives b.unmoved;
-    }
-
-pub returns-in-Some : goal.returns-in-Some
-returns-in-Some g c =
-    let b = c.abandon-in-Some.ensures in
-    record {
-      done = compare_falls c.requires.can c.open-lists.ensures.opens c.in-Ok.ensures.done
-          c.in-Some.is b.gives b.unmoved;
     }
 
 pub returns-then-len-count : goal.returns-then-len-count
@@ -56,5 +48,5 @@ returns g c =
     let n = c.if-len-count.false in
     record {
       done = compare_is c.requires.can c.open-lists.ensures.opens c.in-Ok.ensures.done
-          (omega (arith, l, n)) (c.in_default.is) c.in_ok-finish.ensures.done;
+          (omega (arith, l, n)) c.in_ok-finish.ensures.done;
     }

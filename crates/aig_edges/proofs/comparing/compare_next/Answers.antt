@@ -19,7 +19,6 @@ returns-in_err-def-clause-steps g c =
       sources = k.sources;
       edges = k.edges;
       last = k.last;
-      least = k.least;
     }) r) _ _ c.from_residual.ensures.1
     (stops_weave c.args.count (edges_due k) i.are i.most (omega arith) c.in_err-def.ensures.stops)
 

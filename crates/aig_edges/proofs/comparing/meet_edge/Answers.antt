@@ -10,7 +10,7 @@ pub returns-in_err-append-clause-meets : goal.returns-in_err-append-clause-meets
 returns-in_err-append-clause-meets g c =
     let o = c.in_err-append.ensures in
     of_error (λ (r : Result (Unit {0}) AigStop). MeetsEdge (seen g.D.Device.state c.args.rig.now)
-    (seen g.D.Device.state c.append.new.rig) c.args.lists.now (record { weave = c.args.lists.now.weave; sources = c.args.lists.now.sources; edges = c.append.new.self; last = c.args.lists.now.last; least = c.least_edge-lists.result }) c.args.edge r) _ _
+    (seen g.D.Device.state c.append.new.rig) c.args.lists.now (record { weave = c.args.lists.now.weave; sources = c.args.lists.now.sources; edges = c.append.new.self; last = c.args.lists.now.last }) c.args.edge r) _ _
     c.from_residual.ensures.1 (stops_edge c.requires.are o.goes o.spends o.cause)
 
 pub returns-clause-meets : goal.returns-clause-meets
@@ -22,5 +22,4 @@ returns-clause-meets g c =
       met = cc;
       weave_is = refl;
       last_is = refl;
-      least_is = c.least_edge-lists.ensures;
     }

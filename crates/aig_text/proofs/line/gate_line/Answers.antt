@@ -1,4 +1,4 @@
-use Rattle.aig_text.proofs.Rows.{gate_within}
+use Rattle.aig_text.proofs.SectionRows.{gate_within}
 use Rattle.aig_text.proofs.line.gate_line.Goals as goal
 
 pub returns-clause-is : goal.returns-clause-is

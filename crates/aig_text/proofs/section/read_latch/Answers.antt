@@ -1,39 +1,39 @@
-use Rattle.std.proofs.Common.{arith, refl, [], ◌∷◌}
+use Rattle.std.proofs.Common.{true, arith, refl, [], ◌∷◌}
 use Rattle.aig_defs.specs.Chains.{latch_def, latch_use}
 use Rattle.aig_text.specs.Sections.{of_latch, HasLines}
 use Rattle.aig_text.specs.declared.section.Section.TheVariants.{Latches}
 use Rattle.aig_text.proofs.Drafts.{drafted_is, drafted_stops, drafted_then}
 use Rattle.aig_text.proofs.Fillings.{can_add}
 use Rattle.aig_text.proofs.Lines.{line_unread, line_refused, line_done}
-use Rattle.aig_text.proofs.Rows.{one_row}
+use Rattle.aig_text.proofs.SectionRows.{one_row}
 use Rattle.aig_text.proofs.section.read_latch.Goals as goal
 
 pub returns-in_err-latch : goal.returns-in_err-latch
-returns-in_err-latch g c = line_unread 2 (of_latch c.args.before)
+returns-in_err-latch g c = line_unread true 2 (of_latch c.args.before)
     (HasLines Latches c.args.header.now c.args.before 1)
     c.requires.fill _ _
     c.from_residual.ensures.1 c.in_err-latch.ensures.reads
 
 pub returns-in_err-add_def : goal.returns-in_err-add_def
-returns-in_err-add_def g c = line_refused 2 (of_latch c.args.before)
+returns-in_err-add_def g c = line_refused true 2 (of_latch c.args.before)
     (HasLines Latches c.args.header.now c.args.before 1)
     c.requires.fill _
-    c.in_ok-latch.ensures.reads c.in_ok-latch.ensures.forward c.add_def.ensures.frames 1 _ _
+    c.in_ok-latch.ensures.reads (λ b. c.in_ok-latch.ensures.forward) c.add_def.ensures.frames 1 _ _
     c.from_residual-in_err-add_def.ensures.1 (omega arith) c.in_err-add_def.ensures.drafts
 
 pub returns-in_err-add_use : goal.returns-in_err-add_use
-returns-in_err-add_use g c = line_refused 2 (of_latch c.args.before)
+returns-in_err-add_use g c = line_refused true 2 (of_latch c.args.before)
     (HasLines Latches c.args.header.now c.args.before 1)
     c.requires.fill _
-    c.in_ok-latch.ensures.reads c.in_ok-latch.ensures.forward c.add_use.ensures.frames 2 _ _
+    c.in_ok-latch.ensures.reads (λ b. c.in_ok-latch.ensures.forward) c.add_use.ensures.frames 2 _ _
     c.from_residual-in_err-add_use.ensures.1 (omega arith)
     (drafted_stops 1 c.requires.fill.draft c.in_ok-add_def.ensures.drafts
     c.in_err-add_use.ensures.drafts)
 
 pub returns : goal.returns
-returns g c = line_done 2 (of_latch c.args.before)
+returns g c = line_done true 2 (of_latch c.args.before)
     (HasLines Latches c.args.header.now c.args.before 1) c.requires.fill _
-    c.in_ok-latch.ensures.reads c.in_ok-latch.ensures.forward c.add_use.ensures.frames
+    c.in_ok-latch.ensures.reads (λ b. c.in_ok-latch.ensures.forward) c.add_use.ensures.frames
     (drafted_then (latch_def c.args.before c.in_ok-latch.latch ∷ []) [] [] [] []
     (latch_use c.args.before c.in_ok-latch.latch ∷ [])
     c.in_ok-add_def.ensures.drafts c.in_ok-add_use.ensures.drafts)

@@ -1,7 +1,8 @@
 use Rattle.std.proofs.Common.{◌≡◌, ℕ, false, get_or, sym, subst, length, ◌∙◌, arith, length-take-le}
 use Rattle.em_record.specs.Order.{is_below}
 use Rattle.em_frames.specs.Device.{zero_record}
-use Rattle.em_heap.proofs.Heaps.{halves, ascends_by_next}
+use Rattle.em_record.proofs.OrderLaws.{ascends_by_next}
+use Rattle.em_heap.proofs.Heaps.{halves}
 use Rattle.em_heap.proofs.front.halve.Goals as goal
 
 pub returns : goal.returns

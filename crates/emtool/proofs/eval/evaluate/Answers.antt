@@ -1,4 +1,5 @@
 use Rattle.em_space.specs.Seen.{seen}
+use Rattle.em_plain.proofs.Calls.{most_called}
 use Rattle.aig_text.proofs.Lines.{of_error}
 use Rattle.emtool.specs.Evaluation.{RunsSteps}
 use Rattle.emtool.proofs.EvalEnds.{can_make, evaluated_by, made_by, runs_all, runs_none, still_ordered, unmade_by}
@@ -38,5 +39,7 @@ returns g c =
           (made_by {a = a} c.requires.can n.lends n.unmoved n.counts n.blocks v.begins) v.meaning steps
           c.abandon.ensures.leaves c.send_rest.ensures.sends g.met.W.Sink.rule
           (g.met.W.Sink.is_state c.args.out.now))
-          c.requires.can.packed steps.frames.is.most_most;
+          c.requires.can.packed
+          (most_called (seen g.D.Device.state c.run_steps-done.new.rig)
+          c.run_steps-done.new.evaluator.queue steps.sound steps.frames.is);
     }

@@ -3,6 +3,7 @@ use Rattle.em_record.specs.Shape.{payload_of}
 use Rattle.em_io.specs.declared.shelf.Slot.TheVariants.{First, Second}
 use Rattle.em_space.specs.Seen.{seen}
 use Rattle.em_space.proofs.Within.{touches_within}
+use Rattle.aig_order.specs.ByPass.{by_pass}
 use Rattle.emtool.specs.Asked.{asked_of_eval}
 use Rattle.emtool.specs.Due.{text_in}
 use Rattle.emtool.specs.Stop.{fault_counts}
@@ -161,7 +162,8 @@ returns-in-Ok-evaluate-clause-runs g c =
     let spells = r.reads.answers.spells in
     record {
       ended = steps_done tells told x y z w t edges same given spells _ _ refl
-          (λ e h. v.prints e (r.goes.touches.told ∙ h) (spells e).circuit ((spells e).ranks h)) v.ends;
+          (λ e h. v.prints e (r.goes.touches.told ∙ h) (spells e).circuit (by_pass (spells e).circuit)
+          ((spells e).orders h).is) v.ends;
       caused = search rules;
       opens = opens_eval tells told circuit stimulus a last Done
           (v.reads.leaves.text ∙ p.leaves.text ∙ text)
@@ -225,9 +227,11 @@ returns-in-Err-evaluate-clause-runs g c =
           (steps_cause tells told x y z w t edges same given spells faults later s u stop refl
           r.goes.touches v.ends v.cause)
           (steps_fills tells told x y z w t edges same given spells last.slot u stop some
-          (λ e. rw first (own.size e)) (λ e. rw (first, v.goes.touches.shape) (own.most e)) v.full)
+          (λ e. rw first (own.size e))
+          (λ e h. rw (first, v.goes.touches.shape) (own.most e h)) touches.told v.full)
           (steps_stopped tells told x y z w t edges same given spells _ _ refl stop
-          (λ e h. v.prints e (r.goes.touches.told ∙ h) (spells e).circuit ((spells e).ranks h))));
+          (λ e h. v.prints e (r.goes.touches.told ∙ h) (spells e).circuit (by_pass (spells e).circuit)
+          ((spells e).orders h).is)));
       caused = rw (c.status_of-in-Err-evaluate.ensures.is)
           (steps_caused _ _ (g.H.Shelf.faults c.open-2.new.self) (g.W.Sink.faults c.args.out.now) t u
           stop (search rules) (search rules) (search rules) (search rules) refl v.cause);

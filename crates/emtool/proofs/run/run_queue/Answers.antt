@@ -6,6 +6,7 @@ use Rattle.em_space.specs.Queue.{QueueCounts}
 use Rattle.em_space.specs.Seen.{seen}
 use Rattle.em_space.proofs.Steps.{touches_then}
 use Rattle.em_plain.specs.ScanQueue.{counts_of}
+use Rattle.em_plain.proofs.Calls.{most_called}
 use Rattle.emtool.specs.CommandLine.{first_fault}
 use Rattle.emtool.specs.Asked.{asked_of_file}
 use Rattle.emtool.specs.FileDue.{status_for}
@@ -92,7 +93,7 @@ returns-in-Err-clause-runs g c =
           (queue_stops g.H.Shelf.tells kind.Queue text faults later first mid last counts stop l cause))
           (file_fills g.H.Shelf.tells kind.Queue text after.slot last stop
           (queue_filled g.H.Shelf.tells text (after.slot First).left mid last counts stop some l r.full
-          r.frames.most_most calls))
+          (most_called mid c.serve-done.new.queue r.calls_only.sound r.frames) calls))
           (record {
             fault = λ t d. rw c.in-Err.is at (answers t d).fault;
             part = λ t d. (answers t d).part;

@@ -1,0 +1,11 @@
+//! Reads circuits of the AIGER format in its binary form, by the reader of `aig_text`: a text becomes
+//! three chains of records, or the text's first fault is found, unless the shelf or the rig gives up
+//! first.
+#![tactic(auto)]
+
+mod binary;
+mod delta;
+mod line;
+
+pub use aig_text::{AigKind, AigStop, Header, Parts};
+pub use binary::read_binary;

@@ -1,0 +1,222 @@
+-- The queue is ended after the edges between ranks were made, or abandoned.
+use Rattle.std.proofs.Common.{◌≡◌, ℕ, ◌+◌, ◌≤◌, inl, inr, IfSome, List, [], ◌++◌, IsTrue, ap, sym, ◌∙◌, arith}
+use Rattle.em_record.specs.Shape.{ShapeNumbers}
+use Rattle.em_space.specs.Held.{Holds}
+use Rattle.em_space.specs.Ledger.{Session}
+use Rattle.em_space.specs.Queue.{Ended, Ends, ending_most, IsRising, IsRisingRoom, Leaves, Pays}
+use Rattle.em_space.specs.Rig.{RigState, Touches}
+use Rattle.em_space.specs.declared.queue.Queue.{Ghosts as QueueGhosts}
+use Rattle.em_space.proofs.Lists.{apart_sym, distinct_apart}
+use Rattle.em_space.proofs.Paying.{pays_more, pays_then}
+use Rattle.em_space.proofs.Queues.{most_at_end}
+use Rattle.em_space.proofs.Sessions.{session_as, session_then}
+use Rattle.em_space.proofs.Within.{touches_within}
+use Rattle.em_chain.specs.Chain.{ChainStays, chain_blocks}
+use Rattle.em_chain.proofs.Laws.{chain_stays}
+use Rattle.aig_defs.specs.declared.circuit.Gate.{Gate}
+use Rattle.aig_defs.specs.Circuit.{Circuit}
+use Rattle.aig_defs.specs.Founded.{passes_of}
+use Rattle.aig_edges.specs.Build.{UsesUp}
+use Rattle.aig_edges.specs.Graph.{IsOrdered, IsOrderedOf, graph_blocks, graph_size, ordered_blocks}
+use Rattle.aig_edges.specs.declared.graph.Graph.{Graph}
+use Rattle.aig_edges.specs.declared.graph.Ordered.{Ordered}
+use Rattle.aig_edges.proofs.Ended.{allowed, ended_roomy, ended_within, roomy, shares_gone, still_allowed}
+use Rattle.aig_order.specs.ByPass.{by_pass}
+use Rattle.aig_order.specs.FindsOrder.{DoneUntil, OrdersBeside}
+use Rattle.aig_order.specs.OrderGraph.{OrderCosts, OrdersGraph, order_calls, order_moves, order_peak, order_run}
+
+-- the blocks of a queue and of a graph
+abbrev pub held_at : {Q : Type 0} → QueueGhosts Q → Q → RigState → Graph → List ℕ
+held_at q x s g = q.blocks x s ++ graph_blocks s g
+
+-- The queue was abandoned,
+pub up_left : {Q : Type 0} (q : QueueGhosts Q) (x y : Q) {s u v : RigState} (g : Graph)
+    → DoneUntil q x y s u g → Leaves (q.counts y) u v
+    → UsesUp (held_at q x s g) (q.counts x) s v
+up_left q x y {s} {u} {v} g h l = record {
+  sound = l.sound;
+  touches = touches_within s u v (held_at q x s g) [] h.touches
+      (record { off = λ z j i o. tt }) l.touches;
+  frames = shares_gone (q.counts x) (q.counts y) s.pool u.pool v.pool h.shares l.frames;
+}
+
+pub costs_left : {Q : Type 0} (q : QueueGhosts Q) (x y : Q) {s u v : RigState} (g : Graph)
+    → DoneUntil q x y s u g → q.HasItsFrames y u → Leaves (q.counts y) u v
+    → IfSome q.allowance IsRising
+    → IfSome q.allowance (λ f. (q.counts y).spent ≤ f u.pool.shape (q.counts y).n (q.counts y).k)
+    → IfSome q.room IsRisingRoom
+    → IfSome q.room (λ f. (q.counts y).most ≤ f u.pool.shape (q.counts y).k)
+    → OrderCosts q (q.counts x) s v g
+costs_left q x y {s} {u} {v} g h has l rising spends rising_room fits z c i =
+    let r = passes_of c in
+    let calls = order_calls r g.header in
+    let run = order_run g.header in
+    let e = h.shares.shape in
+    let w = h.within z c i in
+    let n = ap (λ (k : RigState). k.moves) l.same in
+    let m = ap (λ (k : RigState). k.most) l.same in
+    record {
+      last = y;
+      then = u;
+      gone = inr l;
+      frames = has;
+      shape = e;
+      called = w.called;
+      most =
+          let top = most_at_end q.room u.pool.shape (q.counts y) fits in
+          let same = ap (λ (k : ShapeNumbers). ending_most q.room k (q.counts y)) e in
+          omega (arith, w.most, m, top, same);
+      moves = w.moves;
+      all_moves = allowed q.allowance s u v (q.counts x) (q.counts y) calls run (order_moves r s g) e
+          w.called w.moves rising (still_allowed q.allowance u v (q.counts y) n spends);
+      room = roomy q.room s u v (q.counts x) (q.counts y) calls run (graph_size g) (order_peak s g) e
+          w.called w.most m rising_room fits;
+    }
+
+-- Edges between ranks whose blocks were left alone.
+pub record OrderedStays (s t : RigState) (o : Ordered) : Type 0 where
+  pub is : IsOrdered t o
+  pub blocks : IsTrue s.device.told → ordered_blocks t o ≡ ordered_blocks s o
+  pub of : IsTrue s.device.told → (c : Circuit) (order : List Gate) → IsOrderedOf s o c order
+      → IsOrderedOf t o c order
+
+still_ordered : {s t : RigState} (o : Ordered) (c : Circuit) (order : List Gate)
+    → ChainStays s t o.edges → IsTrue s.device.told → IsOrderedOf s o c order
+    → IsOrderedOf t o c order
+still_ordered o c order w z k =
+    record { header = k.header; is = k.is; ordered = k.ordered; edges = w.items z ∙ k.edges }
+
+pub ordered_stays : {s t : RigState} (ks : List ℕ) (o : Ordered) → Touches ks s t
+    → (IsTrue s.device.told → Holds s (ks ++ ordered_blocks s o)) → IsOrdered s o
+    → OrderedStays s t o
+ordered_stays {s} {t} ks o h n i =
+    let es = chain_blocks s o.edges in
+    let w = chain_stays ks s t o.edges h
+    (λ z. apart_sym ks es (distinct_apart ks es ((n z).distinct z))) i.edges.is in
+    record {
+      is = record {
+        header = i.header;
+        edges = record { is = w.is; count_is = i.edges.count_is };
+        stands = λ u.
+            let z : IsTrue s.device.told = sym h.told ∙ u in
+            let k = i.stands z in
+            record {
+              circuit = k.circuit;
+              order = k.order;
+              is = still_ordered o k.circuit k.order w z k.is;
+            };
+      };
+      blocks = w.blocks;
+      of = λ z c order k. still_ordered o c order w z k;
+    }
+
+-- or ended after the edges were made.
+pub record EndedAfter {Q : Type 0} (q : QueueGhosts Q) (x : Q) (s u v : RigState) (g : Graph)
+    (o : Ordered) : Type 0 where
+  pub session : Session (held_at q x s g) s v (ordered_blocks v o)
+  pub stays : OrderedStays u v o
+
+pub ended_after : {Q : Type 0} (q : QueueGhosts Q) (x y : Q) {s u v : RigState} {o : Ordered}
+    (g : Graph) → OrdersBeside q x y s u g o
+    → Ends q.allowance q.room (q.blocks y u) (q.counts y) u v → EndedAfter q x s u v g o
+ended_after q x y {s} {u} {v} {o} g b e =
+    let ks = q.blocks y u in
+    let es = ordered_blocks u o in
+    let all = b.session in
+    let gone : Session ks u v [] = record {
+      sound = e.sound;
+      touches = e.touches;
+      within = record { off = λ z j i o. tt };
+      holds = λ z. record { in_use = tt; distinct = λ d. tt };
+    } in
+    let w = ordered_stays ks o e.touches (λ z. all.holds (sym all.touches.told ∙ z)) b.is in
+    record {
+      session = session_as (ordered_blocks v o) (session_then ks [] es all gone)
+          (λ z. w.blocks (all.touches.told ∙ z));
+      stays = w;
+    }
+
+pub up_ended : {Q : Type 0} (q : QueueGhosts Q) (x y : Q) {s u v : RigState} {o : Ordered}
+    (g : Graph) → OrdersBeside q x y s u g o
+    → Ends q.allowance q.room (q.blocks y u) (q.counts y) u v
+    → UsesUp (held_at q x s g) (q.counts x) s v
+up_ended q x y {s} {u} {v} g b e = record {
+  sound = e.sound;
+  touches = (ended_after q x y g b e).session.touches;
+  frames = shares_gone (q.counts x) (q.counts y) s.pool u.pool v.pool b.done.shares e.frames;
+}
+
+pub costs_ended : {Q : Type 0} (q : QueueGhosts Q) (x y : Q) {s u v : RigState} {o : Ordered}
+    (g : Graph) → OrdersBeside q x y s u g o → q.HasItsFrames y u
+    → Ends q.allowance q.room (q.blocks y u) (q.counts y) u v
+    → IfSome q.allowance IsRising → IfSome q.room IsRisingRoom
+    → IfSome q.room (λ f. (q.counts y).most ≤ f u.pool.shape (q.counts y).k)
+    → OrderCosts q (q.counts x) s v g
+costs_ended q x y {s} {u} {v} {o} g b has l rising rising_room fits z c i =
+    let h = b.done in
+    let r = passes_of c in
+    let calls = order_calls r g.header in
+    let run = order_run g.header in
+    let e = h.shares.shape in
+    let w = h.within z c i in
+    let least : o.edges.blocks ≤ order_peak s g = omega (arith, b.room) in
+    record {
+      last = y;
+      then = u;
+      gone = inl l;
+      frames = has;
+      shape = e;
+      called = w.called;
+      most =
+          let top = most_at_end q.room u.pool.shape (q.counts y) fits in
+          let same = ap (λ (k : ShapeNumbers). ending_most q.room k (q.counts y)) e in
+          ended_within (ending_most q.room u.pool.shape (q.counts y)) s u v (q.counts x)
+          (q.counts y) (graph_size g) (order_peak s g) o.edges.blocks w.most b.used least top same
+          l.most;
+      moves = w.moves;
+      all_moves = allowed q.allowance s u v (q.counts x) (q.counts y) calls run (order_moves r s g) e
+          w.called w.moves rising l.spent;
+      room = ended_roomy q.room s u v (q.counts x) (q.counts y) calls run (graph_size g)
+          (order_peak s g) o.edges.blocks e w.called w.most b.used least rising_room fits l.most;
+    }
+
+-- They are those of each circuit whose graph it was,
+pub orders_graph : {Q : Type 0} (q : QueueGhosts Q) (x y : Q) {s u v : RigState} {o : Ordered}
+    (g : Graph) → OrdersBeside q x y s u g o
+    → Ends q.allowance q.room (q.blocks y u) (q.counts y) u v
+    → OrdersGraph (held_at q x s g) s v g o
+orders_graph q x y {o = o} g b e =
+    let a = ended_after q x y g b e in
+    record {
+      is = a.stays.is;
+      header = b.header;
+      blocks = a.session;
+      room = b.room;
+      passes = b.passes;
+      stands = λ z c i d.
+          let each = b.stands z c i d in
+          record {
+            is = a.stays.of (b.session.touches.told ∙ z) c (by_pass c) each.is;
+            passes = each.passes;
+          };
+    }
+
+-- all their blocks are stored,
+pub stores_ended : {Q : Type 0} (q : QueueGhosts Q) (x y : Q) {s u v : RigState} {o : Ordered}
+    (g : Graph) → OrdersBeside q x y s u g o → Ended (q.counts y) u v → u.moves ≤ v.moves
+    → (v.used + ((q.counts x).blocks + graph_size g) ≡ s.used + o.edges.blocks)
+    × Pays (q.counts x).unstored 0 s v
+stores_ended q x y g b e later = (
+  (let used = b.used in let gone = e.used in omega (arith, used, gone)),
+  pays_then b.pays e.pays later,
+)
+
+-- or the end was refused.
+pub pays_unended : {Q : Type 0} (q : QueueGhosts Q) (x y : Q) {s u v : RigState} {o : Ordered}
+    (g : Graph) → OrdersBeside q x y s u g o
+    → Pays (q.counts y).unstored u.pool.shape.frames u v → u.moves ≤ v.moves
+    → Pays (q.counts x).unstored (s.pool.shape.frames + 2) s v
+pays_unended q x y {s} {u} g b e later =
+    let shape : u.pool.shape.frames ≡ s.pool.shape.frames =
+    ap (λ (z : ShapeNumbers). z.frames) b.session.touches.shape in
+    pays_then b.pays (pays_more {q = s.pool.shape.frames + 2} e (omega (arith, shape))) later

@@ -1,0 +1,80 @@
+use Rattle.std.proofs.Common.{Result}
+use Rattle.em_space.specs.Seen.{seen}
+use Rattle.aig_text.specs.declared.stop.AigStop.{AigStop}
+use Rattle.aig_text.proofs.Lines.{of_error}
+use Rattle.aig_order.specs.OrderGraph.{StoresOrdered}
+use Rattle.aig_edges.specs.declared.graph.Ordered.{Ordered}
+use Rattle.aig_edges.proofs.Ended.{cause_left, pays_left}
+use Rattle.aig_order.proofs.OrderEnded.{orders_graph, costs_ended, costs_left, pays_unended, stores_ended, up_ended, up_left}
+use Rattle.aig_order.proofs.ordering.order.Goals as goal
+
+pub returns-in_err-end-in-Ok-clause-uses_up : goal.returns-in_err-end-in-Ok-clause-uses_up
+returns-in_err-end-in-Ok-clause-uses_up g c =
+    up_ended g.Q.Queue c.args.queue c.find_order.new.queue c.args.graph c.in-Ok.ensures.finds
+    c.end.ensures.ends
+
+pub returns-in_err-end-in-Ok-clause-costs : goal.returns-in_err-end-in-Ok-clause-costs
+returns-in_err-end-in-Ok-clause-costs g c =
+    let u = seen g.D.Device.state c.find_order.new.rig in
+    costs_ended g.Q.Queue c.args.queue c.find_order.new.queue c.args.graph c.in-Ok.ensures.finds
+    c.in-Ok.ensures.frames c.end.ensures.ends g.met.Q.Queue.rising g.met.Q.Queue.rising_room
+    (g.met.Q.Queue.fits c.find_order.new.queue u c.in-Ok.ensures.frames)
+
+pub returns-in_ok-end-in-Ok-clause-uses_up : goal.returns-in_ok-end-in-Ok-clause-uses_up
+returns-in_ok-end-in-Ok-clause-uses_up g c =
+    up_ended g.Q.Queue c.args.queue c.find_order.new.queue c.args.graph c.in-Ok.ensures.finds
+    c.end.ensures.ends
+
+pub returns-in_ok-end-in-Ok-clause-costs : goal.returns-in_ok-end-in-Ok-clause-costs
+returns-in_ok-end-in-Ok-clause-costs g c =
+    let u = seen g.D.Device.state c.find_order.new.rig in
+    costs_ended g.Q.Queue c.args.queue c.find_order.new.queue c.args.graph c.in-Ok.ensures.finds
+    c.in-Ok.ensures.frames c.end.ensures.ends g.met.Q.Queue.rising g.met.Q.Queue.rising_room
+    (g.met.Q.Queue.fits c.find_order.new.queue u c.in-Ok.ensures.frames)
+
+pub returns-in_ok-end-in-Ok-clause-orders : goal.returns-in_ok-end-in-Ok-clause-orders
+returns-in_ok-end-in-Ok-clause-orders g c =
+    orders_graph g.Q.Queue c.args.queue c.find_order.new.queue c.args.graph c.in-Ok.ensures.finds
+    c.end.ensures.ends
+
+pub returns-in_ok-end-in-Ok-clause-stores : goal.returns-in_ok-end-in-Ok-clause-stores
+returns-in_ok-end-in-Ok-clause-stores g c =
+    stores_ended g.Q.Queue c.args.queue c.find_order.new.queue c.args.graph c.in-Ok.ensures.finds
+    c.in_ok-end-in-Ok.ensures.ended c.end.ensures.ends.touches.moves
+
+pub returns-in_err-end-in-Ok-clause-stores : goal.returns-in_err-end-in-Ok-clause-stores
+returns-in_err-end-in-Ok-clause-stores g c =
+    of_error (λ (z : Result Ordered AigStop). StoresOrdered (g.Q.Queue.counts c.args.queue) (seen
+    g.D.Device.state c.args.rig.now) (seen g.D.Device.state c.end.new.rig) c.args.graph z) _ _
+    c.from_residual.ensures.1 (pays_unended g.Q.Queue c.args.queue c.find_order.new.queue c.args.graph
+    c.in-Ok.ensures.finds c.in_err-end-in-Ok.ensures.owes c.end.ensures.ends.touches.moves)
+
+pub returns-in-Err-clause-uses_up : goal.returns-in-Err-clause-uses_up
+returns-in-Err-clause-uses_up g c =
+    up_left g.Q.Queue c.args.queue c.find_order.new.queue c.args.graph c.in-Err.ensures.finds.done
+    c.abandon.ensures.leaves
+
+pub returns-in-Err-clause-stops : goal.returns-in-Err-clause-stops
+returns-in-Err-clause-stops g c =
+    c.in-Err.ensures.finds.stops
+
+pub returns-in-Err-clause-costs : goal.returns-in-Err-clause-costs
+returns-in-Err-clause-costs g c =
+    let u = seen g.D.Device.state c.find_order.new.rig in
+    costs_left g.Q.Queue c.args.queue c.find_order.new.queue c.args.graph c.in-Err.ensures.finds.done
+    c.in-Err.ensures.frames c.abandon.ensures.leaves g.met.Q.Queue.rising (g.met.Q.Queue.spends
+    c.find_order.new.queue u c.in-Err.ensures.frames) g.met.Q.Queue.rising_room (g.met.Q.Queue.fits
+    c.find_order.new.queue u c.in-Err.ensures.frames)
+
+pub returns-in-Err-clause-stores : goal.returns-in-Err-clause-stores
+returns-in-Err-clause-stores g c =
+    pays_left g.Q.Queue c.args.queue c.find_order.new.queue c.in-Err.ensures.finds.pays
+    c.abandon.ensures.leaves
+
+pub returns-in-Err-clause-cause : goal.returns-in-Err-clause-cause
+returns-in-Err-clause-cause g c =
+    cause_left (seen g.D.Device.state c.args.rig.now) c.in-Err.stop c.abandon.ensures.leaves
+    c.in-Err.ensures.finds.cause
+
+pub abandon-requires-clause-sound : goal.abandon-requires-clause-sound
+abandon-requires-clause-sound g c = c.in-Err.ensures.finds.done.sound

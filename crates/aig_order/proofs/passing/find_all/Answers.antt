@@ -1,0 +1,102 @@
+use Rattle.std.proofs.Common.{◌≡◌, ◌≢◌, ◌+◌, ℕ, suc, Result, arith, subst, sym}
+use Rattle.em_space.specs.Seen.{seen}
+use Rattle.em_space.specs.declared.fault.EmFault.{EmFault}
+use Rattle.aig_edges.proofs.Looks.{of_fault}
+use Rattle.aig_order.specs.declared.passing.Found.{Found}
+use Rattle.aig_order.specs.Findings.{FindsAll, FindsTo}
+use Rattle.aig_order.proofs.Finds.{Passed, finds_all, finds_end, finds_stop, passed_can, passed_next, passed_none}
+use Rattle.aig_order.proofs.passing.find_all.Goals as goal
+
+pub loop-init : goal.loop-init
+loop-init g c =
+    let x = c.args.queue.now in
+    let s = seen g.D.Device.state c.args.rig.now in
+    record {
+      queue = c.requires.is;
+      most = omega arith;
+      passes = omega arith;
+      passed = passed_none g.Q.Queue c.args.header.now c.args.list x
+          (g.met.Q.Queue.blocks_most x s c.requires.is) c.requires.can;
+    }
+
+pub sweep_twice-requires-clause-can : goal.sweep_twice-requires-clause-can
+sweep_twice-requires-clause-can g c =
+    passed_can g.Q.Queue c.args.header.now c.args.list c.loop.counter _ c.args.queue.now _ _
+    c.requires.header c.loop-test.true c.requires.can c.loop.invariant.passed
+
+pub returns-in_err-swept-clause-finds : goal.returns-in_err-swept-clause-finds
+returns-in_err-swept-clause-finds g c =
+    let x = c.args.queue.now in
+    let z = c.sweep_twice.new.queue in
+    let s = seen g.D.Device.state c.args.rig.now in
+    let u = seen g.D.Device.state c.sweep_twice.new.rig in
+    of_fault (λ (r : Result Found EmFault). FindsTo g.Q.Queue c.args.header.now x z c.args.list s u r)
+    _ _ c.from_residual.ensures.1
+    (finds_stop g.Q.Queue c.args.header.now c.args.list c.loop.counter c.loop.next x c.loop.queue z
+    c.loop.list c.requires.can c.loop.invariant.passed c.in_err-swept.ensures.sweeps)
+
+pub returns-then-swept-next-clause-finds : goal.returns-then-swept-next-clause-finds
+returns-then-swept-next-clause-finds g c =
+    let x = c.args.queue.now in
+    let z = c.sweep_twice.new.queue in
+    let s = seen g.D.Device.state c.args.rig.now in
+    let u = seen g.D.Device.state c.sweep_twice.new.rig in
+    let still = c.if-swept-next.true in
+    let same : c.in_ok-swept.swept.next ≡ c.loop.next = omega (arith, still) in
+    let all : FindsAll g.Q.Queue c.args.header.now x z c.args.list (record {
+      list = c.in_ok-swept.swept.list;
+      passes = c.loop.counter;
+      next = c.loop.next;
+    }) s u =
+    finds_end g.Q.Queue c.args.header.now c.args.list c.loop.counter c.loop.next x c.loop.queue z
+    c.loop.list c.in_ok-swept.swept c.loop-test.true c.requires.can c.loop.invariant.passed
+    c.in_ok-swept.ensures.sweeps same in
+    subst (λ (n : ℕ). FindsAll g.Q.Queue c.args.header.now x z c.args.list (record {
+      list = c.in_ok-swept.swept.list;
+      passes = n;
+      next = c.loop.next;
+    }) s u) (sym c.loop.invariant.passes) all
+
+pub loop-preserved : goal.loop-preserved
+loop-preserved g c =
+    let x = c.args.queue.now in
+    let z = c.sweep_twice.new.queue in
+    let s = seen g.D.Device.state c.args.rig.now in
+    let u = seen g.D.Device.state c.sweep_twice.new.rig in
+    let e = c.in_ok-swept.ensures in
+    let other = c.if-swept-next.false in
+    let more : suc c.loop.counter ≡ c.loop.counter + 1 = omega arith in
+    let next : c.in_ok-swept.swept.next ≢ c.loop.next = λ same. absurd (omega (arith, same, other)) in
+    let passed = passed_next g.Q.Queue c.args.header.now c.args.list c.loop.counter c.loop.next x
+    c.loop.queue z c.loop.list c.in_ok-swept.swept c.requires.can c.loop.invariant.passed e.sweeps next
+    in
+    record {
+      queue = e.queue;
+      most = omega (arith, c.loop-test.true);
+      passes = omega (arith, c.loop.invariant.passes);
+      passed = subst (λ (n : ℕ). Passed g.Q.Queue c.args.header.now c.args.list n
+          c.in_ok-swept.swept.next x z c.in_ok-swept.swept.list s u) more passed;
+    }
+
+pub returns-clause-finds : goal.returns-clause-finds
+returns-clause-finds g c =
+    let x = c.args.queue.now in
+    let s = seen g.D.Device.state c.args.rig.now in
+    let t = seen g.D.Device.state c.loop.rig in
+    let end : c.loop.counter ≡ c.args.header.now.gates =
+    omega (arith, c.loop-test.false, c.loop.invariant.most) in
+    let all : FindsAll g.Q.Queue c.args.header.now x c.loop.queue c.args.list (record {
+      list = c.loop.list;
+      passes = c.loop.counter;
+      next = c.loop.next;
+    }) s t =
+    finds_all g.Q.Queue c.args.header.now c.args.list c.loop.counter c.loop.next x c.loop.queue
+    c.loop.list end c.loop.invariant.passed in
+    subst (λ (n : ℕ). FindsAll g.Q.Queue c.args.header.now x c.loop.queue c.args.list (record {
+      list = c.loop.list;
+      passes = n;
+      next = c.loop.next;
+    }) s t) (sym c.loop.invariant.passes) all
+
+pub returns-clause-frames : goal.returns-clause-frames
+returns-clause-frames g c = g.met.Q.Queue.frames_of c.loop.queue _ c.loop.invariant.queue

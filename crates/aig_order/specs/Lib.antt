@@ -1,0 +1,13 @@
+pub mod Adjacent
+pub mod ByPass
+pub mod Findings
+pub mod FindsOrder
+pub mod LeftGates
+pub mod Merges
+pub mod OrderGraph
+pub mod PassLists
+pub mod Passes
+pub mod SweepCalls
+pub mod SweepLists
+pub mod SweepPairs
+pub mod Sweeps

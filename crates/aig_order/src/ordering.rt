@@ -1,0 +1,107 @@
+//! Orders the gates of a circuit by the passes that find them, and makes its edges between ranks:
+//!
+//!     sources, gates, edges  become an adjacency list, in which no gate has a rank
+//!     passes                 give each gate that they find the next rank
+//!     a gate without a rank  is on a cycle, or uses one
+//!     ranks                  are sent along edges, and these are sorted
+
+ghost use Rattle.std.specs.Prelude.{◌++◌, IfOk, IsTrue, OnOk};
+ghost use Rattle.em_space.specs.Held.{Holds};
+ghost use Rattle.em_space.specs.Rig.{Cause, Sound};
+ghost use Rattle.em_space.specs.Seen.{seen};
+ghost use Rattle.aig_text.specs.Ascii.{IfEm};
+ghost use Rattle.aig_edges.specs.Build.{UsesUp};
+ghost use Rattle.aig_edges.specs.Graph.{IsGraph, graph_blocks};
+ghost use Rattle.aig_order.specs.FindsOrder.{OrdersTo};
+ghost use Rattle.aig_order.specs.OrderGraph.{BeginsOrdering, OfDefinedCircuit, OrderCosts, OrdersGraph, StopsOrdering, StoresOrdered};
+
+use crate::merging::merge_graph;
+use crate::passing::find_all;
+use crate::ranking::{left_below, rank_edges};
+use aig_defs::AigKind;
+use aig_edges::{Graph, Ordered};
+use aig_text::AigStop;
+use em_frames::Device;
+use em_space::{Queue, Rig};
+
+/// The edges between ranks of a graph. A stop is a cycle, or the fault of a call of the queue or of one
+/// on a list; after it the queue may only be abandoned.
+fn find_order<D: Device, Q: Queue>(
+    rig: &mut Rig<'_, D>,
+    graph: Graph,
+    queue: &mut Q,
+) -> Result<Ordered, AigStop>
+    requires sound { Sound (seen D.state rig.old) }
+    requires graph { IsGraph (seen D.state rig.old) graph }
+    requires defined { IsTrue (seen D.state rig.old).device.told
+        → OfDefinedCircuit (seen D.state rig.old) graph }
+    requires queue { Q.IsQueue queue.old (seen D.state rig.old) }
+    requires begins { BeginsOrdering graph.header (Q.counts queue.old) (seen D.state rig.old) }
+    requires holds { IsTrue (seen D.state rig.old).device.told → Holds (seen D.state rig.old)
+        (Q.blocks queue.old (seen D.state rig.old) ++ graph_blocks (seen D.state rig.old) graph) }
+    ensures frames { Q.HasItsFrames queue.new (seen D.state rig.new) }
+    ensures queue { OnOk result (Q.IsQueue queue.new (seen D.state rig.new)) }
+    ensures finds { OrdersTo Q.Queue queue.old queue.new (seen D.state rig.old)
+        (seen D.state rig.new) graph result }
+{
+    let header = graph.header;
+    let count = graph.edges.len();
+    let list = merge_graph(rig, graph)?;
+    let found = find_all(rig, queue, list, &header)?;
+    let end = 1 + header.inputs + header.latches + header.gates;
+    if let Some(place) = left_below(rig, &found.list, found.next, end)? {
+        return Err(AigStop::Fault {
+            kind: AigKind::Cyclic,
+            place,
+        });
+    }
+    let edges = rank_edges(rig, queue, found.list, &header, count)?;
+    Ok(Ordered {
+        header,
+        passes: found.passes,
+        edges,
+    })
+}
+
+/// Orders the gates of a circuit by the passes that find them, and makes its edges between ranks. The
+/// queue, which has no item, is used up. The graph's blocks are released, or are those of the edges.
+///
+/// It stops with `Cyclic` at the least variable of a gate that is on a cycle of gates or needs the value
+/// of one that is, and with `Em` if a call on the rig or of the queue gave up.
+pub fn order<D: Device, Q: Queue>(
+    rig: &mut Rig<'_, D>,
+    graph: Graph,
+    mut queue: Q,
+) -> Result<Ordered, AigStop>
+    requires sound { Sound (seen D.state rig.old) }
+    requires graph { IsGraph (seen D.state rig.old) graph }
+    requires defined { IsTrue (seen D.state rig.old).device.told
+        → OfDefinedCircuit (seen D.state rig.old) graph }
+    requires queue { Q.IsQueue queue (seen D.state rig.old) }
+    requires begins { BeginsOrdering graph.header (Q.counts queue) (seen D.state rig.old) }
+    requires holds { IsTrue (seen D.state rig.old).device.told → Holds (seen D.state rig.old)
+        (Q.blocks queue (seen D.state rig.old) ++ graph_blocks (seen D.state rig.old) graph) }
+    ensures uses_up { UsesUp (Q.blocks queue (seen D.state rig.old)
+        ++ graph_blocks (seen D.state rig.old) graph)
+        (Q.counts queue) (seen D.state rig.old) (seen D.state rig.new) }
+    ensures orders { IfOk result (OrdersGraph (Q.blocks queue (seen D.state rig.old)
+        ++ graph_blocks (seen D.state rig.old) graph)
+        (seen D.state rig.old) (seen D.state rig.new) graph) }
+    ensures stops { StopsOrdering (seen D.state rig.old) graph result }
+    ensures costs { OrderCosts Q.Queue (Q.counts queue) (seen D.state rig.old)
+        (seen D.state rig.new) graph }
+    ensures stores { StoresOrdered (Q.counts queue) (seen D.state rig.old) (seen D.state rig.new)
+        graph result }
+    ensures cause { IfEm result (Cause (seen D.state rig.old) (seen D.state rig.new)) }
+{
+    match find_order(rig, graph, &mut queue) {
+        Ok(ordered) => {
+            queue.end(rig)?;
+            Ok(ordered)
+        }
+        Err(stop) => {
+            queue.abandon(rig);
+            Err(stop)
+        }
+    }
+}

@@ -1,0 +1,12 @@
+pub mod Moves
+pub mod Stored
+pub mod Tested
+pub mod Framed
+pub mod Nodes
+pub mod Halves
+pub mod Grown
+pub mod Answered
+pub mod Trees
+pub mod Upwards
+pub mod NewRoots
+pub mod Stays

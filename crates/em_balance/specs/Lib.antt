@@ -1,0 +1,4 @@
+pub mod Node
+pub mod Loaded
+pub mod Stored
+pub mod Effects

@@ -1,0 +1,14 @@
+pub mod Books
+pub mod Counters
+pub mod Descents
+pub mod Effects
+pub mod ExtQueue
+pub mod Fat
+pub mod Fees
+pub mod Held
+pub mod Outline
+pub mod Paid
+pub mod Parts
+pub mod Shares
+pub mod Sizes
+pub mod Spots

@@ -1,0 +1,94 @@
+#!/usr/bin/env python3
+"""Checks the rows of `eval` without the program: the evaluator of aiger.py must give what each row says, the two forms
+of a circuit must spell the same circuit, and the made tables must be those that circuits.py makes.
+
+tests/tools/check.py
+"""
+import glob
+import os
+import re
+import sys
+from importlib.machinery import SourceFileLoader
+
+sys.dont_write_bytecode = True
+HERE = os.path.dirname(os.path.abspath(__file__))
+TESTS = os.path.dirname(HERE)
+sys.path.insert(0, HERE)
+import aiger
+import circuits
+
+# what the evaluator can answer: it has no blocks, and writes where it is told
+COMMAND = re.compile(r"emtool eval(?: --(?:stats|block=\d+|frames=\d+))* ([a-z]+) ([a-z]+)")
+STATISTICS = re.compile(rb"moves \d+ peak \d+\n\Z")
+FORMS = re.compile(r"(.*), in (ASCII|binary)")
+
+
+def answered(row):
+    """What a row's circuit and stimulus are answered by, or None if the evaluator can't run its command."""
+    found = COMMAND.fullmatch(row.command)
+    if not found:
+        return None
+    output, message, code = aiger.answer(row.files.get(found[1]), row.files.get(found[2]))
+    return output.encode(), message.encode(), code
+
+
+def check_rows(rows):
+    """The number of rows that the evaluator ran, and what it found wrong."""
+    ran, wrong = 0, []
+    for row in rows:
+        found = answered(row)
+        if found and not row.message.startswith(b"emtool: usage"):
+            ran += 1
+            message = STATISTICS.sub(b"", row.message) if "--stats" in row.command else row.message
+            if found != (row.output, message, row.code or 0):
+                wrong.append(f"{row.place}: {row.title}: the evaluator answers {found[1:]}")
+    return ran, wrong
+
+
+def check_forms(rows):
+    """The number of circuits in both forms, and what is wrong with them."""
+    both, wrong, titles = 0, [], {}
+    for row in rows:
+        found = FORMS.fullmatch(row.title)
+        if found:
+            titles.setdefault(found[1], {})[found[2]] = row
+    for title, forms in titles.items():
+        if len(forms) != 2:
+            wrong.append(f"{title}: it stands in one form alone")
+            continue
+        both += 1
+        first, second = forms["ASCII"], forms["binary"]
+        spelled = [vars(aiger.circuit_of(it.files["c"])) for it in (first, second)]
+        if spelled[0] != spelled[1]:
+            wrong.append(f"{second.place}: {title}: the two forms spell other circuits")
+        if (first.files["s"], first.output) != (second.files["s"], second.output):
+            wrong.append(f"{second.place}: {title}: the two forms have other stimuli or outputs")
+    return both, wrong
+
+
+def check_made():
+    """The made tables that aren't what circuits.py makes."""
+    wrong = []
+    for name, text in circuits.tables().items():
+        with open(os.path.join(TESTS, name), encoding="utf-8") as it:
+            if it.read() != text:
+                wrong.append(f"tests/{name}: it isn't what tests/tools/circuits.py makes")
+    return wrong
+
+
+def main():
+    run = SourceFileLoader("run", os.path.join(TESTS, "run")).load_module()
+    wrong = check_made()
+    for table in sorted(glob.glob(os.path.join(TESTS, "rows", "*.rows"))):
+        rows = [it for it in run.rows_of(table) if it.command.startswith("emtool eval ")]
+        ran, found = check_rows(rows)
+        both, others = check_forms(rows)
+        wrong += found + others
+        if ran:
+            place = os.path.basename(table)
+            print(f"{place}: {ran} of {len(rows)} rows evaluated, {both} circuits in both forms")
+    print("".join(f"WRONG {it}\n" for it in wrong) + f"{len(wrong)} wrong")
+    return 1 if wrong else 0
+
+
+sys.exit(main())
