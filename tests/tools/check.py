@@ -1,6 +1,7 @@
 #!/usr/bin/env python3
-"""Checks the rows of `eval` without the program: the evaluator of aiger.py must give what each row says, the two forms
-of a circuit must spell the same circuit, and the made tables must be those that circuits.py makes.
+"""Checks the rows of `eval` and of `gen` without the program: the evaluator of aiger.py must give what each row says, the two
+forms of a circuit must spell the same circuit, the made tables must be those that circuits.py makes, and the summaries
+of made texts those of made.py.
 
 tests/tools/check.py
 """
@@ -16,6 +17,7 @@ TESTS = os.path.dirname(HERE)
 sys.path.insert(0, HERE)
 import aiger
 import circuits
+import made
 
 # what the evaluator can answer: it has no blocks, and writes where it is told
 COMMAND = re.compile(r"emtool eval(?: --(?:stats|block=\d+|frames=\d+))* ([a-z]+) ([a-z]+)")
@@ -76,17 +78,28 @@ def check_made():
     return wrong
 
 
+def check_summaries(rows):
+    """The number of rows with a summary of made texts, and those that have another one than made.py."""
+    found = [(row, made.wanted(row.command)) for row in rows if not row.code]
+    wrong = [f"{row.place}: {row.title}: made.py answers {it}" for row, it in found if it not in (None, row.output)]
+    return sum(it is not None for _, it in found), wrong
+
+
 def main():
     run = SourceFileLoader("run", os.path.join(TESTS, "run")).load_module()
-    wrong = check_made()
+    wrong, summaries = check_made(), 0
     for table in sorted(glob.glob(os.path.join(TESTS, "rows", "*.rows"))):
-        rows = [it for it in run.rows_of(table) if it.command.startswith("emtool eval ")]
+        rows = run.rows_of(table)
+        count, found = check_summaries(rows)
+        summaries, wrong = summaries + count, wrong + found
+        rows = [it for it in rows if it.command.startswith("emtool eval ")]
         ran, found = check_rows(rows)
         both, others = check_forms(rows)
         wrong += found + others
         if ran:
             place = os.path.basename(table)
             print(f"{place}: {ran} of {len(rows)} rows evaluated, {both} circuits in both forms")
+    print(f"{summaries} summaries of made texts")
     print("".join(f"WRONG {it}\n" for it in wrong) + f"{len(wrong)} wrong")
     return 1 if wrong else 0
 

@@ -1,2 +1,3 @@
+pub mod EitherForm
 pub mod Literals
 pub mod Powers

@@ -2,22 +2,18 @@
 use Rattle.std.proofs.Common.{◌≡◌, ℕ, ◌+◌, ◌≤◌, inl, inr, max, Option, None, Some, IfSome, List, [], ◌++◌, IsTrue, subst, ap, sym, ◌∙◌, arith}
 use Rattle.em_record.specs.Shape.{ShapeNumbers}
 use Rattle.em_frames.specs.Pool.{PoolCounts}
-use Rattle.em_space.specs.Held.{Apart, Holds}
+use Rattle.em_space.specs.Held.{Apart}
 use Rattle.em_space.specs.Ledger.{Session}
 use Rattle.em_space.specs.Queue.{Ended, Ends, ending_most, IsRising, IsRisingRoom, Leaves, Pays, QueueCounts, Shares}
 use Rattle.em_space.specs.Rig.{RigState, Cause, Touches}
 use Rattle.em_space.specs.declared.fault.EmFault.TheVariants.{DeviceFault, Full, Damaged}
 use Rattle.em_space.specs.declared.queue.Queue.{Ghosts as QueueGhosts}
-use Rattle.em_space.proofs.Held.{holds_kept}
-use Rattle.em_space.proofs.Lists.{apart_left, apart_right, apart_sym, distinct_apart}
+use Rattle.em_space.proofs.Lists.{apart_sym, distinct_apart}
 use Rattle.em_space.proofs.Paying.{pays_kept, pays_more, pays_then}
 use Rattle.em_space.proofs.Queues.{most_at_end}
 use Rattle.em_space.proofs.Sessions.{session_as, session_then}
 use Rattle.em_space.proofs.Within.{touches_within}
-use Rattle.em_chain.specs.Chain.{ChainStays, chain_blocks}
-use Rattle.em_chain.proofs.Laws.{chain_stays}
 use Rattle.em_queued.proofs.Queued.{shares_frames}
-use Rattle.aig_defs.specs.Circuit.{Circuit}
 use Rattle.aig_text.specs.Ascii.{IfEmStop}
 use Rattle.aig_text.specs.Parts.{parts_blocks}
 use Rattle.aig_text.specs.declared.parts.Parts.{Parts}
@@ -25,9 +21,10 @@ use Rattle.aig_text.specs.declared.stop.AigStop.{AigStop}
 use Rattle.aig_text.specs.declared.stop.AigStop.TheVariants as stop
 use Rattle.aig_edges.specs.Build.{UsesUp, parts_size}
 use Rattle.aig_edges.specs.BuildGraph.{BuildsGraph, CalledInRuns, SortCosts, sort_calls, sort_moves, sort_peak, sort_run}
-use Rattle.aig_edges.specs.Graph.{IsGraph, IsGraphOf, graph_blocks, graph_size}
+use Rattle.aig_edges.specs.Graph.{graph_blocks, graph_size}
 use Rattle.aig_edges.specs.Making.{BuildsBeside, DoneUntil}
 use Rattle.aig_edges.specs.declared.graph.Graph.{Graph}
+use Rattle.aig_edges.proofs.GraphLaws.{GraphStays, graph_stays}
 
 -- the blocks of a queue and of a circuit's parts
 abbrev pub held_at : {Q : Type 0} → QueueGhosts Q → Q → RigState → Parts → List ℕ
@@ -184,60 +181,6 @@ cause_left s (stop.Em (Full used)) l h =
 cause_left s (stop.Em (Damaged block)) l h =
     subst (λ (w : RigState). Cause s w (Damaged block)) (sym l.same) h
 
--- A graph's blocks were left alone.
-pub record GraphStays (s t : RigState) (g : Graph) : Type 0 where
-  pub is : IsGraph t g
-  pub blocks : IsTrue s.device.told → graph_blocks t g ≡ graph_blocks s g
-  pub of : IsTrue s.device.told → (c : Circuit) → IsGraphOf s g c → IsGraphOf t g c
-
-still_of : {s t : RigState} (g : Graph) (c : Circuit) → ChainStays s t g.gates
-    → ChainStays s t g.edges → ChainStays s t g.sources → IsTrue s.device.told → IsGraphOf s g c
-    → IsGraphOf t g c
-still_of g c x y w z o = record {
-  header = o.header;
-  is = o.is;
-  gates = x.items z ∙ o.gates;
-  edges = y.items z ∙ o.edges;
-  sources = w.items z ∙ o.sources;
-}
-
-pub graph_stays : {s t : RigState} (ks : List ℕ) (g : Graph) → Touches ks s t
-    → (IsTrue s.device.told → Holds s (ks ++ graph_blocks s g)) → IsGraph s g → GraphStays s t g
-graph_stays {s} {t} ks g h n i =
-    let gs = chain_blocks s g.gates in
-    let es = chain_blocks s g.edges in
-    let ss = chain_blocks s g.sources in
-    let all = graph_blocks s g in
-    let a : IsTrue s.device.told → Apart all ks =
-    λ z. apart_sym ks all (distinct_apart ks all ((n z).distinct z)) in
-    let x = chain_stays ks s t g.gates h (λ z. apart_left gs (es ++ ss) ks (a z)) i.gates.is in
-    let y = chain_stays ks s t g.edges h
-    (λ z. apart_left es ss ks (apart_right gs (es ++ ss) ks (a z))) i.edges.is in
-    let w = chain_stays ks s t g.sources h
-    (λ z. apart_right es ss ks (apart_right gs (es ++ ss) ks (a z))) i.sources.is in
-    let same : IsTrue s.device.told → graph_blocks t g ≡ all =
-    λ z. ap (λ (l : List ℕ). l ++ (chain_blocks t g.edges ++ chain_blocks t g.sources)) (x.blocks z)
-    ∙ ap (λ (l : List ℕ). gs ++ (l ++ chain_blocks t g.sources)) (y.blocks z)
-    ∙ ap (λ (l : List ℕ). gs ++ (es ++ l)) (w.blocks z) in
-    record {
-      is = record {
-        header = i.header;
-        gates = record { is = x.is; count_is = i.gates.count_is };
-        edges = record { is = y.is; count_is = i.edges.count_is };
-        sources = record { is = w.is; count_is = i.sources.count_is };
-        holds = λ u.
-            let z : IsTrue s.device.told = sym h.told ∙ u in
-            subst (λ (l : List ℕ). Holds t l) (sym (same z))
-            (holds_kept ks s t all h (λ _. a z) (i.holds z));
-        stands = λ u.
-            let z : IsTrue s.device.told = sym h.told ∙ u in
-            let k = i.stands z in
-            record { circuit = k.circuit; is = still_of g k.circuit x y w z k.is };
-      };
-      blocks = same;
-      of = λ z c o. still_of g c x y w z o;
-    }
-
 -- The graph was made, and the queue ended.
 pub record EndedAfter {Q : Type 0} (q : QueueGhosts Q) (x : Q) (s u v : RigState) (p : Parts)
     (m : Graph) : Type 0 where
@@ -257,7 +200,10 @@ ended_after q x y {s} {u} {v} {m} p b e =
       within = record { off = λ z j i o. tt };
       holds = λ z. record { in_use = tt; distinct = λ d. tt };
     } in
-    let w = graph_stays ks m e.touches (λ z. all.holds (sym all.touches.told ∙ z)) b.is in
+    let apart : IsTrue u.device.told → Apart gs ks = λ z.
+    let all_held = all.holds (sym all.touches.told ∙ z) in
+    apart_sym ks gs (distinct_apart ks gs (all_held.distinct z)) in
+    let w = graph_stays ks u v m e.touches apart b.is in
     record {
       session = session_as (graph_blocks v m) (session_then ks [] gs all gone)
           (λ z. w.blocks (all.touches.told ∙ z));

@@ -35,6 +35,15 @@ use em_space::{Queue, Rig};
 /// if a variable is defined twice, `Undefined` if one is used and not defined. Gates on a cycle are
 /// no fault here. It stops with `Em` if a call on the rig or of the queue gave up, and never with
 /// `Read`.
+///
+/// 2f + 10 single frames, an area and the rack are free before. All frames are back at each exit,
+/// those of the queue too. Only blocks of the queue and of the parts changed, and blocks that weren't
+/// in use. After Ok all blocks are stored, after a stop all but m + 2.
+///
+/// For I inputs, L latches, A gates and E edges the queue has at most 2·(I + L + A) + 2·A + 2·E calls,
+/// and at most twice the greater of I + L + A and E between two moments at which it is empty. The
+/// moves and blocks beside it go by the header too. Over a device that doesn't tell what it holds,
+/// nothing is said of which graph it is, nor of which circuit a fault is.
 pub fn check_and_build<D: Device, Q: Queue>(
     rig: &mut Rig<'_, D>,
     parts: Parts,

@@ -13,7 +13,9 @@ use em_frames::Device;
 use em_record::Record;
 use em_space::{EmFault, Rig};
 
-/// The next record of a list that has one. A fault is that of reading its block.
+/// The next record of a list that has one, for a reader that leaves the list. One single frame is free
+/// before, and after. A fault is that of reading its block, and never `Full`. At most one block is
+/// moved, and none changes. Which record it is is said over a device that tells.
 pub fn next_record<D: Device>(rig: &mut Rig<'_, D>, reader: &mut Reader) -> Result<Record, EmFault>
     requires sound { Sound (seen D.state rig.old) }
     requires is { IsReader (seen D.state rig.old) reader.old }

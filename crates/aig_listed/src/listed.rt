@@ -1,14 +1,13 @@
 //! One text, read on a rig of its own for each of its three chains.
-ghost use Rattle.std.specs.Prelude.{◌≡◌, ◌<◌, IfOk, true};
+ghost use Rattle.std.specs.Prelude.{◌≡◌, ◌<◌, true};
 ghost use Rattle.em_frames.specs.Pool.{HasFrames, SameFrames};
 ghost use Rattle.em_space.specs.Rig.{Sound};
 ghost use Rattle.em_space.specs.Seen.{seen};
 ghost use Rattle.em_chain.specs.Chain.{IsChain};
 ghost use Rattle.em_chain.specs.Reader.{IsReader, ReaderHasFrame};
-ghost use Rattle.aig_text.specs.Ascii.{GivesParts};
 
-use aig_bin::read_binary;
-use aig_text::{AigStop, Header, Parts, read_ascii, read_magic};
+use aig_bin::read_either;
+use aig_text::{AigStop, Header, Parts};
 use em_chain::{Chain, Reader};
 use em_devices::{ended, opened};
 use em_frames::{Device, MemDevice};
@@ -82,27 +81,6 @@ fn take_chain<D: Device>(
     records
 }
 
-/// Reads a circuit from its first byte, in the form that its magic names.
-fn read_circuit<D: Device, H: Shelf>(
-    rig: &mut Rig<'_, D>,
-    feed: &mut Feed,
-    shelf: &mut H,
-) -> Result<Parts, AigStop>
-    requires sound { Sound (seen D.state rig.old) }
-    requires ready { ((H.stand shelf.old).slot feed.old.slot).ready ≡ true }
-    requires none { feed.old.place ≡ 0 }
-    requires free { 5 < (seen D.state rig.old).pool.free }
-    ensures sound { Sound (seen D.state rig.new) }
-    ensures frames { SameFrames (seen D.state rig.old).pool (seen D.state rig.new).pool }
-    ensures parts { IfOk result (GivesParts (seen D.state rig.old) (seen D.state rig.new)) }
-{
-    if read_magic(feed, shelf)? {
-        read_ascii(rig, feed, shelf)
-    } else {
-        read_binary(rig, feed, shelf)
-    }
-}
-
 /// Reads a circuit, and takes the chain of one part.
 fn read_on<D: Device, H: Shelf>(
     alloc: Global,
@@ -117,7 +95,7 @@ fn read_on<D: Device, H: Shelf>(
     requires free { 5 < (seen D.state rig.old).pool.free }
     ensures frames { SameFrames (seen D.state rig.old).pool (seen D.state rig.new).pool }
 {
-    let parts = match read_circuit(rig, feed, shelf) {
+    let parts = match read_either(rig, feed, shelf) {
         Ok(parts) => parts,
         Err(stop) => return Ok(Found::Stopped(stop)),
     };

@@ -1,5 +1,5 @@
 -- Calls of a queue beside a list that was begun before them and is finished after them.
-use Rattle.std.proofs.Common.{◌≡◌, ℕ, ◌+◌, ◌*◌, ◌≤◌, min, List, [], ◌++◌, IsTrue, ap, refl, subst, sym, ◌∙◌, arith}
+use Rattle.std.proofs.Common.{◌≡◌, ℕ, ◌+◌, ◌*◌, ◌<◌, ◌≤◌, min, List, [], ◌++◌, IsTrue, ap, refl, subst, sym, ◌∙◌, arith}
 use Rattle.std.proofs.lemmas.List.{append-nil}
 use Rattle.em_record.specs.Shape.{ShapeNumbers}
 use Rattle.em_space.specs.Held.{Holds}
@@ -13,6 +13,7 @@ use Rattle.em_space.proofs.Sessions.{session_as, session_beside, session_still, 
 use Rattle.em_space.proofs.Steps.{cause_after, device_cause, touches_wider}
 use Rattle.em_space.proofs.Within.{touches_within, within_kept, within_same}
 use Rattle.em_chain.specs.Chain.{chain_blocks}
+use Rattle.em_chain.specs.Counts.{ceiling}
 use Rattle.em_chain.specs.Effects.{GivesFrame, LendsFrame, Unmoved}
 use Rattle.em_chain.specs.Session.{chain_account, writer_account}
 use Rattle.em_chain.specs.Writer.{writer_blocks}
@@ -20,8 +21,14 @@ use Rattle.em_chain.specs.Writes.{Finishes}
 use Rattle.em_chain.specs.declared.chain.Chain.{Chain}
 use Rattle.em_chain.specs.declared.writer.Writer.{Writer}
 use Rattle.em_chain.proofs.Keeps.{lent_given, lent_same}
+use Rattle.em_chain.proofs.Sessions.{ceiling_rises}
 use Rattle.em_queued.specs.Queued.{RunsBeside, StopsBeside}
 use Rattle.em_queued.proofs.Queued.{shares_frames}
+
+-- The blocks of a packed list of at most k records.
+pub blocks_within : (n k p : ℕ) {b : ℕ} → n ≤ k → 0 < p → b ≡ ceiling n p → b ≤ ceiling k p
+blocks_within n k p few some e =
+    let rise = ceiling_rises n k p some few in omega (arith, e, rise)
 
 -- It was finished,
 pub finish_runs : {i p : ℕ} {a : Account} {c d : QueueCounts} {s m n t : RigState} {v : Writer}

@@ -6,6 +6,7 @@ pub mod ByPass
 pub mod CircuitLists
 pub mod Definitions
 pub mod Ended
+pub mod FewCalls
 pub mod Finding
 pub mod Finds
 pub mod FirstRanks

@@ -1,5 +1,5 @@
 -- A sweep over a whole list: a frame is lent before, and comes back after.
-use Rattle.std.proofs.Common.{◌≡◌, ℕ, ◌+◌, ◌*◌, ◌≤◌, Bool, true, false, if◌then◌else◌, true≢false, List, [], ◌∷◌, ◌++◌, length, IsTrue, Result, Ok, Err, OnOk, ap, ap₂, refl, sym, ◌∙◌, arith}
+use Rattle.std.proofs.Common.{◌≡◌, ℕ, ◌+◌, ◌*◌, ◌≤◌, Bool, true, false, if◌then◌else◌, true≢false, List, [], ◌∷◌, ◌++◌, length, IsTrue, Result, Ok, Err, OnOk, ap, ap₂, refl, subst, sym, ◌∙◌, arith}
 use Rattle.std.proofs.lemmas.List.{append-nil}
 use Rattle.em_record.specs.Shape.{ShapeNumbers, fan_of}
 use Rattle.em_record.specs.declared.record.Record.{Record}
@@ -35,12 +35,12 @@ use Rattle.em_queued.proofs.Queued.{apart_after, beside_holds, beside_then, besi
 use Rattle.aig_defs.specs.declared.circuit.Header.{Header}
 use Rattle.aig_edges.specs.Accounts.{releasing, stored_account}
 use Rattle.aig_edges.proofs.Pushed.{CoversAccount, beside_lent, beside_like, discard_refused, discards, stops_lent, stops_like}
+use Rattle.aig_order.specs.declared.limits.Limits.{Limits}
 use Rattle.aig_order.specs.declared.standing.Standing.{Standing}
 use Rattle.aig_order.specs.declared.standing.Sweep.{Sweep}
-use Rattle.aig_order.specs.SweepCalls.{CanSweep, Meets, StopsSweeping, Sweeps, SweepsTo, sweep_account, sweep_blocks, sweep_calls, sweep_written}
+use Rattle.aig_order.specs.SweepCalls.{CanSweep, Fits, Meets, StopsSweeping, Sweeps, SweepsTo, sweep_account, sweep_blocks, sweep_calls, sweep_written}
 use Rattle.aig_order.specs.SweepLists.{CanSweepList, ListTo, StopsList, SweepsList, pair_held, three_held}
 use Rattle.aig_order.specs.Sweeps.{at_constant}
-use Rattle.aig_order.proofs.Meeting.{calls_most, written_most}
 use Rattle.aig_order.proofs.Reading.{holds_front, meets_from, stops_with_account, with_account}
 
 -- A call left a queue's items and blocks, and a list that is written.
@@ -167,10 +167,20 @@ opened_can q n x w {taking} {s} {m} {c} {r} can l o k =
       out = omega (arith, can.meets.out, singles, l.frames.free);
     }
 
+-- They are within the limits, if those of the list are.
+pub opened_fit : {taking : Bool} {s m : RigState} {c : Chain} {r : Reader} (sweep : Sweep)
+    (bound : Limits) → Opens s m c taking r → m.device.told ≡ s.device.told
+    → (IsTrue s.device.told → Fits sweep (chain_items s c) bound) → IsTrue m.device.told
+    → Fits sweep (reader_items m r) bound
+opened_fit sweep bound o told fits z =
+    let old = sym told ∙ z in
+    subst (λ (rs : List Record). Fits sweep rs bound) (sym (o.items old)) (fits old)
+
 -- The frames that are out beside the queue's after a sweep.
 pub swept_out : {Q : Type 0} (q : QueueGhosts Q) (h : Header) (sweep : Sweep) (i n l : ℕ) (x y : Q)
-    (p j : Standing) {w v : Writer} {r k : Reader} {s t : RigState} → CanSweep q l x w r s
-    → Sweeps q h sweep i n x y p j w v r k s t → t.pool.free + 2 ≤ singles_of t.pool.shape
+    (p j : Standing) {w v : Writer} {r k : Reader} {bound left : Limits} {s t : RigState}
+    → CanSweep q l x w r s → Sweeps q h sweep i n x y p j w v r k bound left s t
+    → t.pool.free + 2 ≤ singles_of t.pool.shape
 swept_out q h sweep i n l x y p j can f =
     let shape = ap singles_of f.runs.runs.frames.shape in
     let free = f.runs.runs.frames.free in
@@ -178,11 +188,11 @@ swept_out q h sweep i n l x y p j can f =
 
 -- With all records met they are those of the list.
 pub records_are : {Q : Type 0} (q : QueueGhosts Q) (h : Header) (sweep : Sweep) (i : ℕ) (x y : Q)
-    (p j : Standing) {w v : Writer} {taking : Bool} {c : Chain} {r k : Reader} {s m n : RigState}
-    → Opens s m c taking r → m.device.told ≡ s.device.told
-    → (f : Sweeps q h sweep i c.count x y p j w v r k m n) → IsTrue s.device.told
+    (p j : Standing) {w v : Writer} {taking : Bool} {c : Chain} {r k : Reader}
+    {bound left : Limits} {s m n : RigState} → Opens s m c taking r → m.device.told ≡ s.device.told
+    → (f : Sweeps q h sweep i c.count x y p j w v r k bound left m n) → IsTrue s.device.told
     → f.records ≡ chain_items s c
-records_are q h sweep i x y p j {c = c} {r} {k} {s} {m} {n} o told f z =
+records_are q h sweep i x y p j {c = c} {r} {k} {s = s} {m} {n} o told f z =
     let old = told ∙ z in
     let count = ap (λ (d : Chain). d.count) o.words in
     let none : reader_items n k ≡ [] = nil_of (reader_items n k)
@@ -211,12 +221,14 @@ over_last v k e = record {
 }
 
 pub over_list : {Q : Type 0} (q : QueueGhosts Q) (h : Header) (sweep : Sweep) (i next : ℕ) (x y : Q)
-    (j : Standing) {w v : Writer} {c : Chain} {r k : Reader} {s m n t : RigState}
-    → CanSweepList q c.count x w s c → LendsFrame s m → Unmoved s m → Opens s m c false r
-    → Keeps q x w s m → Sweeps q h sweep i c.count x y (at_constant next) j w v r k m n
+    (j : Standing) {w v : Writer} {c : Chain} {r k : Reader} {bound left : Limits}
+    {s m n t : RigState} → CanSweepList q c.count x w s c → LendsFrame s m → Unmoved s m
+    → Opens s m c false r → Keeps q x w s m
+    → Sweeps q h sweep i c.count x y (at_constant next) j w v r k bound left m n
     → GivesFrame [] n t → Unmoved n t → Keeps q y v n t
-    → SweepsList q h sweep i next (pair_held q x w s) (stored_account 0 c.blocks) c x y j w v s t
-over_list q h sweep i next x y j {w} {v} {c} {r} {k} {s} {m} {n} {t} can l uno o a f g due b =
+    → SweepsList q h sweep i next (pair_held q x w s) (stored_account 0 c.blocks) c x y j w v bound
+    left s t
+over_list q h sweep i next x y j {w} {v} {c} {r} {k} {s = s} {m} {n} {t} can l uno o a f g due b =
     let over = o.taking_is in
     let later = f.took.taking ∙ over in
     let none = over_blocks r.blocks r.taking over in
@@ -229,6 +241,7 @@ over_list q h sweep i next x y j {w} {v} {c} {r} {k} {s} {m} {n} {t} can l uno o
     record {
       records = f.records;
       len = f.len;
+      spent = f.spent;
       are = records_are q h sweep i x y (at_constant next) j o a.told f;
       meets = meets_to q h sweep i f.records x y (at_constant next) j
           (meets_from q h sweep i f.records x y (at_constant next) j a.told a.list a.items f.meets) b;
@@ -240,12 +253,12 @@ same_grown : {s m : RigState} {w : Writer} (n : ℕ) → payload_in m ≡ payloa
     → grown_blocks n m w ≡ grown_blocks n s w
 same_grown n p k = ap₂ (λ (f : ℕ) (d : ℕ). ceiling (f + n) d) k.filled_is p
 
-pub over_stops : {Q : Type 0} (q : QueueGhosts Q) (sweep : Sweep) (x y : Q) {w : Writer} {c : Chain}
-    {r : Reader} {s m n t : RigState} {fault : EmFault} → LendsFrame s m → Unmoved s m
-    → Opens s m c false r → Keeps q x w s m → StopsSweeping q sweep c.count x y w r m n fault
+pub over_stops : {Q : Type 0} (q : QueueGhosts Q) (x y : Q) {w : Writer} {c : Chain} {r : Reader}
+    {bound : Limits} {s m n t : RigState} {fault : EmFault} → LendsFrame s m → Unmoved s m
+    → Opens s m c false r → Keeps q x w s m → StopsSweeping q x y w r bound m n fault
     → GivesFrame [] n t → Unmoved n t
-    → StopsList q sweep (pair_held q x w s) (stored_account 0 c.blocks) c x y w s t fault
-over_stops q sweep x y {w} {c} {r} {s} {m} l uno o a f g due =
+    → StopsList q (pair_held q x w s) (stored_account 0 c.blocks) x y w bound s t fault
+over_stops q x y {w} {c} {r} {s = s} {m} l uno o a f g due =
     let over = o.taking_is in
     let none = over_blocks r.blocks r.taking over in
     let same = same_grown f.written (payload_kept [] s m l.touches) a.list in
@@ -254,12 +267,6 @@ over_stops q sweep x y {w} {c} {r} {s} {m} l uno o a f g due =
       written = f.written;
       calls_most = f.calls_most;
       written_most = f.written_most;
-      calls_told = λ z.
-          let e = ap (sweep_calls sweep) (o.items z) in
-          let k = f.calls_told (a.told ∙ z) in omega (arith, e, k);
-      written_told = λ z.
-          let e = ap (sweep_written sweep) (o.items z) in
-          let k = f.written_told (a.told ∙ z) in omega (arith, e, k);
       stops = stops_wider (omega arith) (omega (arith, none, same)) (omega (arith, same)) (omega arith)
           (stops_like (over_first w o) (stops_lent (pair_held q x w s) l uno
           (λ z. over_held (pair_held q x w m) (chain_blocks m (rest_of r)) r.taking over
@@ -267,16 +274,17 @@ over_stops q sweep x y {w} {c} {r} {s} {m} l uno o a f g due =
     }
 
 pub over_to : {Q : Type 0} (q : QueueGhosts Q) (h : Header) (sweep : Sweep) (i next : ℕ) (x y : Q)
-    (w v : Writer) (c : Chain) (r k : Reader) {s m n : RigState} (t : RigState)
-    (result : Result Standing EmFault) → CanSweepList q c.count x w s c → LendsFrame s m
-    → Unmoved s m → Opens s m c false r → Keeps q x w s m
-    → SweepsTo q h sweep i c.count x y (at_constant next) w v r k m n result → GivesFrame [] n t
-    → Unmoved n t → OnOk result (Keeps q y v n t)
-    → ListTo q h sweep i next (pair_held q x w s) (stored_account 0 c.blocks) c x y w v s t result
-over_to q h sweep i next x y w v c r k t (Ok j) can l uno o a f g due b =
+    (w v : Writer) (c : Chain) (r k : Reader) (bound left : Limits) {s m n : RigState}
+    (t : RigState) (result : Result Standing EmFault) → CanSweepList q c.count x w s c
+    → LendsFrame s m → Unmoved s m → Opens s m c false r → Keeps q x w s m
+    → SweepsTo q h sweep i c.count x y (at_constant next) w v r k bound left m n result
+    → GivesFrame [] n t → Unmoved n t → OnOk result (Keeps q y v n t)
+    → ListTo q h sweep i next (pair_held q x w s) (stored_account 0 c.blocks) c x y w v bound left s t
+    result
+over_to q h sweep i next x y w v c r k bound left t (Ok j) can l uno o a f g due b =
     over_list q h sweep i next x y j can l uno o a f g due b
-over_to q h sweep i next x y w v c r k t (Err e) can l uno o a f g due b =
-    over_stops q sweep x y l uno o a f g due
+over_to q h sweep i next x y w v c r k bound left t (Err e) can l uno o a f g due b =
+    over_stops q x y l uno o a f g due
 
 -- or one that is released: with no record left its first block isn't loaded.
 unloaded_by : {s : RigState} {r : Reader} (b : Bool) → r.loaded ≡ b → r.taking ≡ true → IsReader s r
@@ -298,14 +306,15 @@ taking_first w {r} o = record {
 
 -- All was read, and what was left of the list is a chain again.
 pub taken_runs : {Q : Type 0} (q : QueueGhosts Q) (h : Header) (sweep : Sweep) (i next : ℕ)
-    (x y : Q) (j : Standing) {w v : Writer} {c : Chain} {r k : Reader} {s m n t : RigState}
-    → CanSweepList q c.count x w s c → LendsFrame s m → Unmoved s m → Opens s m c true r
-    → Keeps q x w s m → (f : Sweeps q h sweep i c.count x y (at_constant next) j w v r k m n)
+    (x y : Q) (j : Standing) {w v : Writer} {c : Chain} {r k : Reader} {bound left : Limits}
+    {s m n t : RigState} → CanSweepList q c.count x w s c → LendsFrame s m → Unmoved s m
+    → Opens s m c true r → Keeps q x w s m
+    → (f : Sweeps q h sweep i c.count x y (at_constant next) j w v r k bound left m n)
     → GivesFrame [] n t → Unmoved n t → Keeps q y v n t → ChainStays n t (rest_of k)
     → RunsBeside (sweep_calls sweep f.records) (v.blocks + c.blocks) (three_held q x w c s)
     (pair_held q y v t ++ chain_blocks t (rest_of k)) (both (writer_account w) (releasing c.blocks))
     (both (writer_account v) (releasing k.blocks)) (q.counts x) (q.counts y) s t
-taken_runs q h sweep i next x y j {w} {v} {c} {r} {k} {s} {m} {n} {t} can l uno o a f g due b st =
+taken_runs q h sweep i next x y j {w} {v} {c} {r} {k} {s = s} {m} {n} {t} can l uno o a f g due b st =
     let taking = o.taking_is in
     let later = f.took.taking ∙ taking in
     let words = ap (λ (z : Chain). z.blocks) o.words in
@@ -331,15 +340,17 @@ taken_runs q h sweep i next x y j {w} {v} {c} {r} {k} {s} {m} {n} {t} can l uno 
 
 -- Its blocks were released,
 pub taken_list : {T Q : Type 0} (q : QueueGhosts Q) (h : Header) (sweep : Sweep) (i next : ℕ)
-    (x y : Q) (j : Standing) {w v : Writer} {c : Chain} {r k : Reader} {s m n t u : RigState}
-    (done : T) → CanSweepList q c.count x w s c → LendsFrame s m → Unmoved s m → Opens s m c true r
-    → Keeps q x w s m → Sweeps q h sweep i c.count x y (at_constant next) j w v r k m n
+    (x y : Q) (j : Standing) {w v : Writer} {c : Chain} {r k : Reader} {bound left : Limits}
+    {s m n t u : RigState} (done : T) → CanSweepList q c.count x w s c → LendsFrame s m
+    → Unmoved s m → Opens s m c true r → Keeps q x w s m
+    → Sweeps q h sweep i c.count x y (at_constant next) j w v r k bound left m n
     → GivesFrame [] n t → Unmoved n t → Keeps q y v n t → ChainStays n t (rest_of k)
     → (q.counts y).blocks ≤ (q.counts y).most → Goes (chain_blocks t (rest_of k)) t u
     → Frees k.blocks t u (Ok done) → Keeps q y v t u
-    → SweepsList q h sweep i next (three_held q x w c s) (releasing c.blocks) c x y j w v s u
-taken_list q h sweep i next x y j {w} {v} {c} {r} {k} {s} {m} {n} {t} {u} done can l uno o a f g due b
-    st most goes frees last =
+    → SweepsList q h sweep i next (three_held q x w c s) (releasing c.blocks) c x y j w v bound left s
+    u
+taken_list q h sweep i next x y j {w} {v} {c} {r} {k} {s = s} {m} {n} {t} {u} done can l uno o a f g
+    due b st most goes frees last =
     let one = taken_runs q h sweep i next x y j can l uno o a f g due b st in
     let words = ap (λ (z : Chain). z.blocks) o.words in
     let less = f.took.fewer in
@@ -349,6 +360,7 @@ taken_list q h sweep i next x y j {w} {v} {c} {r} {k} {s} {m} {n} {t} {u} done c
     record {
       records = f.records;
       len = f.len;
+      spent = f.spent;
       are = records_are q h sweep i x y (at_constant next) j o a.told f;
       meets = meets_to q h sweep i f.records x y (at_constant next) j
           (meets_to q h sweep i f.records x y (at_constant next) j
@@ -366,17 +378,17 @@ taken_list q h sweep i next x y j {w} {v} {c} {r} {k} {s} {m} {n} {t} {u} done c
 
 -- or weren't,
 pub taken_refused : {T Q : Type 0} (q : QueueGhosts Q) (h : Header) (sweep : Sweep) (i next : ℕ)
-    (x y : Q) (j : Standing) {w v : Writer} {c : Chain} {r k : Reader} {s m n t u : RigState}
-    {fault : EmFault} → CanSweepList q c.count x w s c → LendsFrame s m → Unmoved s m
-    → Opens s m c true r → Keeps q x w s m
-    → Sweeps q h sweep i c.count x y (at_constant next) j w v r k m n
+    (x y : Q) (j : Standing) {w v : Writer} {c : Chain} {r k : Reader} {bound left : Limits}
+    {s m n t u : RigState} {fault : EmFault} → CanSweepList q c.count x w s c → LendsFrame s m
+    → Unmoved s m → Opens s m c true r → Keeps q x w s m
+    → Sweeps q h sweep i c.count x y (at_constant next) j w v r k bound left m n
     → GivesFrame [] n t → Unmoved n t → Keeps q y v n t → ChainStays n t (rest_of k)
     → (q.counts y).blocks ≤ (q.counts y).most → (q.counts y).unstored ≤ t.pool.shape.frames
     → Goes (chain_blocks t (rest_of k)) t u → Frees {T = T} k.blocks t u (Err fault)
     → BlockCause t u fault
-    → StopsList q sweep (three_held q x w c s) (releasing c.blocks) c x y w s u fault
-taken_refused {T} q h sweep i next x y j {w} {v} {c} {r} {k} {s} {m} {n} {t} {u} can l uno o a f g due
-    b st most few goes frees cause =
+    → StopsList q (three_held q x w c s) (releasing c.blocks) x y w bound s u fault
+taken_refused {T} q h sweep i next x y j {w} {v} {c} {r} {k} {s = s} {m} {n} {t} {u} can l uno o a f g
+    due b st most few goes frees cause =
     let one = taken_runs q h sweep i next x y j can l uno o a f g due b st in
     let words = ap (λ (z : Chain). z.blocks) o.words in
     let less = f.took.fewer in
@@ -395,25 +407,19 @@ taken_refused {T} q h sweep i next x y j {w} {v} {c} {r} {k} {s} {m} {n} {t} {u}
     record {
       calls = sweep_calls sweep f.records;
       written = sweep_written sweep f.records;
-      calls_most = let e = calls_most sweep f.records in omega (arith, e, f.len);
-      written_most = let e = written_most sweep f.records in omega (arith, e, f.len);
-      calls_told = λ z.
-          let e = ap (sweep_calls sweep) (records_are q h sweep i x y (at_constant next) j o a.told f
-          z) in omega (arith, e);
-      written_told = λ z.
-          let e = ap (sweep_written sweep) (records_are q h sweep i x y (at_constant next) j o a.told
-          f z) in omega (arith, e);
+      calls_most = let e = f.spent.calls in omega (arith, e);
+      written_most = let e = f.spent.records in omega (arith, e);
       stops = stops_wider (omega arith) (omega (arith, low, less, words)) (omega (arith, low))
           (omega arith) (stops_then one two);
     }
 
 -- or not all records were met.
-pub taken_stops : {Q : Type 0} (q : QueueGhosts Q) (sweep : Sweep) (x y : Q) {w : Writer} {c : Chain}
-    {r : Reader} {s m n t : RigState} {fault : EmFault} → LendsFrame s m → Unmoved s m
-    → Opens s m c true r → Keeps q x w s m → StopsSweeping q sweep c.count x y w r m n fault
+pub taken_stops : {Q : Type 0} (q : QueueGhosts Q) (x y : Q) {w : Writer} {c : Chain} {r : Reader}
+    {bound : Limits} {s m n t : RigState} {fault : EmFault} → LendsFrame s m → Unmoved s m
+    → Opens s m c true r → Keeps q x w s m → StopsSweeping q x y w r bound m n fault
     → GivesFrame [] n t → Unmoved n t
-    → StopsList q sweep (three_held q x w c s) (releasing c.blocks) c x y w s t fault
-taken_stops q sweep x y {w} {c} {r} {s} {m} l uno o a f g due =
+    → StopsList q (three_held q x w c s) (releasing c.blocks) x y w bound s t fault
+taken_stops q x y {w} {c} {r} {s = s} {m} l uno o a f g due =
     let taking = o.taking_is in
     let words = ap (λ (z : Chain). z.blocks) o.words in
     let first = taking_blocks r.blocks r.taking taking in
@@ -423,12 +429,6 @@ taken_stops q sweep x y {w} {c} {r} {s} {m} l uno o a f g due =
       written = f.written;
       calls_most = f.calls_most;
       written_most = f.written_most;
-      calls_told = λ z.
-          let e = ap (sweep_calls sweep) (o.items z) in
-          let k = f.calls_told (a.told ∙ z) in omega (arith, e, k);
-      written_told = λ z.
-          let e = ap (sweep_written sweep) (o.items z) in
-          let k = f.written_told (a.told ∙ z) in omega (arith, e, k);
       stops = stops_wider (omega arith) (omega (arith, first, words, same)) (omega (arith, same))
           (omega arith)
           (stops_like (taking_first w o) (stops_lent (three_held q x w c s) l uno
@@ -438,22 +438,22 @@ taken_stops q sweep x y {w} {c} {r} {s} {m} l uno o a f g due =
 
 -- What stays as the frame comes back, by the result of the sweep.
 pub swept_keeps : {A Q : Type 0} (q : QueueGhosts Q) (h : Header) (sweep : Sweep) (i l : ℕ) (x y : Q)
-    (p : Standing) (w v : Writer) (r k : Reader) {m n t : RigState}
+    (p : Standing) (w v : Writer) (r k : Reader) (bound left : Limits) {m n t : RigState}
     (result : Result Standing EmFault) → CanSweep q l x w r m
-    → SweepsTo q h sweep i l x y p w v r k m n result → GivesFrame [] n t → OnOk result A
+    → SweepsTo q h sweep i l x y p w v r k bound left m n result → GivesFrame [] n t → OnOk result A
     → (A → IsTrue n.device.told → q.items y t ≡ q.items y n)
     → (A → IsTrue n.device.told → q.blocks y t ≡ q.blocks y n) → OnOk result (Keeps q y v n t)
-swept_keeps q h sweep i l x y p w v r k (Ok j) can f g a items blocks =
+swept_keeps q h sweep i l x y p w v r k bound left (Ok j) can f g a items blocks =
     given_keeps q y v g f.meets.is (swept_out q h sweep i l l x y p j can f) (items a) (blocks a)
-swept_keeps q h sweep i l x y p w v r k (Err e) can f g a items blocks = tt
+swept_keeps q h sweep i l x y p w v r k bound left (Err e) can f g a items blocks = tt
 
 pub swept_shares : {Q : Type 0} (q : QueueGhosts Q) (h : Header) (sweep : Sweep) (i l : ℕ) (x y : Q)
-    (p : Standing) (w v : Writer) (r k : Reader) (m n : RigState)
-    (result : Result Standing EmFault) → SweepsTo q h sweep i l x y p w v r k m n result
+    (p : Standing) (w v : Writer) (r k : Reader) (bound left : Limits) (m n : RigState)
+    (result : Result Standing EmFault) → SweepsTo q h sweep i l x y p w v r k bound left m n result
     → Shares (q.counts x) (q.counts y) m.pool n.pool
-swept_shares q h sweep i l x y p w v r k m n (Ok j) f =
+swept_shares q h sweep i l x y p w v r k bound left m n (Ok j) f =
     shares_frames f.runs.runs.frames f.runs.calls_on.frames f.runs.calls_on.areas
-swept_shares q h sweep i l x y p w v r k m n (Err e) f = f.stops.frames
+swept_shares q h sweep i l x y p w v r k bound left m n (Err e) f = f.stops.frames
 
 -- The queue's blocks are none of those that are left of a list, nor are those of the written one.
 pub queue_after : {i l : ℕ} {Q : Type 0} (q : QueueGhosts Q) (y : Q) (v : Writer) (d : Chain)

@@ -15,8 +15,8 @@ use Rattle.em_chain.specs.Chain.{ChainStays, chain_blocks}
 use Rattle.em_chain.proofs.Laws.{chain_stays}
 use Rattle.aig_defs.specs.declared.circuit.Gate.{Gate}
 use Rattle.aig_defs.specs.Circuit.{Circuit}
-use Rattle.aig_defs.specs.Founded.{passes_of}
 use Rattle.aig_edges.specs.Build.{UsesUp}
+use Rattle.aig_edges.specs.BuildGraph.{SortCosts}
 use Rattle.aig_edges.specs.Graph.{IsOrdered, IsOrderedOf, graph_blocks, graph_size, ordered_blocks}
 use Rattle.aig_edges.specs.declared.graph.Graph.{Graph}
 use Rattle.aig_edges.specs.declared.graph.Ordered.{Ordered}
@@ -40,6 +40,22 @@ up_left q x y {s} {u} {v} g h l = record {
   frames = shares_gone (q.counts x) (q.counts y) s.pool u.pool v.pool h.shares l.frames;
 }
 
+-- its costs go by the passes that were made,
+costs_of : {Q : Type 0} {q : QueueGhosts Q} {x y : Q} {s u v : RigState} {g : Graph}
+    → (h : DoneUntil q x y s u g)
+    → SortCosts q (order_calls h.passes g.header) (order_run g.header)
+    (order_moves h.passes s g + h.looked) (graph_size g) (order_peak s g) (q.counts x) s v
+    → OrderCosts q (q.counts x) s v g
+costs_of h costs = record {
+  passes = h.passes;
+  passes_most = h.passes_most;
+  fewer = h.fewer;
+  looked = h.looked;
+  looked_most = h.looked_most;
+  unlooked = h.unlooked;
+  costs = costs;
+}
+
 pub costs_left : {Q : Type 0} (q : QueueGhosts Q) (x y : Q) {s u v : RigState} (g : Graph)
     → DoneUntil q x y s u g → q.HasItsFrames y u → Leaves (q.counts y) u v
     → IfSome q.allowance IsRising
@@ -47,15 +63,14 @@ pub costs_left : {Q : Type 0} (q : QueueGhosts Q) (x y : Q) {s u v : RigState} (
     → IfSome q.room IsRisingRoom
     → IfSome q.room (λ f. (q.counts y).most ≤ f u.pool.shape (q.counts y).k)
     → OrderCosts q (q.counts x) s v g
-costs_left q x y {s} {u} {v} g h has l rising spends rising_room fits z c i =
-    let r = passes_of c in
-    let calls = order_calls r g.header in
+costs_left q x y {s} {u} {v} g h has l rising spends rising_room fits =
+    let calls = order_calls h.passes g.header in
     let run = order_run g.header in
     let e = h.shares.shape in
-    let w = h.within z c i in
+    let w = h.within in
     let n = ap (λ (k : RigState). k.moves) l.same in
     let m = ap (λ (k : RigState). k.most) l.same in
-    record {
+    costs_of h (record {
       last = y;
       then = u;
       gone = inr l;
@@ -67,11 +82,12 @@ costs_left q x y {s} {u} {v} g h has l rising spends rising_room fits z c i =
           let same = ap (λ (k : ShapeNumbers). ending_most q.room k (q.counts y)) e in
           omega (arith, w.most, m, top, same);
       moves = w.moves;
-      all_moves = allowed q.allowance s u v (q.counts x) (q.counts y) calls run (order_moves r s g) e
-          w.called w.moves rising (still_allowed q.allowance u v (q.counts y) n spends);
+      all_moves = allowed q.allowance s u v (q.counts x) (q.counts y) calls run
+          (order_moves h.passes s g + h.looked) e w.called w.moves rising
+          (still_allowed q.allowance u v (q.counts y) n spends);
       room = roomy q.room s u v (q.counts x) (q.counts y) calls run (graph_size g) (order_peak s g) e
           w.called w.most m rising_room fits;
-    }
+    })
 
 -- Edges between ranks whose blocks were left alone.
 pub record OrderedStays (s t : RigState) (o : Ordered) : Type 0 where
@@ -152,15 +168,14 @@ pub costs_ended : {Q : Type 0} (q : QueueGhosts Q) (x y : Q) {s u v : RigState} 
     → IfSome q.allowance IsRising → IfSome q.room IsRisingRoom
     → IfSome q.room (λ f. (q.counts y).most ≤ f u.pool.shape (q.counts y).k)
     → OrderCosts q (q.counts x) s v g
-costs_ended q x y {s} {u} {v} {o} g b has l rising rising_room fits z c i =
+costs_ended q x y {s} {u} {v} {o} g b has l rising rising_room fits =
     let h = b.done in
-    let r = passes_of c in
-    let calls = order_calls r g.header in
+    let calls = order_calls h.passes g.header in
     let run = order_run g.header in
     let e = h.shares.shape in
-    let w = h.within z c i in
+    let w = h.within in
     let least : o.edges.blocks ≤ order_peak s g = omega (arith, b.room) in
-    record {
+    costs_of h (record {
       last = y;
       then = u;
       gone = inl l;
@@ -174,11 +189,11 @@ costs_ended q x y {s} {u} {v} {o} g b has l rising rising_room fits z c i =
           (q.counts y) (graph_size g) (order_peak s g) o.edges.blocks w.most b.used least top same
           l.most;
       moves = w.moves;
-      all_moves = allowed q.allowance s u v (q.counts x) (q.counts y) calls run (order_moves r s g) e
-          w.called w.moves rising l.spent;
+      all_moves = allowed q.allowance s u v (q.counts x) (q.counts y) calls run
+          (order_moves h.passes s g + h.looked) e w.called w.moves rising l.spent;
       room = ended_roomy q.room s u v (q.counts x) (q.counts y) calls run (graph_size g)
           (order_peak s g) o.edges.blocks e w.called w.most b.used least rising_room fits l.most;
-    }
+    })
 
 -- They are those of each circuit whose graph it was,
 pub orders_graph : {Q : Type 0} (q : QueueGhosts Q) (x y : Q) {s u v : RigState} {o : Ordered}

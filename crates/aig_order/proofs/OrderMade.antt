@@ -30,35 +30,46 @@ pub each_defined : {s : RigState} {g : Graph} → OfDefinedCircuit s g → (c : 
     → IsGraphOf s g c → IsDefined c
 each_defined d c i = same_defined d.circuit c (same_lists d.circuit c d.is i) d.defined
 
--- The blocks, the moves and the calls so far are within what is promised for r passes,
-pub record WithinOf {Q : Type 0} (q : QueueGhosts Q) (r : ℕ) (x y : Q) (s : RigState) (g : Graph)
-    (peak moved : ℕ) : Type 0 where
+-- The blocks, the moves and the calls so far are within what is promised for r passes, if this many
+-- blocks were looked at once more,
+pub record WithinOf {Q : Type 0} (q : QueueGhosts Q) (r looked : ℕ) (x y : Q) (s : RigState)
+    (g : Graph) (peak moved : ℕ) : Type 0 where
   pub peak_most : peak ≤ order_peak s g
-  pub moves_most : moved ≤ order_moves r s g
+  pub moves_most : moved ≤ order_moves r s g + looked
   pub called : CalledInRuns (order_calls r g.header) (order_run g.header) (q.counts x) (q.counts y)
 
--- for each circuit, if the device tells.
-abbrev pub Within : {Q : Type 0} → QueueGhosts Q → Q → Q → RigState → Graph → ℕ → ℕ → Type 0
-Within q x y s g peak moved = IsTrue s.device.told → (c : Circuit) → IsGraphOf s g c
-    → WithinOf q (passes_of c) x y s g peak moved
+-- and these are at most those of each circuit of the graph.
+pub record Within {Q : Type 0} (q : QueueGhosts Q) (x y : Q) (s : RigState) (g : Graph)
+    (passes peak moved : ℕ) : Type 0 where
+  pub passes_most : passes ≤ g.header.gates
+  pub fewer : IsTrue s.device.told → (c : Circuit) → IsGraphOf s g c → passes ≤ passes_of c
+  pub looked : ℕ
+  pub looked_most : looked ≤ adjacency_room s g
+  pub unlooked : IsTrue s.device.told → looked ≡ 0
+  pub of : WithinOf q passes looked x y s g peak moved
 
 -- A call was refused,
 pub orders_stopped : {Q : Type 0} (q : QueueGhosts Q) (x y : Q) {s t : RigState} (g : Graph)
-    {calls peak moved unstored : ℕ} {fault : EmFault}
+    {passes calls peak moved unstored : ℕ} {fault : EmFault}
     → StopsBeside calls peak 0 unstored (held_at q x s g) (stored_account (graph_size g) moved)
     (q.counts x) (q.counts y) s t fault
-    → unstored ≤ 2 → Within q x y s g peak moved → OrdersNone q x y s t g (stop.Em fault)
-orders_stopped q x y {s} {t} g w few within = record {
+    → unstored ≤ 2 → Within q x y s g passes peak moved → OrdersNone q x y s t g (stop.Em fault)
+orders_stopped q x y {s} {t} g {passes} w few within = record {
   done = record {
     sound = w.sound;
     touches = w.touches;
     shares = w.frames;
-    within = λ z c i.
-        let k = within z c i in record {
-          called = k.called;
-          most = (let l = k.peak_most in let m = w.most in omega (arith, l, m));
-          moves = (let l = k.moves_most in let m = w.moves in omega (arith, l, m));
-        };
+    passes = passes;
+    passes_most = within.passes_most;
+    fewer = within.fewer;
+    looked = within.looked;
+    looked_most = within.looked_most;
+    unlooked = within.unlooked;
+    within = record {
+      called = within.of.called;
+      most = (let l = within.of.peak_most in let m = w.most in omega (arith, l, m));
+      moves = (let l = within.of.moves_most in let m = w.moves in omega (arith, l, m));
+    };
   };
   stops = tt;
   cause = w.cause;
@@ -67,29 +78,34 @@ orders_stopped q x y {s} {t} g w few within = record {
 
 -- what was done by calls of which none was refused
 pub orders_until : {Q : Type 0} (q : QueueGhosts Q) (x y : Q) {s t : RigState} (g : Graph)
-    {calls peak moved : ℕ} {ks : List ℕ} {b : Account}
+    {passes calls peak moved : ℕ} {ks : List ℕ} {b : Account}
     → RunsBeside calls peak (held_at q x s g) ks (stored_account (graph_size g) moved) b
     (q.counts x) (q.counts y) s t
-    → b.paid ≡ 0 → Within q x y s g peak moved → DoneUntil q x y s t g
-orders_until q x y {s} {t} g {b = b} w paid within =
+    → b.paid ≡ 0 → Within q x y s g passes peak moved → DoneUntil q x y s t g
+orders_until q x y {s} {t} g {passes} {b = b} w paid within =
     let r = w.runs in record {
       sound = r.session.sound;
       touches = r.session.touches;
       shares = shares_frames r.frames w.calls_on.frames w.calls_on.areas;
-      within = λ z c i.
-          let k = within z c i in record {
-            called = k.called;
-            most = (let l = k.peak_most in let m = r.spends.most in omega (arith, l, m));
-            moves = (let l = k.moves_most in let m = r.spends.moves in omega (arith, l, m, paid));
-          };
+      passes = passes;
+      passes_most = within.passes_most;
+      fewer = within.fewer;
+      looked = within.looked;
+      looked_most = within.looked_most;
+      unlooked = within.unlooked;
+      within = record {
+        called = within.of.called;
+        most = (let l = within.of.peak_most in let m = r.spends.most in omega (arith, l, m));
+        moves = (let l = within.of.moves_most in let m = r.spends.moves in omega (arith, l, m, paid));
+      };
     }
 
 -- or there is a cycle.
 pub orders_cycle : {Q : Type 0} (q : QueueGhosts Q) (x y : Q) {s t : RigState} (g : Graph)
-    {calls peak moved blocks : ℕ} {ks : List ℕ} (place : ℕ)
+    {passes calls peak moved blocks : ℕ} {ks : List ℕ} (place : ℕ)
     → RunsBeside calls peak (held_at q x s g) ks (stored_account (graph_size g) moved)
     (stored_account blocks 0) (q.counts x) (q.counts y) s t
-    → (q.counts y).unstored ≤ t.pool.shape.frames → Within q x y s g peak moved
+    → (q.counts y).unstored ≤ t.pool.shape.frames → Within q x y s g passes peak moved
     → IsCycleOf s g kind.Cyclic place
     → OrdersNone q x y s t g (stop.Fault kind.Cyclic place)
 orders_cycle q x y {s} {t} g place w few within cycle =

@@ -22,14 +22,14 @@ use Rattle.aig_edges.specs.Pushes.{CanServeBeside}
 use Rattle.aig_edges.specs.declared.graph.Graph.{Graph}
 use Rattle.aig_order.specs.declared.standing.Sweep.TheVariants.{Send, Rank}
 use Rattle.aig_order.specs.ByPass.{by_pass}
-use Rattle.aig_order.specs.Findings.{FindsWithin, merging_moves, merging_peak}
+use Rattle.aig_order.specs.Findings.{finding_calls, finding_moves, merging_moves, merging_peak}
 use Rattle.aig_order.specs.FindsOrder.{OrdersBeside, OrdersNone}
 use Rattle.aig_order.specs.OrderGraph.{BeginsOrdering, OfDefinedCircuit, OrdersCircuit, adjacency_count, adjacency_room, any_calls, order_run}
 use Rattle.aig_order.specs.PassLists.{list_after}
 use Rattle.aig_order.specs.Passes.{CanRank, RanksList, StopsRanking, after_both, both_calls, both_written, ranking_moves, ranks_of}
 use Rattle.aig_order.proofs.OrderEnded.{held_at}
 use Rattle.aig_order.proofs.OrderLists.{ranks_all_lack, ranks_are, ranks_both, ranks_calls, ranks_count}
-use Rattle.aig_order.proofs.OrderMade.{ListBeside, Within, WithinOf, each_defined, list_stops, list_then, orders_stopped, orders_until}
+use Rattle.aig_order.proofs.OrderMade.{ListBeside, Within, each_defined, list_stops, list_then, orders_stopped, orders_until}
 use Rattle.aig_order.proofs.OrderSteps.{called_wider, runs_both}
 use Rattle.aig_order.proofs.Orders.{AllFound, found_order}
 use Rattle.aig_order.proofs.Ranked.{still_serves}
@@ -87,6 +87,13 @@ can_rank q x y {s} {v} g {list = list} count b is defined w few ranks e =
       };
       few = omega (arith, size, few, start, e);
       most = omega (arith, e, h.latches, h.outputs, h.gates);
+      edges = omega (arith, e);
+      called = λ z.
+          let old : IsTrue s.device.told = sym told ∙ z in
+          let d = defined old in
+          ap (both_calls Send Rank) (ranks old d.circuit d.is).items
+          ∙ ranks_calls d.circuit (passes_of d.circuit) d.is.is d.defined
+          ∙ ap (λ k. 4 * k.gates) d.is.header;
       written = λ z.
           let old : IsTrue s.device.told = sym told ∙ z in
           let d = defined old in
@@ -101,105 +108,78 @@ can_rank q x y {s} {v} g {list = list} count b is defined w few ranks e =
           (ranks_all_lack d.circuit (passes_of d.circuit) d.is.is d.defined r.all);
     }
 
--- The calls, the blocks and the moves of all steps, if nothing was looked at.
-ranked_of : {Q : Type 0} (q : QueueGhosts Q) (x y z : Q) {s : RigState} (v : RigState) (g : Graph)
-    (calls moved extra count : ℕ) (c : Circuit) (list before : Chain)
-    → list.blocks ≡ adjacency_room s g → before.blocks ≡ adjacency_room s g
-    → FindsWithin q g.header before x y calls (2 * before.blocks) moved c → extra ≡ 0
-    → count ≡ edge_count g.header → (q.counts y).since ≤ (q.counts x).since
-    → both_calls Send Rank (chain_items v list) ≡ 4 * g.header.gates
-    → (both_calls Send Rank (chain_items v list) ≤ 2 * count
-    → CalledInRuns (both_calls Send Rank (chain_items v list) + 2 * count) (2 * count)
-    (q.counts y) (q.counts z))
-    → (peak room : ℕ) → room ≡ ranked_room s g → peak ≤ list.blocks + 2 * room
-    → (more : ℕ) → more ≤ ranking_moves list.blocks room
-    → WithinOf q (passes_of c) x z s g
-    (max (max (max (merging_peak s g) (2 * before.blocks)) list.blocks) peak)
-    (((merging_moves s g + moved) + extra) + more)
-ranked_of q x y z {s} v g calls moved extra count c list before size first f none e rests same
-    runs peak room own top more moves =
-    let passes = ap (λ b. (passes_of c + 1) * (5 * b + 1)) first in
-    let most = f.moves_most in
-    let rank = runs (omega (arith, same, e)) in
-    let later : CalledInRuns (4 * g.header.gates + 2 * count) (order_run g.header) (q.counts y)
-    (q.counts z) = called_wider (omega (arith, same)) (omega (arith, e)) rank in
-    let earlier : CalledInRuns (4 * (passes_of c + 1) * g.header.gates) (order_run g.header)
-    (q.counts x) (q.counts y) = called_wider (omega arith) (omega arith) f.in_runs in
-    record {
-      peak_most = omega (arith, size, first, own, top);
-      moves_most = omega (arith, most, passes, size, none, own, moves);
-      called = called_wider (omega (arith, e)) (omega arith) (runs_both earlier rests later);
-    }
-
 -- What stands before this step: the list, and what passes and the look after them cost.
 pub record IsReady {Q : Type 0} (q : QueueGhosts Q) (x y : Q) (s v : RigState) (g : Graph)
-    (before list : Chain) (calls moved extra passes count : ℕ) : Type 0 where
+    (before list : Chain) (looked passes count : ℕ) : Type 0 where
   pub begins : BeginsOrdering g.header (q.counts x) s
   pub graph : IsGraph s g
   pub defined : IsTrue s.device.told → OfDefinedCircuit s g
-  pub beside : ListBeside q x y s v g ((0 + calls) + 0)
+  pub beside : ListBeside q x y s v g ((0 + finding_calls g.header (passes + 1)) + 0)
       (max (max (merging_peak s g) (2 * before.blocks)) list.blocks)
-      ((merging_moves s g + moved) + extra) list
+      ((merging_moves s g + finding_moves before (passes + 1)) + looked) list
   pub before_is : before.blocks ≡ adjacency_room s g
   pub few : (q.counts y).n + 12 * adjacency_count g.header
       ≤ (q.counts x).n + any_calls g.header
-  pub within : IsTrue s.device.told → (c : Circuit) → IsGraphOf s g c
-      → FindsWithin q g.header before x y calls (2 * before.blocks) moved c
+  pub in_runs : CalledInRuns (finding_calls g.header (passes + 1)) (4 * g.header.gates) (q.counts x)
+      (q.counts y)
   pub ranks : EachHasRanks s v g list passes
-  pub unlooked : IsTrue s.device.told → extra ≡ 0
+  pub looked_most : looked ≤ list.blocks
+  pub unlooked : IsTrue s.device.told → looked ≡ 0
   pub count_is : count ≡ edge_count g.header
   pub passes_most : passes ≤ g.header.gates
 
 -- the room of the edges between ranks
 ready_room : {Q : Type 0} (q : QueueGhosts Q) (x y : Q) {s v : RigState} (g : Graph)
-    {before list : Chain} {calls moved extra passes count : ℕ}
-    → IsReady q x y s v g before list calls moved extra passes count
+    {before list : Chain} {looked passes count : ℕ}
+    → IsReady q x y s v g before list looked passes count
     → ceiling count (payload_in v) ≡ ranked_room s g
 ready_room q x y {s} {v} g o =
     ap₂ ceiling o.count_is
     (payload_kept (held_at q x s g) s v o.beside.runs.runs.session.touches)
 
--- and the calls of both sweeps
-ready_calls : {Q : Type 0} (q : QueueGhosts Q) (x y : Q) {s v : RigState} (g : Graph)
-    {before list : Chain} {calls moved extra passes count : ℕ}
-    → IsReady q x y s v g before list calls moved extra passes count → IsTrue s.device.told
-    → (c : Circuit) → IsGraphOf s g c
-    → both_calls Send Rank (chain_items v list) ≡ 4 * g.header.gates
-ready_calls q x y g o t c i =
-    ap (both_calls Send Rank) (o.ranks t c i).items
-    ∙ ranks_calls c (passes_of c) i.is (each_defined (o.defined t) c i)
-    ∙ ap (λ h. 4 * h.gates) i.header
-
+-- The calls, the blocks and the moves of all steps.
 ready_within : {Q : Type 0} (q : QueueGhosts Q) (x y z : Q) {s v : RigState} (g : Graph)
-    {before list : Chain} {calls moved extra passes count : ℕ}
-    → IsReady q x y s v g before list calls moved extra passes count
-    → (IsTrue v.device.told → both_calls Send Rank (chain_items v list) ≤ 2 * count
-    → CalledInRuns (both_calls Send Rank (chain_items v list) + 2 * count) (2 * count)
-    (q.counts y) (q.counts z))
-    → (peak more : ℕ)
-    → (IsTrue s.device.told → peak ≤ list.blocks + 2 * ceiling count (payload_in v))
-    → (IsTrue s.device.told → more ≤ ranking_moves list.blocks (ceiling count (payload_in v)))
-    → Within q x z s g
-    (max (max (max (merging_peak s g) (2 * before.blocks)) list.blocks) peak)
-    (((merging_moves s g + moved) + extra) + more)
-ready_within q x y z {s = s} {v = v} g {before} {list} {calls} {moved} {extra} {passes} {count} o runs
-    peak more top moves t c i =
-    ranked_of q x y z v g calls moved extra count c list before o.beside.blocks_is o.before_is
-    (o.within t c i) (o.unlooked t) o.count_is o.beside.rests (ready_calls q x y g o t c i)
-    (runs (o.beside.runs.runs.session.touches.told ∙ t)) peak (ceiling count (payload_in v))
-    (ready_room q x y g o) (top t) more (moves t)
+    {before list : Chain} {looked passes count : ℕ}
+    → IsReady q x y s v g before list looked passes count
+    → CalledInRuns (4 * g.header.gates + 2 * count) (2 * count) (q.counts y) (q.counts z)
+    → Within q x z s g passes
+    (max (max (max (merging_peak s g) (2 * before.blocks)) list.blocks)
+    (list.blocks + 2 * ceiling count (payload_in v)))
+    (((merging_moves s g + finding_moves before (passes + 1)) + looked)
+    + ranking_moves list.blocks (ceiling count (payload_in v)))
+ready_within q x y z {s} {v} g {before} {list} {looked} {passes} {count} o runs =
+    let first = o.beside.blocks_is in
+    let size = o.before_is in
+    let own = ready_room q x y g o in
+    let e = o.count_is in
+    let moves = ap (λ b. (passes + 1) * (5 * b + 1)) size in
+    let later : CalledInRuns (4 * g.header.gates + 2 * count) (order_run g.header) (q.counts y)
+    (q.counts z) = called_wider (omega arith) (omega (arith, e)) runs in
+    let earlier : CalledInRuns (finding_calls g.header (passes + 1)) (order_run g.header)
+    (q.counts x) (q.counts y) = called_wider (omega arith) (omega arith) o.in_runs in
+    record {
+      passes_most = o.passes_most;
+      fewer = λ t c i. let r = (o.ranks t c i).passes_is in omega (arith, r);
+      looked = looked;
+      looked_most = omega (arith, o.looked_most, first);
+      unlooked = o.unlooked;
+      of = record {
+        peak_most = omega (arith, size, first, own);
+        moves_most = omega (arith, moves, size, first, own);
+        called = called_wider (omega (arith, e)) (omega arith)
+            (runs_both earlier o.beside.rests later);
+      };
+    }
 
 module _ {Q : Type 0} (q : QueueGhosts Q) (x y z : Q) {s v w : RigState} (g : Graph)
-    {before list : Chain} {calls moved extra passes count : ℕ}
-    (o : IsReady q x y s v g before list calls moved extra passes count) where
+    {before list : Chain} {looked passes count : ℕ}
+    (o : IsReady q x y s v g before list looked passes count) where
   -- A call was refused,
-  pub ranked_none : {fault : EmFault} → StopsRanking q count y z list v w fault
+  pub ranked_none : {fault : EmFault} → StopsRanking q g.header count y z list v w fault
       → OrdersNone q x z s w g (stop.Em fault)
   ranked_none r =
-      let told = o.beside.runs.runs.session.touches.told in
-      orders_stopped q x z g (list_stops q x y z o.beside r.stops.stops) (omega arith)
-      (ready_within q x y z g o r.in_runs r.stops.held_most r.stops.moved (λ t. r.stops.peak_most (told ∙ t))
-      (λ t. r.stops.moves_most (told ∙ t)))
+      orders_stopped q x z g (list_stops q x y z o.beside r.stops) (omega arith)
+      (ready_within q x y z g o r.in_runs)
 
   -- the edges are those of each circuit,
   ranked_circuit : (d : Chain) → RanksList q g.header count y z list d v w → IsTrue s.device.told
@@ -227,10 +207,7 @@ module _ {Q : Type 0} (q : QueueGhosts Q) (x y z : Q) {s v w : RigState} (g : Gr
       let runs = list_then q x y z o.beside r.runs in
       let told = runs.runs.session.touches.told in
       record {
-        done = orders_until q x z g runs refl
-            (ready_within q x y z g o r.in_runs (list.blocks + 2 * ceiling count (payload_in v))
-            (ranking_moves list.blocks (ceiling count (payload_in v))) (λ t. omega arith)
-            (λ t. omega arith));
+        done = orders_until q x z g runs refl (ready_within q x y z g o r.in_runs);
         frames = runs.runs.frames;
         session = runs.runs.session;
         used = (let e = runs.runs.spends.used in omega (arith, e));

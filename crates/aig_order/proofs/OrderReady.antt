@@ -1,6 +1,6 @@
 -- What is known after the look at the list: each gate of each circuit of the graph has a rank, or there is
 -- a cycle.
-use Rattle.std.proofs.Common.{◌≡◌, ℕ, ◌+◌, ◌*◌, max, nat_lt, Bool, false, [], IsTrue, Option, Some, None, ap, refl, sym, ◌∙◌, subst, arith}
+use Rattle.std.proofs.Common.{◌≡◌, ℕ, ◌+◌, ◌*◌, max, nat_lt, Bool, false, [], IsTrue, Option, Some, None, ap, refl, sym, ◌∙◌, arith}
 use Rattle.em_space.specs.Held.{Apart, Holds}
 use Rattle.em_space.specs.Rig.{RigState}
 use Rattle.em_space.specs.declared.queue.Queue.{Ghosts as QueueGhosts}
@@ -17,7 +17,7 @@ use Rattle.aig_edges.specs.Graph.{IsGraph, IsGraphOf, edge_count, graph_blocks}
 use Rattle.aig_edges.specs.Looks.{Looks}
 use Rattle.aig_edges.specs.declared.graph.Graph.{Graph}
 use Rattle.aig_order.specs.declared.passing.Found.{Found}
-use Rattle.aig_order.specs.Findings.{FindsAll, FindsOf, MergesGraph, merging_moves, merging_peak}
+use Rattle.aig_order.specs.Findings.{FindsAll, FindsOf, MergesGraph, finding_calls, finding_moves, merging_moves, merging_peak}
 use Rattle.aig_order.specs.LeftGates.{left_if, looked_if}
 use Rattle.aig_order.specs.OrderGraph.{BeginsOrdering, IsCycleOf, OfDefinedCircuit}
 use Rattle.aig_order.proofs.OrderEnded.{held_at}
@@ -25,7 +25,7 @@ use Rattle.aig_order.proofs.OrderLists.{none_missing, one_missing}
 use Rattle.aig_order.proofs.OrderMade.{ListBeside, Within, each_defined}
 use Rattle.aig_order.proofs.OrderRanked.{IsReady}
 use Rattle.aig_order.proofs.Orders.{AllFound}
-use Rattle.aig_order.proofs.OrderSteps.{found_within, list_of, looked_low}
+use Rattle.aig_order.proofs.OrderSteps.{found_of, list_of, looked_low}
 
 -- the rank after those of all gates
 abbrev pub end_of : Header → ℕ
@@ -54,15 +54,25 @@ told_after q x y m h = h.runs.runs.session.touches.told ∙ m.runs.session.touch
 -- The costs so far, if so much was looked at.
 pub looked_within : {Q : Type 0} (q : QueueGhosts Q) (x y : Q) {s t u : RigState} (g : Graph)
     {list : Chain} {f : Found} (b : Bool) → MergesGraph s t g list
-    → (h : FindsAll q g.header x y list f t u) → (IsTrue s.device.told → OfDefinedCircuit s g)
-    → Within q x y s g (max (max (merging_peak s g) (2 * list.blocks)) f.list.blocks)
-    ((merging_moves s g + h.moved) + looked_if b f.list.blocks)
+    → FindsAll q g.header x y list f t u → (IsTrue s.device.told → OfDefinedCircuit s g)
+    → Within q x y s g f.passes (max (max (merging_peak s g) (2 * list.blocks)) f.list.blocks)
+    ((merging_moves s g + finding_moves list (f.passes + 1)) + looked_if b f.list.blocks)
 looked_within q x y {s} g {list} {f} b m h defined =
     let low = looked_low b f.list.blocks in
-    subst (λ (n : ℕ). Within q x y s g (max (max (merging_peak s g) (2 * list.blocks)) n)
-    ((merging_moves s g + h.moved) + looked_if b f.list.blocks)) (sym h.blocks_is)
-    (found_within q x y g (looked_if b f.list.blocks) m defined m.runs.session.touches.told h.within
-    (omega (arith, low, h.blocks_is)))
+    let of = found_of q x y s g f.passes (looked_if b f.list.blocks) list m.blocks_is h.in_runs
+    (omega (arith, low, h.blocks_is)) in
+    record {
+      passes_most = h.passes_most;
+      fewer = λ z c i. let e = (found_for q x y m h defined z c i).passes_is in omega (arith, e);
+      looked = 0;
+      looked_most = omega arith;
+      unlooked = λ z. refl;
+      of = record {
+        peak_most = (let l = of.peak_most in omega (arith, l, h.blocks_is));
+        moves_most = of.moves_most;
+        called = of.called;
+      };
+    }
 
 -- A gate is left: there is a cycle.
 pub cycle_found : {Q : Type 0} (q : QueueGhosts Q) (x y : Q) {s t u : RigState} (g : Graph)
@@ -99,18 +109,18 @@ pub make_ready : {Q : Type 0} (q : QueueGhosts Q) (x y : Q) {s t u v : RigState}
     {list : Chain} {f : Found} {count : ℕ} {answer : Option ℕ}
     → BeginsOrdering g.header (q.counts x) s → IsGraph s g
     → (IsTrue s.device.told → OfDefinedCircuit s g) → MergesGraph s t g list
-    → (h : FindsAll q g.header x y list f t u)
+    → FindsAll q g.header x y list f t u
     → Looks (looked_if (nat_lt f.next (end_of g.header)) f.list.blocks) u v
-    → ListBeside q x y s v g ((0 + h.calls) + 0)
+    → ListBeside q x y s v g ((0 + finding_calls g.header (f.passes + 1)) + 0)
     (max (max (merging_peak s g) (2 * list.blocks)) f.list.blocks)
-    ((merging_moves s g + h.moved) + looked_if (nat_lt f.next (end_of g.header)) f.list.blocks)
-    f.list
+    ((merging_moves s g + finding_moves list (f.passes + 1))
+    + looked_if (nat_lt f.next (end_of g.header)) f.list.blocks) f.list
     → answer ≡ None
     → (IsTrue u.device.told
     → answer ≡ left_if (nat_lt f.next (end_of g.header)) (chain_items u f.list))
     → count ≡ edge_count g.header
-    → IsReady q x y s v g list f.list h.calls h.moved
-    (looked_if (nat_lt f.next (end_of g.header)) f.list.blocks) f.passes count
+    → IsReady q x y s v g list f.list (looked_if (nat_lt f.next (end_of g.header)) f.list.blocks)
+    f.passes count
 make_ready q x y {s} {t} {u} {v} g {list} {f} begins is defined m h looks beside none tells e =
     record {
       begins = begins;
@@ -119,9 +129,8 @@ make_ready q x y {s} {t} {u} {v} g {list} {f} begins is defined m h looks beside
       beside = beside;
       before_is = m.blocks_is;
       few = h.few;
-      within = λ z c i.
-          h.within (m.runs.session.touches.told ∙ z) c
-          (list_of c m z i (each_defined (defined z) c i));
+      in_runs = h.in_runs;
+      looked_most = looked_low (nat_lt f.next (end_of g.header)) f.list.blocks;
       ranks = λ z c i.
           let o = found_for q x y m h defined z c i in
           let k = chain_stays [] u v f.list looks.goes.touches

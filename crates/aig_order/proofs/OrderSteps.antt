@@ -1,6 +1,6 @@
 -- The steps of ordering a graph: its list is made, passes find gates, a gate that is left is looked for,
 -- and the edges between ranks are made.
-use Rattle.std.proofs.Common.{◌≡◌, ℕ, ◌+◌, ◌*◌, ◌≤◌, max, Bool, true, false, [], ◌++◌, IsTrue, ap, ap₂, sym, ◌∙◌, arith, Err}
+use Rattle.std.proofs.Common.{◌≡◌, ℕ, ◌+◌, ◌*◌, ◌≤◌, max, Bool, true, false, [], ◌++◌, IsTrue, ap, ap₂, refl, sym, ◌∙◌, arith, Err}
 use Rattle.em_space.specs.Held.{Holds}
 use Rattle.em_space.specs.Queue.{QueueCounts}
 use Rattle.em_space.specs.Rig.{RigState}
@@ -19,7 +19,6 @@ use Rattle.em_chain.proofs.Laws.{chain_stays}
 use Rattle.em_queued.specs.Queued.{RunsBeside, StopsBeside}
 use Rattle.em_queued.proofs.Queued.{beside_as, beside_holds, called_none, calls_none, others_beside, others_stop}
 use Rattle.aig_defs.specs.Circuit.{Circuit}
-use Rattle.aig_defs.specs.Founded.{passes_of}
 use Rattle.aig_text.specs.declared.stop.AigStop.TheVariants as stop
 use Rattle.aig_edges.specs.BuildGraph.{CalledInRuns}
 use Rattle.aig_edges.specs.Graph.{IsGraphOf}
@@ -28,7 +27,7 @@ use Rattle.aig_edges.specs.Pushes.{CanServeBeside}
 use Rattle.aig_edges.specs.Accounts.{stored_account}
 use Rattle.aig_edges.specs.declared.graph.Graph.{Graph}
 use Rattle.aig_order.specs.declared.passing.Found.{Found}
-use Rattle.aig_order.specs.Findings.{CanFind, FindsAll, FindsWithin, IsListOf, MergesGraph, MergesTo, StopsFinding, merging_moves, merging_peak}
+use Rattle.aig_order.specs.Findings.{CanFind, FindsAll, IsListOf, MergesGraph, MergesTo, StopsFinding, finding_calls, finding_moves, merging_moves, merging_peak}
 use Rattle.aig_order.specs.FindsOrder.{OrdersNone}
 use Rattle.aig_order.specs.LeftGates.{looked_if}
 use Rattle.aig_order.specs.OrderGraph.{BeginsOrdering, OfDefinedCircuit, adjacency_room, order_calls, order_run}
@@ -61,11 +60,18 @@ called_wider {c = c} {d = d} l k h = record {
 
 -- The list of a graph was made.
 pub merged_within : {Q : Type 0} (q : QueueGhosts Q) (x : Q) (s : RigState) (g : Graph)
-    → Within q x x s g (merging_peak s g) (merging_moves s g)
-merged_within q x s g z c i = record {
-  peak_most = omega arith;
-  moves_most = omega arith;
-  called = none_called (order_calls (passes_of c) g.header) (order_run g.header) (q.counts x);
+    → Within q x x s g 0 (merging_peak s g) (merging_moves s g)
+merged_within q x s g = record {
+  passes_most = omega arith;
+  fewer = λ z c i. omega arith;
+  looked = 0;
+  looked_most = omega arith;
+  unlooked = λ z. refl;
+  of = record {
+    peak_most = omega arith;
+    moves_most = omega arith;
+    called = none_called (order_calls 0 g.header) (order_run g.header) (q.counts x);
+  };
 }
 
 pub merged_beside : {Q : Type 0} (q : QueueGhosts Q) (x : Q) {s t : RigState} (g : Graph)
@@ -132,32 +138,19 @@ can_find q x {s} {t} g {list} b defined m w =
     }
 
 -- Passes were made, and so much was looked at after them.
-found_of : {Q : Type 0} (q : QueueGhosts Q) (x y : Q) (s : RigState) (g : Graph)
-    (calls peak moved extra : ℕ) (c : Circuit) (list : Chain)
-    → list.blocks ≡ adjacency_room s g → FindsWithin q g.header list x y calls peak moved c
+pub found_of : {Q : Type 0} (q : QueueGhosts Q) (x y : Q) (s : RigState) (g : Graph)
+    (passes extra : ℕ) (list : Chain) → list.blocks ≡ adjacency_room s g
+    → CalledInRuns (finding_calls g.header (passes + 1)) (4 * g.header.gates) (q.counts x) (q.counts y)
     → extra ≤ list.blocks
-    → WithinOf q (passes_of c) x y s g (max (max (merging_peak s g) peak) list.blocks)
-    ((merging_moves s g + moved) + extra)
-found_of q x y s g calls peak moved extra c list size f more =
-    let room = ap (λ b. (passes_of c + 1) * (5 * b + 1)) size in
-    let most = f.moves_most in
-    let top = f.peak_most in
+    → WithinOf q passes 0 x y s g (max (max (merging_peak s g) (2 * list.blocks)) list.blocks)
+    ((merging_moves s g + finding_moves list (passes + 1)) + extra)
+found_of q x y s g passes extra list size runs more =
+    let room = ap (λ b. (passes + 1) * (5 * b + 1)) size in
     record {
-      peak_most = omega (arith, top, size);
-      moves_most = omega (arith, most, room, size, more);
-      called = called_wider (omega arith) (omega arith) f.in_runs;
+      peak_most = omega (arith, size);
+      moves_most = omega (arith, room, size, more);
+      called = called_wider (omega arith) (omega arith) runs;
     }
-
-pub found_within : {Q : Type 0} (q : QueueGhosts Q) (x y : Q) {s t : RigState} (g : Graph)
-    {calls peak moved : ℕ} (extra : ℕ) {list : Chain} → MergesGraph s t g list
-    → (IsTrue s.device.told → OfDefinedCircuit s g) → t.device.told ≡ s.device.told
-    → (IsTrue t.device.told → (c : Circuit) → IsListOf t g.header list c
-    → FindsWithin q g.header list x y calls peak moved c) → extra ≤ list.blocks
-    → Within q x y s g (max (max (merging_peak s g) peak) list.blocks)
-    ((merging_moves s g + moved) + extra)
-found_within q x y {s} g {calls} {peak} {moved} extra {list} m defined told within more z c i =
-    found_of q x y s g calls peak moved extra c list m.blocks_is
-    (within (told ∙ z) c (list_of c m z i (each_defined (defined z) c i))) more
 
 pub found_none : {Q : Type 0} (q : QueueGhosts Q) (x y : Q) {s t u : RigState} (g : Graph)
     {list : Chain} {fault : EmFault} → MergesGraph s t g list
@@ -165,23 +158,30 @@ pub found_none : {Q : Type 0} (q : QueueGhosts Q) (x y : Q) {s t u : RigState} (
     → ListBeside q x x s t g 0 (merging_peak s g) (merging_moves s g) list
     → StopsFinding q g.header x y list t u fault → OrdersNone q x y s u g (stop.Em fault)
 found_none q x y {s} g {list} m defined w h =
-    let narrow : Within q x y s g (max (merging_peak s g) h.peak) (merging_moves s g + h.moved) =
-    λ z c i.
-    let k = found_within q x y g 0 m defined w.runs.runs.session.touches.told h.within (omega arith)
-    z c i in
-    record {
-      peak_most = (let l = k.peak_most in omega (arith, l));
-      moves_most = (let l = k.moves_most in omega (arith, l));
-      called = k.called;
+    let of = found_of q x y s g h.passes 0 list m.blocks_is h.in_runs (omega arith) in
+    let within : Within q x y s g h.passes (max (merging_peak s g) (2 * list.blocks))
+    (merging_moves s g + finding_moves list (h.passes + 1)) = record {
+      passes_most = h.passes_most;
+      fewer = λ z c i. h.fewer (w.runs.runs.session.touches.told ∙ z) c
+          (list_of c m z i (each_defined (defined z) c i));
+      looked = 0;
+      looked_most = omega arith;
+      unlooked = λ z. refl;
+      of = record {
+        peak_most = (let l = of.peak_most in omega (arith, l));
+        moves_most = (let l = of.moves_most in omega (arith, l));
+        called = of.called;
+      };
     } in
-    orders_stopped q x y g (list_stops q x x y w h.stops) (omega arith) narrow
+    orders_stopped q x y g (list_stops q x x y w h.stops) (omega arith) within
 
 pub found_beside : {Q : Type 0} (q : QueueGhosts Q) (x y : Q) {s t u : RigState} (g : Graph)
     {list : Chain} {f : Found}
     → ListBeside q x x s t g 0 (merging_peak s g) (merging_moves s g) list
-    → (h : FindsAll q g.header x y list f t u) → q.IsQueue y u
-    → ListBeside q x y s u g (0 + h.calls) (max (merging_peak s g) (2 * list.blocks))
-    (merging_moves s g + h.moved) f.list
+    → FindsAll q g.header x y list f t u → q.IsQueue y u
+    → ListBeside q x y s u g (0 + finding_calls g.header (f.passes + 1))
+    (max (merging_peak s g) (2 * list.blocks))
+    (merging_moves s g + finding_moves list (f.passes + 1)) f.list
 found_beside q x y g w h is = record {
   runs = list_then q x x y w h.runs;
   rests = h.rests;
@@ -263,9 +263,9 @@ looked_low true blocks = omega arith
 looked_low false blocks = omega arith
 
 pub looked_none : {Q : Type 0} (q : QueueGhosts Q) (x y : Q) {s u v : RigState} (g : Graph)
-    {i p m n : ℕ} {list : Chain} {fault : EmFault} → ListBeside q x y s u g i p m list
+    {i p m n passes : ℕ} {list : Chain} {fault : EmFault} → ListBeside q x y s u g i p m list
     → StopsLooking n u v fault → (q.counts y).unstored ≤ u.pool.shape.frames
-    → Within q x y s g (max p list.blocks) (m + n)
+    → Within q x y s g passes (max p list.blocks) (m + n)
     → OrdersNone q x y s v g (stop.Em fault)
 looked_none q x y g {list = list} w h few within =
     orders_stopped q x y g (list_stops q x y y w (look_stops q y list h few)) (omega arith) within

@@ -1,21 +1,22 @@
 -- A record is read beside a queue and a list that is written, and met.
-use Rattle.std.proofs.Common.{◌≡◌, ℕ, ◌+◌, ◌*◌, ◌≤◌, Bool, true, false, true≢false, if◌then◌else◌, List, [], ◌∷◌, ◌++◌, length, IsTrue, Result, Ok, Err, ap, ap₂, refl, sym, ◌∙◌, arith}
+use Rattle.std.proofs.Common.{◌≡◌, ℕ, ◌+◌, ◌*◌, ◌≤◌, Bool, true, false, true≢false, if◌then◌else◌, List, [], ◌∷◌, ◌++◌, length, IsTrue, Result, Ok, Err, ap, ap₂, refl, subst, sym, ◌∙◌, arith}
 use Rattle.em_record.specs.declared.record.Record.{Record}
 use Rattle.em_frames.specs.Pool.{singles_of}
 use Rattle.em_space.specs.Held.{Apart, Holds}
 use Rattle.em_space.specs.Ledger.{Account, Halts, both}
 use Rattle.em_space.specs.Queue.{QueueCounts}
-use Rattle.em_space.specs.Rig.{RigState, Goes, BlockCause}
+use Rattle.em_space.specs.Rig.{RigState, Goes, BlockCause, Cause}
 use Rattle.em_space.specs.declared.fault.EmFault.{EmFault}
+use Rattle.em_space.specs.declared.fault.EmFault.TheVariants.{Damaged}
 use Rattle.em_space.specs.declared.queue.Queue.{Ghosts as QueueGhosts}
 use Rattle.em_space.proofs.Ledgers.{full_never}
 use Rattle.em_space.proofs.Lists.{apart_left, apart_right, distinct_apart, distinct_left, in_use_left}
 use Rattle.em_space.proofs.Paying.{pays_kept, pays_more}
-use Rattle.em_space.proofs.Steps.{block_cause}
+use Rattle.em_space.proofs.Steps.{block_cause, untold_by}
 use Rattle.em_space.proofs.Within.{within_apart}
 use Rattle.em_chain.specs.Chain.{chain_blocks, payload_in}
 use Rattle.em_chain.specs.Counts.{ceiling}
-use Rattle.em_chain.specs.Reader.{ReaderStays, reader_blocks, rest_of}
+use Rattle.em_chain.specs.Reader.{ReaderStays, reader_blocks, reader_items, rest_of}
 use Rattle.em_chain.specs.Reads.{ReadCosts, Reads}
 use Rattle.em_chain.specs.Session.{writer_account}
 use Rattle.em_chain.specs.Writer.{WriterStays, writer_blocks}
@@ -28,13 +29,14 @@ use Rattle.em_chain.proofs.Sessions.{took_one, took_stays, took_then}
 use Rattle.em_queued.specs.Popped.{grown_blocks}
 use Rattle.em_queued.specs.Queued.{RunsBeside, StopsBeside}
 use Rattle.em_queued.proofs.Popped.{grown_low}
-use Rattle.em_queued.proofs.Queued.{beside_as, beside_holds, beside_then, beside_wider, others_stop, still_can_serve, stops_then, stops_wider}
+use Rattle.em_queued.proofs.Queued.{beside_as, beside_holds, beside_then, beside_wider, others_stop, shares_frames, still_can_serve, stops_then, stops_wider}
 use Rattle.aig_defs.specs.declared.circuit.Header.{Header}
 use Rattle.aig_edges.specs.Pushes.{HasReader, reader_account}
 use Rattle.aig_edges.proofs.Pushes.{IsBoth, ReadsRecord, beside_value, read_beside, stops_value}
+use Rattle.aig_order.specs.declared.limits.Limits.{Limits}
 use Rattle.aig_order.specs.declared.standing.Standing.{Standing}
 use Rattle.aig_order.specs.declared.standing.Sweep.{Sweep}
-use Rattle.aig_order.specs.SweepCalls.{CanMeet, CanSweep, Meets, MeetsOne, MeetsTo, StopsSweeping, Sweeps, SweepsTo, calls_at, sweep_account, sweep_blocks, sweep_calls, sweep_written, written_at}
+use Rattle.aig_order.specs.SweepCalls.{CanMeet, CanSweep, Fits, LeftAfter, Meets, MeetsOne, MeetsTo, StopsSweeping, Sweeps, SweepsTo, calls_at, sweep_account, sweep_blocks, written_at}
 use Rattle.aig_order.specs.Sweeps.{meet_all}
 
 -- Another value's account is added, whose blocks are among those that are named.
@@ -72,6 +74,24 @@ stops_with_account x h = record {
   pays = pays_more h.pays (omega arith);
   cause = h.cause;
 }
+
+-- Calls that ran, and then a fault that no call gave.
+pub runs_stop : {i p : ℕ} {held ks : List ℕ} {a b : Account} {c d : QueueCounts} {s t : RigState}
+    {fault : EmFault} → RunsBeside i p held ks a b c d s t → Cause s t fault
+    → d.unstored ≤ s.pool.shape.frames
+    → StopsBeside i p b.paid b.unstored held a c d s t fault
+runs_stop h e l =
+    let k = h.runs.spends in
+    record {
+      sound = h.runs.session.sound;
+      touches = h.runs.session.touches;
+      frames = shares_frames h.runs.frames h.calls_on.frames h.calls_on.areas;
+      called = h.calls_on.called;
+      most = omega (arith, k.most);
+      moves = omega (arith, k.moves);
+      pays = pays_more k.pays (omega (arith, l));
+      cause = e;
+    }
 
 pub both_is : (a x : Account) → IsBoth (both a x) a x
 both_is a x = record {
@@ -185,13 +205,13 @@ reads_can q x {s} {t} w {r} {k} can h =
     }
 
 -- It wasn't read.
-pub reads_refused : {T Q : Type 0} (q : QueueGhosts Q) (sweep : Sweep) (x : Q) {s t : RigState}
-    (w : Writer) {r k : Reader} {fault : EmFault} → CanSweep q 1 x w r s
+pub reads_refused : {T Q : Type 0} (q : QueueGhosts Q) (x : Q) {s t : RigState} (w : Writer)
+    {r k : Reader} (bound : Limits) {fault : EmFault} → CanSweep q 1 x w r s
     → (q.counts x).blocks ≤ (q.counts x).most
     → (q.counts x).unstored ≤ s.pool.shape.frames → Goes (reader_blocks s r) s t
     → ReadCosts {T = T} s t r k (Err fault) → BlockCause s t fault
-    → StopsSweeping q sweep 1 x x w r s t fault
-reads_refused {T} q sweep x {s} {t} w {r} {k} {fault} can m n g c e =
+    → StopsSweeping q x x w r bound s t fault
+reads_refused {T} q x {s} {t} w {r} {k} bound {fault} can m n g c e =
     let halts : Halts (reader_account r).blocks 0 0 (reader_account r) s t fault = record {
       used = let z = c.used_err in omega (arith, z);
       full = full_never s t fault _ e;
@@ -206,8 +226,6 @@ reads_refused {T} q sweep x {s} {t} w {r} {k} {fault} can m n g c e =
       written = 0;
       calls_most = omega arith;
       written_most = omega arith;
-      calls_told = λ z. omega arith;
-      written_told = λ z. omega arith;
       stops = stops_wider (omega arith) (omega (arith, low)) (omega (arith, low)) (omega arith)
           (stops_with_account (writer_account w)
           (others_stop (q.blocks x s ++ writer_blocks s w) (q.counts x)
@@ -247,9 +265,9 @@ meets_from q h sweep n rs x y p j {w} {v} {s} {t} {u} told st same g = record {
 -- It was read and met,
 pub next_one : {Q : Type 0} (q : QueueGhosts Q) (h : Header) (sweep : Sweep) (n : ℕ) (x y : Q)
     (p j : Standing) {s t u : RigState} {w v : Writer} {r k : Reader} {item : Record}
-    → ReadsOne q x w r k item s t → MeetsOne q h sweep n item x y p j w v t u
-    → Sweeps q h sweep n 1 x y p j w v r k s u
-next_one q h sweep n x y p j {s} {t} {u} {w} {v} {r} {k} {item} one g =
+    {bound left : Limits} → ReadsOne q x w r k item s t → LeftAfter sweep (item ∷ []) bound left
+    → MeetsOne q h sweep n item x y p j w v t u → Sweeps q h sweep n 1 x y p j w v r k bound left s u
+next_one q h sweep n x y p j {s} {t} {u} {w} {v} {r} {k} {item} one spent g =
     let z = g.runs.runs in
     let st = reader_kept q h sweep n x y one g in
     let told = one.runs.runs.session.touches.told in
@@ -263,6 +281,7 @@ next_one q h sweep n x y p j {s} {t} {u} {w} {v} {r} {k} {item} one g =
     record {
       records = item ∷ [];
       len = refl;
+      spent = spent;
       took = took_then (item ∷ []) [] (took_one (sweep_blocks q x w r s)
           one.runs.runs.session.touches one.reads)
           (took_stays (q.blocks x t ++ writer_blocks t w) z.session.touches st);
@@ -277,14 +296,14 @@ next_one q h sweep n x y p j {s} {t} {u} {w} {v} {r} {k} {item} one g =
 
 -- or not met.
 pub next_refused : {Q : Type 0} (q : QueueGhosts Q) (sweep : Sweep) (x y : Q) {s t u : RigState}
-    (w : Writer) (r k : Reader) (item : Record) {fault : EmFault} → ReadsOne q x w r k item s t
+    (w : Writer) (r k : Reader) (item : Record) {bound left : Limits} {fault : EmFault}
+    → ReadsOne q x w r k item s t → LeftAfter sweep (item ∷ []) bound left
     → StopsBeside (calls_at sweep item) (grown_blocks (written_at sweep item) t w)
     (2 * grown_blocks (written_at sweep item) t w) 1 (q.blocks x t ++ writer_blocks t w)
     (writer_account w) (q.counts x) (q.counts y) t u fault
-    → calls_at sweep item ≤ 2 → written_at sweep item ≤ 2
     → w.blocks ≤ grown_blocks (written_at sweep item) s w
-    → StopsSweeping q sweep 1 x y w r s u fault
-next_refused q sweep x y {s} {t} {u} w r k item one g few less low =
+    → StopsSweeping q x y w r bound s u fault
+next_refused q sweep x y {s} {t} {u} w r k item one spent g low =
     let pay : payload_in t ≡ payload_in s =
     payload_kept (sweep_blocks q x w r s) s t one.runs.runs.session.touches in
     let same : grown_blocks (written_at sweep item) t w ≡ grown_blocks (written_at sweep item) s w =
@@ -293,12 +312,8 @@ next_refused q sweep x y {s} {t} {u} w r k item one g few less low =
     record {
       calls = calls_at sweep item;
       written = written_at sweep item;
-      calls_most = omega (arith, few);
-      written_most = omega (arith, less);
-      calls_told = λ z.
-          let e = ap (sweep_calls sweep) (one.reads.items z) in omega (arith, e);
-      written_told = λ z.
-          let e = ap (sweep_written sweep) (one.reads.items z) in omega (arith, e);
+      calls_most = omega (arith, spent.calls);
+      written_most = omega (arith, spent.records);
       stops = stops_wider (omega arith) (omega (arith, same, more, low)) (omega (arith, same))
           (omega arith)
           (stops_then one.runs (stops_value (reader_blocks t k) (reader_account k)
@@ -308,11 +323,45 @@ next_refused q sweep x y {s} {t} {u} w r k item one g few less low =
 -- What reading and meeting it did, by the result of meeting.
 pub next_to : {Q : Type 0} (q : QueueGhosts Q) (h : Header) (sweep : Sweep) (n : ℕ) (x y : Q)
     (p : Standing) {s t : RigState} (u : RigState) (w v : Writer) (r k : Reader) (item : Record)
-    (result : Result Standing EmFault) → CanSweep q 1 x w r s → ReadsOne q x w r k item s t
-    → MeetsTo q h sweep n item x y p w v t u result → calls_at sweep item ≤ 2
-    → written_at sweep item ≤ 2 → SweepsTo q h sweep n 1 x y p w v r k s u result
-next_to q h sweep n x y p u w v r k item (Ok j) can one g few less =
-    next_one q h sweep n x y p j one g
-next_to q h sweep n x y p u w v r k item (Err e) can one g few less =
-    next_refused q sweep x y w r k item one g few less
+    (bound left : Limits) (result : Result Standing EmFault) → CanSweep q 1 x w r s
+    → ReadsOne q x w r k item s t → LeftAfter sweep (item ∷ []) bound left
+    → MeetsTo q h sweep n item x y p w v t u result
+    → SweepsTo q h sweep n 1 x y p w v r k bound left s u result
+next_to q h sweep n x y p u w v r k item bound left (Ok j) can one spent g =
+    next_one q h sweep n x y p j one spent g
+next_to q h sweep n x y p u w v r k item bound left (Err e) can one spent g =
+    next_refused q sweep x y w r k item one spent g
     (grown_low (written_at sweep item) can.meets.notes.sound can.meets.writer)
+
+-- The first of records that fit fits by itself.
+fits_first : (sweep : Sweep) (r : Record) (rs : List Record) (l : Limits) → Fits sweep (r ∷ rs) l
+    → Fits sweep (r ∷ []) l
+fits_first sweep r rs l f =
+    record { calls = omega (arith, f.calls); records = omega (arith, f.records) }
+
+-- It was read, and went past the limits, which no record of a device that tells does.
+pub past_limits : {Q : Type 0} (q : QueueGhosts Q) (sweep : Sweep) (x : Q) {s t : RigState}
+    (w : Writer) (r k : Reader) (item : Record) (bound : Limits) {fault : EmFault}
+    → CanSweep q 1 x w r s → ReadsOne q x w r k item s t
+    → (IsTrue s.device.told → Fits sweep (reader_items s r) bound)
+    → (q.counts x).unstored ≤ s.pool.shape.frames → fault ≡ Damaged 0
+    → (Fits sweep (item ∷ []) bound → ⊥) → StopsSweeping q x x w r bound s t fault
+past_limits q sweep x {s} {t} w r k item bound {fault} can one fits few same past =
+    let told = one.runs.runs.session.touches.told in
+    let more = fewer r k one.reads.taking one.reads.fewer in
+    let low = grown_low 0 can.meets.notes.sound can.meets.writer in
+    let cause : Cause s t (Damaged 0) = (
+      untold_by t.device.told (λ z.
+          let old = sym told ∙ z in
+          past (fits_first sweep item (reader_items t k) bound
+          (subst (λ (rs : List Record). Fits sweep rs bound) (one.reads.items old) (fits old)))),
+      one.runs.runs.session.sound.numbers.blocks_low,
+    ) in
+    record {
+      calls = 0;
+      written = 0;
+      calls_most = omega arith;
+      written_most = omega arith;
+      stops = stops_wider (omega arith) (omega (arith, low)) (omega (arith, low)) (omega arith)
+          (runs_stop one.runs (subst (λ (e : EmFault). Cause s t e) (sym same) cause) few);
+    }

@@ -3,7 +3,7 @@ use Rattle.std.proofs.Common.{◌≡◌, ℕ, ◌+◌, ◌<◌, ◌≤◌, List,
 use Rattle.std.proofs.lemmas.List.{length-append}
 use Rattle.em_record.specs.declared.record.Record.{Record}
 use Rattle.em_frames.specs.Pool.{singles_of}
-use Rattle.em_space.specs.Rig.{RigState, Sound}
+use Rattle.em_space.specs.Rig.{RigState}
 use Rattle.em_space.specs.declared.fault.EmFault.{EmFault}
 use Rattle.em_space.specs.declared.queue.Queue.{Ghosts as QueueGhosts}
 use Rattle.em_chain.specs.Chain.{payload_in}
@@ -18,9 +18,10 @@ use Rattle.em_queued.specs.Popped.{grown_blocks}
 use Rattle.em_queued.proofs.Popped.{grown_low}
 use Rattle.em_queued.proofs.Queued.{beside_holds, beside_none, beside_then, beside_wider, still_can_serve, stops_then, stops_wider}
 use Rattle.aig_defs.specs.declared.circuit.Header.{Header}
+use Rattle.aig_order.specs.declared.limits.Limits.{Limits}
 use Rattle.aig_order.specs.declared.standing.Standing.{Standing}
 use Rattle.aig_order.specs.declared.standing.Sweep.{Sweep}
-use Rattle.aig_order.specs.SweepCalls.{AllBelow, CanSweep, Meets, StopsSweeping, Sweeps, moment_of, sweep_account, sweep_blocks, sweep_calls, sweep_written}
+use Rattle.aig_order.specs.SweepCalls.{AllBelow, CanSweep, Fits, Meets, StopsSweeping, Sweeps, moment_of, sweep_account, sweep_blocks, sweep_calls, sweep_written}
 use Rattle.aig_order.specs.Sweeps.{Moment, meet_all}
 use Rattle.aig_order.proofs.Meeting.{calls_most, calls_then, meet_all_below, meet_then, written_most, written_then}
 use Rattle.aig_order.proofs.Reading.{fewer, holds_front}
@@ -42,12 +43,13 @@ meets_none q h sweep i n x p can = record {
 }
 
 pub sweeps_none : {Q : Type 0} (q : QueueGhosts Q) (h : Header) (sweep : Sweep) (i n : ℕ) (x : Q)
-    (p : Standing) {w : Writer} {r : Reader} {s : RigState}
+    (p : Standing) {w : Writer} {r : Reader} {s : RigState} (bound : Limits)
     → (q.counts x).blocks ≤ (q.counts x).most → CanSweep q n x w r s
-    → Sweeps q h sweep i 0 x x p p w w r r s s
-sweeps_none q h sweep i n x p {w} {r} {s} most can = record {
+    → Sweeps q h sweep i 0 x x p p w w r r bound bound s s
+sweeps_none q h sweep i n x p {w} {r} {s} bound most can = record {
   records = [];
   len = refl;
+  spent = record { calls = omega arith; records = omega arith };
   took = took_nothing can.reader;
   meets = meets_none q h sweep i n x p can;
   runs = beside_wider (omega arith) (omega arith)
@@ -79,18 +81,24 @@ meets_then q h sweep i m rs qs x y z p j k {w} {v} {e} {s} {t} {u} at-m a b =
     }
 
 pub sweeps_then : {Q : Type 0} (q : QueueGhosts Q) (h : Header) (sweep : Sweep) (i n : ℕ)
-    (x y z : Q) (p j k : Standing) {w v e : Writer} {r a b : Reader} {s t u : RigState}
-    → Sweeps q h sweep i n x y p j w v r a s t → Sweeps q h sweep (i + n) 1 y z j k v e a b t u
-    → Sweeps q h sweep i (n + 1) x z p k w e r b s u
-sweeps_then q h sweep i n x y z p j k {w} {v} {e} {r} {a} {b} {s} {t} {u} f g =
+    (x y z : Q) (p j k : Standing) {w v e : Writer} {r a b : Reader} {bound some left : Limits}
+    {s t u : RigState} → Sweeps q h sweep i n x y p j w v r a bound some s t
+    → Sweeps q h sweep (i + n) 1 y z j k v e a b some left t u
+    → Sweeps q h sweep i (n + 1) x z p k w e r b bound left s u
+sweeps_then q h sweep i n x y z p j k {w} {v} {e} {r} {a} {b} {s = s} {t} {u} f g =
     let rs = f.records in
     let qs = g.records in
     let len = length-append rs qs in
     let calls = calls_then sweep rs qs in
+    let written = written_then sweep rs qs in
     let less = fewer r a f.took.taking f.took.fewer in
     record {
       records = rs ++ qs;
       len = omega (arith, len, f.len, g.len);
+      spent = record {
+        calls = omega (arith, f.spent.calls, g.spent.calls, calls);
+        records = omega (arith, f.spent.records, g.spent.records, written);
+      };
       took = took_then rs qs f.took g.took;
       meets = meets_then q h sweep i (i + n) rs qs x y z p j k (omega (arith, f.len)) f.meets g.meets;
       runs = beside_wider (omega (arith, calls)) (omega (arith, less, g.meets.grows))
@@ -99,11 +107,11 @@ sweeps_then q h sweep i n x y z p j k {w} {v} {e} {r} {a} {b} {s} {t} {u} f g =
     }
 
 -- or one wasn't, of this many that were to be.
-pub sweeps_refused : {Q : Type 0} (q : QueueGhosts Q) (h : Header) (sweep : Sweep) (i n m : ℕ)
-    (x y z : Q) (p j : Standing) {w v : Writer} {r a : Reader} {s t u : RigState} {fault : EmFault}
-    → n < m → Sound s → Sweeps q h sweep i n x y p j w v r a s t
-    → StopsSweeping q sweep 1 y z v a t u fault → StopsSweeping q sweep m x z w r s u fault
-sweeps_refused q h sweep i n m x y z p j {w} {v} {r} {a} {s} {t} {u} l o f g =
+pub sweeps_refused : {Q : Type 0} (q : QueueGhosts Q) (h : Header) (sweep : Sweep) (i n : ℕ)
+    (x y z : Q) (p j : Standing) {w v : Writer} {r a : Reader} {bound left : Limits}
+    {s t u : RigState} {fault : EmFault} → Sweeps q h sweep i n x y p j w v r a bound left s t
+    → StopsSweeping q y z v a left t u fault → StopsSweeping q x z w r bound s u fault
+sweeps_refused q h sweep i n x y z p j {w} {v} {r} {a} {s = s} {t} {u} f g =
     let rs = f.records in
     let pay : payload_in t ≡ payload_in s =
     payload_kept (sweep_blocks q x w r s) s t f.runs.runs.session.touches in
@@ -114,30 +122,20 @@ sweeps_refused q h sweep i n m x y z p j {w} {v} {r} {a} {s} {t} {u} l o f g =
     let low : v.blocks ≤ grown_blocks g.written t v =
     grown_low g.written f.runs.runs.session.sound f.meets.is in
     let less = fewer r a f.took.taking f.took.fewer in
-    let calls = calls_most sweep rs in
-    let written = written_most sweep rs in
     record {
       calls = sweep_calls sweep rs + g.calls;
       written = sweep_written sweep rs + g.written;
-      calls_most = omega (arith, calls, f.len, g.calls_most, l);
-      written_most = omega (arith, written, f.len, g.written_most, l);
-      calls_told = λ d.
-          let e = ap (sweep_calls sweep) (f.took.items d) in
-          let c = calls_then sweep rs (reader_items t a) in
-          let k = g.calls_told (f.meets.told ∙ d) in omega (arith, e, c, k);
-      written_told = λ d.
-          let e = ap (sweep_written sweep) (f.took.items d) in
-          let c = written_then sweep rs (reader_items t a) in
-          let k = g.written_told (f.meets.told ∙ d) in omega (arith, e, c, k);
+      calls_most = omega (arith, f.spent.calls, g.calls_most);
+      written_most = omega (arith, f.spent.records, g.written_most);
       stops = stops_wider (omega arith) (omega (arith, same, low, less)) (omega (arith, same))
           (omega arith) (stops_then f.runs g.stops);
     }
 
 -- What the next one wants,
 pub sweeps_can : {Q : Type 0} (q : QueueGhosts Q) (h : Header) (sweep : Sweep) (i n m : ℕ) (x y : Q)
-    (p j : Standing) {w v : Writer} {r a : Reader} {s t : RigState} → n < m
-    → CanSweep q m x w r s → Sweeps q h sweep i n x y p j w v r a s t → CanSweep q 1 y v a t
-sweeps_can q h sweep i n m x y p j {w} {v} {r} {a} {s} {t} l can f =
+    (p j : Standing) {w v : Writer} {r a : Reader} {bound left : Limits} {s t : RigState} → n < m
+    → CanSweep q m x w r s → Sweeps q h sweep i n x y p j w v r a bound left s t → CanSweep q 1 y v a t
+sweeps_can q h sweep i n m x y p j {w} {v} {r} {a} {s = s} {t} l can f =
     let shape = ap singles_of f.runs.runs.frames.shape in
     let free = f.runs.runs.frames.free in
     let calls = calls_most sweep f.records in
@@ -167,11 +165,30 @@ sweeps_can q h sweep i n m x y p j {w} {v} {r} {a} {s} {t} l can f =
       out = omega (arith, can.out, shape, free, frames);
     }
 
+-- which is within what is left of the limits, if all of them fit,
+pub sweeps_fit : {Q : Type 0} (q : QueueGhosts Q) (h : Header) (sweep : Sweep) (i n : ℕ) (x y : Q)
+    (p j : Standing) {w v : Writer} {r a : Reader} {bound left : Limits} {s t : RigState}
+    → (IsTrue s.device.told → Fits sweep (reader_items s r) bound)
+    → Sweeps q h sweep i n x y p j w v r a bound left s t → IsTrue t.device.told
+    → Fits sweep (reader_items t a) left
+sweeps_fit q h sweep i n x y p j {r = r} {a} {s = s} {t} fits f z =
+    let old = sym f.meets.told ∙ z in
+    let all = fits old in
+    let same = f.took.items old in
+    let calls = ap (sweep_calls sweep) same in
+    let written = ap (sweep_written sweep) same in
+    let more_calls = calls_then sweep f.records (reader_items t a) in
+    let more_written = written_then sweep f.records (reader_items t a) in
+    record {
+      calls = omega (arith, calls, more_calls, f.spent.calls, all.calls);
+      records = omega (arith, written, more_written, f.spent.records, all.records);
+    }
+
 -- and its number is above those in the queue.
 pub sweeps_below : {Q : Type 0} (q : QueueGhosts Q) (h : Header) (sweep : Sweep) (i n : ℕ) (x y : Q)
-    (p j : Standing) {w v : Writer} {r a : Reader} {s t : RigState}
+    (p j : Standing) {w v : Writer} {r a : Reader} {bound left : Limits} {s t : RigState}
     → (IsTrue s.device.told → AllBelow i (q.items x s))
-    → Sweeps q h sweep i n x y p j w v r a s t → IsTrue t.device.told
+    → Sweeps q h sweep i n x y p j w v r a bound left s t → IsTrue t.device.told
     → AllBelow (i + n) (q.items y t)
 sweeps_below q h sweep i n x y p j {w} {v} {s = s} {t} below f z =
     let old = sym f.meets.told ∙ z in

@@ -1,5 +1,5 @@
 -- A list is begun, two sweeps write to it, and it is finished.
-use Rattle.std.proofs.Common.{◌≡◌, ℕ, ◌+◌, ◌*◌, ◌≤◌, min, List, [], ◌∷◌, ◌++◌, length, IsTrue, ap, ap₂, refl, sym, ◌∙◌, arith}
+use Rattle.std.proofs.Common.{◌≡◌, ℕ, ◌+◌, ◌*◌, ◌≤◌, min, List, [], ◌∷◌, ◌++◌, length, IsTrue, ap, ap₂, refl, subst, sym, ◌∙◌, arith, Err}
 use Rattle.std.proofs.lemmas.List.{append-nil}
 use Rattle.em_record.specs.Shape.{fan_of}
 use Rattle.em_record.specs.declared.record.Record.{Record}
@@ -24,20 +24,20 @@ use Rattle.em_chain.proofs.Counts.{writer_blocks_are}
 use Rattle.em_chain.proofs.Keeps.{payload_kept}
 use Rattle.em_chain.proofs.Laws.{chain_stays}
 use Rattle.em_chain.proofs.Readers.{length_items}
-use Rattle.em_chain.proofs.Sessions.{ceiling_rises}
 use Rattle.em_queued.specs.Popped.{grown_blocks}
-use Rattle.em_queued.proofs.Queued.{beside_wider}
+use Rattle.em_queued.proofs.Queued.{beside_wider, stops_wider}
 use Rattle.aig_defs.specs.declared.circuit.Header.{Header}
 use Rattle.aig_edges.specs.Accounts.{stored_account}
 use Rattle.aig_edges.proofs.Besides.{beside_by}
 use Rattle.aig_edges.proofs.Pushed.{stops_lent}
+use Rattle.aig_order.specs.declared.limits.Limits.{Limits}
 use Rattle.aig_order.specs.declared.standing.Sweep.{Sweep}
-use Rattle.aig_order.specs.Passes.{CanSweepTwice, StopsWithin, SweepsBoth, after_both, at_start, both_calls, both_room, both_written, sweeping_moves}
-use Rattle.aig_order.specs.SweepCalls.{moment_of, sweep_calls, sweep_written}
+use Rattle.aig_order.specs.Passes.{BothFit, CanSweepTwice, SweepsBoth, SweepsTwice, after_both, at_start, bound_room, sweeping_moves}
+use Rattle.aig_order.specs.SweepCalls.{moment_of}
 use Rattle.aig_order.specs.SweepLists.{pair_held, three_held}
 use Rattle.aig_order.specs.SweepPairs.{CanSweepPair, StopsPair, SweepsPair, after_pair}
 use Rattle.aig_order.specs.Sweeps.{Moment, at_constant}
-use Rattle.aig_order.proofs.Ended.{finish_runs, finish_stops, stops_by}
+use Rattle.aig_order.proofs.Ended.{blocks_within, finish_runs, finish_stops, stops_by}
 use Rattle.aig_order.proofs.Reading.{holds_front}
 
 -- A frame was lent to a new list, and the queue stayed.
@@ -139,10 +139,19 @@ begun_can q h a b next x w {s} {m} c can k =
           ap (λ (o : Moment). o.items) (after_is q h a b next x w c can k old) ∙ can.empties old;
     }
 
+pub begun_fits : {Q : Type 0} (q : QueueGhosts Q) (h : Header) (a b : Sweep) (next : ℕ) (x : Q)
+    (w : Writer) {s m : RigState} (c : Chain) (bound : Limits) → CanSweepTwice q h a b next x s c
+    → Begun q x w s m → (IsTrue s.device.told → BothFit a b (chain_items s c) bound)
+    → IsTrue m.device.told → BothFit a b (chain_items m c) bound
+begun_fits q h a b next x w c bound can k fits z =
+    let old = sym k.lends.touches.told ∙ z in
+    subst (λ (rs : List Record). BothFit a b rs bound)
+    (sym ((chain_kept q h a b next x c can k).items old)) (fits old)
+
 -- how many blocks the list takes
 size_is : {Q : Type 0} (q : QueueGhosts Q) (h : Header) (a b : Sweep) (next : ℕ) (x y : Q)
-    (last : ℕ) (w v : Writer) {s m n : RigState} (c : Chain) → Begun q x w s m
-    → SweepsPair q h a b next c x y last w v m n → v.blocks ≡ ceiling v.count (payload_in s)
+    (last : ℕ) (w v : Writer) {s m n : RigState} (c : Chain) {bound : Limits} → Begun q x w s m
+    → SweepsPair q h a b next c x y last w v bound m n → v.blocks ≡ ceiling v.count (payload_in s)
 size_is q h a b next x y last w v {s} {m} {n} c k f =
     let r = f.runs.runs.session in
     let all : filled n v ≡ v.count =
@@ -153,13 +162,13 @@ size_is q h a b next x y last w v {s} {m} {n} c k f =
 
 -- They were made, and the list was finished,
 pub twice_made : {Q : Type 0} (q : QueueGhosts Q) (h : Header) (a b : Sweep) (next : ℕ) (x y : Q)
-    (last : ℕ) (w v : Writer) {s m n t : RigState} (c d : Chain)
+    (last : ℕ) (w v : Writer) {s m n t : RigState} (c d : Chain) {bound : Limits}
     → CanSweepTwice q h a b next x s c → Begun q x w s m
-    → SweepsPair q h a b next c x y last w v m n → GivesFrame (writer_blocks n v) n t
+    → SweepsPair q h a b next c x y last w v bound m n → GivesFrame (writer_blocks n v) n t
     → Finishes n t v d
     → Spends v.blocks (writer_account v) (chain_account (min v.blocks 1) d) n t
     → (IsTrue n.device.told → q.blocks y t ≡ q.blocks y n) → (q.counts y).since ≡ 0
-    → SweepsBoth q h a b next x y c (record { list = d; next = last }) s t
+    → SweepsBoth q h a b next bound x y c (record { list = d; next = last }) s t
 twice_made q h a b next x y last w v {s} {m} {n} {t} c d can k f g e p blocks rests =
     let told = k.lends.touches.told in
     let st = chain_kept q h a b next x c can k in
@@ -174,6 +183,8 @@ twice_made q h a b next x y last w v {s} {m} {n} {t} c d can k f g e p blocks re
       later_len = f.later_len;
       earlier_is = λ z. f.earlier_is (told ∙ z) ∙ st.items z;
       later_is = λ z. f.later_is (told ∙ z) ∙ st.items z;
+      calls_most = f.calls_most;
+      written_most = f.written_most;
       is = e.is;
       packed = λ z.
           e.packed (f.runs.runs.session.touches.told ∙ told ∙ z)
@@ -197,78 +208,40 @@ twice_made q h a b next x y last w v {s} {m} {n} {t} c d can k f g e p blocks re
 
 -- or it wasn't,
 pub twice_unfinished : {Q : Type 0} (q : QueueGhosts Q) (h : Header) (a b : Sweep) (next : ℕ)
-    (x y : Q) (last : ℕ) (w v : Writer) {s m n t : RigState} (c : Chain) {fault : EmFault}
-    → CanSweepTwice q h a b next x s c → Begun q x w s m
-    → SweepsPair q h a b next c x y last w v m n → (q.counts y).unstored ≤ n.pool.shape.frames
+    (x y : Q) (last : ℕ) (w v : Writer) {s m n t : RigState} (c : Chain) {bound : Limits}
+    {fault : EmFault} → CanSweepTwice q h a b next x s c → Begun q x w s m
+    → SweepsPair q h a b next c x y last w v bound m n → (q.counts y).unstored ≤ n.pool.shape.frames
     → GivesFrame (writer_blocks n v) n t
     → Halts v.blocks (2 * v.blocks + min v.blocks 1) (min v.blocks 1) (writer_account v) n t fault
-    → DeviceCause n t fault
-    → StopsWithin q (both_calls a b (chain_items s c)) (c.blocks + both_room a b s c)
-    (sweeping_moves c.blocks (both_room a b s c)) (q.blocks x s ++ chain_blocks s c) c.blocks x y s t
-    fault
-twice_unfinished q h a b next x y last w v {s} {m} {n} {t} c can k f few g p cause =
-    let told = k.lends.touches.told in
-    let st = chain_kept q h a b next x c can k in
-    let size = size_is q h a b next x y last w v c k f in
-    let room : IsTrue s.device.told → v.blocks ≡ both_room a b s c =
-    λ z.
-    let first = ap (sweep_written a) (f.earlier_is (told ∙ z) ∙ st.items z) in
-    let second = ap (sweep_written b) (f.later_is (told ∙ z) ∙ st.items z) in
-    let all : v.count ≡ both_written a b (chain_items s c) =
-    omega (arith, f.count_is, k.begins.count, first, second) in
-    size ∙ ap (λ (i : ℕ). ceiling i (payload_in s)) all in
-    record {
-      called = sweep_calls a f.earlier + sweep_calls b f.later;
-      held_most = v.blocks + c.blocks;
-      moved = 3 * c.blocks + 2 * v.blocks + 1;
-      calls_most = λ z.
-          let first = ap (sweep_calls a) (f.earlier_is (told ∙ z) ∙ st.items z) in
-          let second = ap (sweep_calls b) (f.later_is (told ∙ z) ∙ st.items z) in
-          omega (arith, first, second);
-      peak_most = λ z. let e = room z in omega (arith, e);
-      moves_most = λ z. let e = room z in omega (arith, e);
-      stops = stops_by (stored_account c.blocks (3 * c.blocks + 2 * v.blocks + 1)) 0
-          (omega (arith, k.begins.blocks)) (omega (arith, k.begins.blocks))
-          (omega (arith, k.begins.blocks))
-          (finish_stops v (q.blocks x s ++ chain_blocks s c) (three_held q x w c m) (q.blocks y n)
-          can.holds k.lends k.unmoved (held_is q h a b next x w c can k) f.runs few g p cause
-          (omega arith));
-    }
+    → DeviceCause n t fault → SweepsTwice q h a b next bound x y c s t (Err fault)
+twice_unfinished q h a b next x y last w v {s} {m} {n} {t} c {bound} can k f few g p cause =
+    let low = can.sound.shape.block_low in
+    let room : v.blocks ≤ bound_room s bound =
+    blocks_within v.count bound.records (payload_in s)
+    (omega (arith, f.count_is, k.begins.count, f.written_most)) (omega (arith, low))
+    (size_is q h a b next x y last w v c k f) in
+    stops_wider f.calls_most (omega (arith, room)) (omega arith) (omega arith)
+    (stops_by (stored_account c.blocks (sweeping_moves c.blocks (bound_room s bound))) 0
+    (omega (arith, k.begins.blocks)) (omega (arith, k.begins.blocks))
+    (omega (arith, k.begins.blocks, room))
+    (finish_stops v (q.blocks x s ++ chain_blocks s c) (three_held q x w c m) (q.blocks y n)
+    can.holds k.lends k.unmoved (held_is q h a b next x w c can k) f.runs few g p cause (omega arith)))
 
 -- or a sweep was refused.
 pub twice_stops : {Q : Type 0} (q : QueueGhosts Q) (h : Header) (a b : Sweep) (next : ℕ)
-    (x y : Q) (w : Writer) {s m n t : RigState} (c : Chain) {fault : EmFault}
-    → CanSweepTwice q h a b next x s c → Begun q x w s m → StopsPair q a b c x y w m n fault
-    → GivesFrame [] n t → Unmoved n t
-    → StopsWithin q (both_calls a b (chain_items s c)) (c.blocks + both_room a b s c)
-    (sweeping_moves c.blocks (both_room a b s c)) (q.blocks x s ++ chain_blocks s c) c.blocks x y s t
-    fault
-twice_stops q h a b next x y w {s} {m} {n} {t} c can k f g due =
-    let told = k.lends.touches.told in
-    let st = chain_kept q h a b next x c can k in
+    (x y : Q) (w : Writer) {s m n t : RigState} (c : Chain) {bound : Limits} {fault : EmFault}
+    → CanSweepTwice q h a b next x s c → Begun q x w s m → StopsPair q c x y w bound m n fault
+    → GivesFrame [] n t → Unmoved n t → SweepsTwice q h a b next bound x y c s t (Err fault)
+twice_stops q h a b next x y w {s} {m} {n} {t} c {bound} can k f g due =
     let low = can.sound.shape.block_low in
     let size : grown_blocks f.written m w ≡ ceiling f.written (payload_in s) =
     ap₂ (λ (d : ℕ) (p : ℕ). ceiling d p) (omega (arith, k.begins.filled_is))
     (payload_kept [] s m k.lends.touches) in
-    let room : IsTrue s.device.told → grown_blocks f.written m w ≤ both_room a b s c =
-    λ z.
-    let e = ap (both_written a b) (st.items z) in
-    let most = f.written_told (told ∙ z) in
-    let rise = ceiling_rises f.written (both_written a b (chain_items s c)) (payload_in s)
-    (omega (arith, low)) (omega (arith, e, most)) in
-    omega (arith, size, rise) in
-    record {
-      called = f.calls;
-      held_most = grown_blocks f.written m w + c.blocks;
-      moved = 3 * c.blocks + 2 * grown_blocks f.written m w;
-      calls_most = λ z.
-          let e = ap (both_calls a b) (st.items z) in
-          let most = f.calls_told (told ∙ z) in omega (arith, e, most);
-      peak_most = λ z. let e = room z in omega (arith, e);
-      moves_most = λ z. let e = room z in omega (arith, e);
-      stops = stops_by (stored_account c.blocks (3 * c.blocks + 2 * grown_blocks f.written m w)) 0
-          (omega (arith, k.begins.blocks)) (omega (arith, k.begins.blocks))
-          (omega (arith, k.begins.blocks))
-          (stops_lent (q.blocks x s ++ chain_blocks s c) k.lends k.unmoved
-          (held_is q h a b next x w c can k) f.stops g due);
-    }
+    let room : grown_blocks f.written m w ≤ bound_room s bound =
+    blocks_within f.written bound.records (payload_in s) f.written_most (omega (arith, low)) size in
+    stops_wider f.calls_most (omega (arith, room)) (omega arith) (omega arith)
+    (stops_by (stored_account c.blocks (sweeping_moves c.blocks (bound_room s bound))) 0
+    (omega (arith, k.begins.blocks)) (omega (arith, k.begins.blocks))
+    (omega (arith, k.begins.blocks, room))
+    (stops_lent (q.blocks x s ++ chain_blocks s c) k.lends k.unmoved
+    (held_is q h a b next x w c can k) f.stops g due))

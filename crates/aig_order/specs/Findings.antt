@@ -18,6 +18,7 @@ use Rattle.aig_edges.specs.Graph.{graph_blocks, graph_size}
 use Rattle.aig_edges.specs.Pushes.{CanServeBeside}
 use Rattle.aig_edges.specs.Accounts.{stored_account}
 use Rattle.aig_edges.specs.declared.graph.Graph.{Graph}
+use Rattle.aig_order.specs.declared.limits.Limits.{Limits}
 use Rattle.aig_order.specs.declared.passing.Found.{Found}
 use Rattle.aig_order.specs.Adjacent.{adjacency_of}
 use Rattle.aig_order.specs.ByPass.{by_pass}
@@ -77,15 +78,13 @@ pub record CanFind {Q : Type 0} (q : QueueGhosts Q) (h : Header) (x : Q) (s : Ri
   pub holds : IsTrue s.device.told → Holds s (q.blocks x s ++ chain_blocks s list)
   pub stands : IsTrue s.device.told → OfSomeList s h list
 
--- The passes of a circuit and one more have so many calls of the queue, in each of which at most 4 A
--- come, and so many moves.
-pub record FindsWithin {Q : Type 0} (q : QueueGhosts Q) (h : Header) (list : Chain) (x y : Q)
-    (calls peak moved : ℕ) (c : Circuit) : Type 0 where
-  pub calls_most : calls ≤ 4 * (passes_of c + 1) * h.gates
-  pub peak_most : peak ≤ 2 * list.blocks
-  pub moves_most : moved ≤ (passes_of c + 1) * (5 * list.blocks + 1)
-  pub in_runs : CalledInRuns (4 * (passes_of c + 1) * h.gates) (4 * h.gates) (q.counts x)
-      (q.counts y)
+-- the calls of the queue in n passes: in each of them at most 4 A come
+abbrev pub finding_calls : Header → ℕ → ℕ
+finding_calls h n = 4 * n * h.gates
+
+-- the moves of n passes over a list beside those of the queue
+abbrev pub finding_moves : Chain → ℕ → ℕ
+finding_moves list n = n * (5 * list.blocks + 1)
 
 -- What they find of a circuit: the list after as many passes as the circuit has, and the rank after
 -- those of all gates that they found.
@@ -94,14 +93,16 @@ pub record FindsOf (t : RigState) (f : Found) (c : Circuit) : Type 0 where
   pub items : chain_items t f.list ≡ list_after c (passes_of c)
   pub next_is : f.next ≡ first_gate_rank c + length (by_pass c)
 
--- All passes were made, and no call was refused. The queue has no item.
+-- what both sweeps of a pass may do
+abbrev pub finding_limits : Header → Chain → Limits
+finding_limits h list = record { calls = 4 * h.gates; records = list.count }
+
+-- All passes were made, and one more at most that found nothing, and no call was refused. The queue has
+-- no item.
 pub record FindsAll {Q : Type 0} (q : QueueGhosts Q) (h : Header) (x y : Q) (list : Chain) (f : Found)
     (s t : RigState) : Type 0 where
-  pub calls : ℕ
-  pub moved : ℕ
   pub few : (q.counts y).n + 12 * adjacency_count h ≤ (q.counts x).n + any_calls h
-  pub within : IsTrue s.device.told → (c : Circuit) → IsListOf s h list c
-      → FindsWithin q h list x y calls (2 * list.blocks) moved c
+  pub in_runs : CalledInRuns (finding_calls h (f.passes + 1)) (4 * h.gates) (q.counts x) (q.counts y)
   pub finds : IsTrue s.device.told → (c : Circuit) → IsListOf s h list c → FindsOf t f c
   pub is : IsChain t f.list
   pub count_is : f.list.count ≡ list.count
@@ -109,20 +110,21 @@ pub record FindsAll {Q : Type 0} (q : QueueGhosts Q) (h : Header) (x y : Q) (lis
   pub passes_most : f.passes ≤ h.gates
   pub empty : (q.counts y).len ≡ 0
   pub rests : (q.counts y).since ≤ (q.counts x).since
-  pub runs : RunsBeside calls (2 * list.blocks) (q.blocks x s ++ chain_blocks s list)
-      (q.blocks y t ++ chain_blocks t f.list) (stored_account list.blocks moved)
+  pub runs : RunsBeside (finding_calls h (f.passes + 1)) (2 * list.blocks)
+      (q.blocks x s ++ chain_blocks s list) (q.blocks y t ++ chain_blocks t f.list)
+      (stored_account list.blocks (finding_moves list (f.passes + 1)))
       (stored_account f.list.blocks 0) (q.counts x) (q.counts y) s t
 
--- Such calls, of which the last one was refused.
+-- The pass after this many was refused: they are at most those of the circuit.
 pub record StopsFinding {Q : Type 0} (q : QueueGhosts Q) (h : Header) (x y : Q) (list : Chain)
     (s t : RigState) (fault : EmFault) : Type 0 where
-  pub calls : ℕ
-  pub peak : ℕ
-  pub moved : ℕ
-  pub within : IsTrue s.device.told → (c : Circuit) → IsListOf s h list c
-      → FindsWithin q h list x y calls peak moved c
-  pub stops : StopsBeside calls peak 0 1 (q.blocks x s ++ chain_blocks s list)
-      (stored_account list.blocks moved) (q.counts x) (q.counts y) s t fault
+  pub passes : ℕ
+  pub passes_most : passes ≤ h.gates
+  pub fewer : IsTrue s.device.told → (c : Circuit) → IsListOf s h list c → passes ≤ passes_of c
+  pub in_runs : CalledInRuns (finding_calls h (passes + 1)) (4 * h.gates) (q.counts x) (q.counts y)
+  pub stops : StopsBeside (finding_calls h (passes + 1)) (2 * list.blocks) 0 1
+      (q.blocks x s ++ chain_blocks s list)
+      (stored_account list.blocks (finding_moves list (passes + 1))) (q.counts x) (q.counts y) s t fault
 
 -- what the passes did, by the result
 abbrev pub FindsTo : {Q : Type 0} → QueueGhosts Q → Header → Q → Q → Chain → RigState → RigState

@@ -14,25 +14,33 @@ use Rattle.aig_edges.specs.Graph.{IsGraphOf, IsOrdered, graph_blocks, graph_size
 use Rattle.aig_edges.specs.declared.graph.Graph.{Graph}
 use Rattle.aig_edges.specs.declared.graph.Ordered.{Ordered}
 use Rattle.aig_defs.specs.Faults.{IsDefined}
-use Rattle.aig_order.specs.OrderGraph.{OrdersCircuit, StopsOrdering, order_calls, order_moves, order_peak, order_run}
+use Rattle.aig_order.specs.OrderGraph.{OrdersCircuit, StopsOrdering, adjacency_room, order_calls, order_moves, order_peak, order_run}
 
--- The calls, the blocks and the moves are within what is promised for r passes.
-pub record DoneWithin {Q : Type 0} (q : QueueGhosts Q) (r : ℕ) (x y : Q) (s t : RigState) (g : Graph)
-    : Type 0 where
+-- The calls, the blocks and the moves are within what is promised for r passes, if this many blocks were
+-- looked at once more.
+pub record DoneWithin {Q : Type 0} (q : QueueGhosts Q) (r looked : ℕ) (x y : Q) (s t : RigState)
+    (g : Graph) : Type 0 where
   pub called : CalledInRuns (order_calls r g.header) (order_run g.header) (q.counts x) (q.counts y)
   pub most : t.most + ((q.counts x).blocks + graph_size g)
       ≤ max (s.most + ((q.counts x).blocks + graph_size g))
       (s.used + ((q.counts y).most + order_peak s g))
-  pub moves : t.moves + (q.counts x).spent ≤ s.moves + (q.counts y).spent + order_moves r s g
+  pub moves : t.moves + (q.counts x).spent
+      ≤ s.moves + (q.counts y).spent + (order_moves r s g + looked)
 
--- What was done until the queue, whose frames are out, is ended or abandoned.
+-- What was done until the queue, whose frames are out, is ended or abandoned: this many passes found a
+-- gate, at most as many as those of the circuit.
 pub record DoneUntil {Q : Type 0} (q : QueueGhosts Q) (x y : Q) (s t : RigState) (g : Graph)
     : Type 0 where
   pub sound : Sound t
   pub touches : Touches (q.blocks x s ++ graph_blocks s g) s t
   pub shares : Shares (q.counts x) (q.counts y) s.pool t.pool
-  pub within : IsTrue s.device.told → (c : Circuit) → IsGraphOf s g c
-      → DoneWithin q (passes_of c) x y s t g
+  pub passes : ℕ
+  pub passes_most : passes ≤ g.header.gates
+  pub fewer : IsTrue s.device.told → (c : Circuit) → IsGraphOf s g c → passes ≤ passes_of c
+  pub looked : ℕ
+  pub looked_most : looked ≤ adjacency_room s g
+  pub unlooked : IsTrue s.device.told → looked ≡ 0
+  pub within : DoneWithin q passes looked x y s t g
 
 -- The edges between ranks were made beside the queue, by calls of which none was refused.
 pub record OrdersBeside {Q : Type 0} (q : QueueGhosts Q) (x y : Q) (s t : RigState) (g : Graph)

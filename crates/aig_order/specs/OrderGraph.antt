@@ -107,13 +107,21 @@ pub record BeginsOrdering (h : Header) (c : QueueCounts) (s : RigState) : Type 0
   pub few : c.n + any_calls h < 2 ^ 100
   pub free : CanBuild s.pool
 
--- What ordering a graph cost, over a device that tells: the queue's calls and the moves beside it by the
--- passes of the circuit, whether it stopped or not.
-abbrev pub OrderCosts : {Q : Type 0} → QueueGhosts Q → QueueCounts → RigState → RigState → Graph
-    → Type 0
-OrderCosts q c s t g = IsTrue s.device.told → (circuit : Circuit) → IsGraphOf s g circuit
-    → SortCosts q (order_calls (passes_of circuit) g.header) (order_run g.header)
-    (order_moves (passes_of circuit) s g) (graph_size g) (order_peak s g) c s t
+-- What ordering a graph cost, over any device, whether it stopped or not: the queue's calls and the moves
+-- beside it go by the passes that found a gate. These are at most as many as there are gates, and over a
+-- device that tells at most those of the circuit. Over another device the list may be looked at once more
+-- before the edges between ranks are made.
+pub record OrderCosts {Q : Type 0} (q : QueueGhosts Q) (c : QueueCounts) (s t : RigState) (g : Graph)
+    : Type 0 where
+  pub passes : ℕ
+  pub passes_most : passes ≤ g.header.gates
+  pub fewer : IsTrue s.device.told → (circuit : Circuit) → IsGraphOf s g circuit
+      → passes ≤ passes_of circuit
+  pub looked : ℕ
+  pub looked_most : looked ≤ adjacency_room s g
+  pub unlooked : IsTrue s.device.told → looked ≡ 0
+  pub costs : SortCosts q (order_calls passes g.header) (order_run g.header)
+      (order_moves passes s g + looked) (graph_size g) (order_peak s g) c s t
 
 -- what the blocks in use are, and how many aren't stored: all of the list are; after a stop all are but
 -- two, and as many as there are frames

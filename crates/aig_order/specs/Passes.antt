@@ -16,6 +16,7 @@ use Rattle.aig_defs.specs.Graph.{AllLack}
 use Rattle.aig_edges.specs.BuildGraph.{CalledInRuns}
 use Rattle.aig_edges.specs.Pushes.{CanServeBeside}
 use Rattle.aig_edges.specs.Accounts.{stored_account}
+use Rattle.aig_order.specs.declared.limits.Limits.{Limits}
 use Rattle.aig_order.specs.declared.passing.Swept.{Swept}
 use Rattle.aig_order.specs.declared.standing.Sweep.{Sweep}
 use Rattle.aig_order.specs.declared.standing.Sweep.TheVariants.{Send, Rank}
@@ -43,6 +44,11 @@ both_calls first second rs = sweep_calls first rs + sweep_calls second rs
 abbrev pub both_written : Sweep → Sweep → List Record → ℕ
 both_written first second rs = sweep_written first rs + sweep_written second rs
 
+-- What both sweeps over these records do is within the limits.
+pub record BothFit (first second : Sweep) (rs : List Record) (l : Limits) : Type 0 where
+  pub calls : both_calls first second rs ≤ l.calls
+  pub records : both_written first second rs ≤ l.records
+
 -- the moves of both: the list is read twice and released, and so many blocks are written
 abbrev pub sweeping_moves : ℕ → ℕ → ℕ
 sweeping_moves read written = 3 * read + 2 * written + 1
@@ -61,17 +67,19 @@ pub record CanSweepTwice {Q : Type 0} (q : QueueGhosts Q) (h : Header) (first se
   pub empties : IsTrue s.device.told
       → (after_both h first second next (chain_items s c)).items ≡ []
 
--- Both sweeps were made, and no call was refused: a packed list of what they wrote, in blocks that the
--- queue or the list had, or that weren't in use. The queue has no item. Over a device that doesn't tell
--- the two may read other records of the list.
+-- Both sweeps were made within the limits, and no call was refused: a packed list of what they wrote, in
+-- blocks that the queue or the list had, or that weren't in use. The queue has no item. Over a device
+-- that doesn't tell the two may read other records of the list.
 pub record SweepsBoth {Q : Type 0} (q : QueueGhosts Q) (h : Header) (first second : Sweep) (next : ℕ)
-    (x y : Q) (c : Chain) (d : Swept) (s t : RigState) : Type 0 where
+    (bound : Limits) (x y : Q) (c : Chain) (d : Swept) (s t : RigState) : Type 0 where
   pub earlier : List Record
   pub later : List Record
   pub earlier_len : length earlier ≡ c.count
   pub later_len : length later ≡ c.count
   pub earlier_is : IsTrue s.device.told → earlier ≡ chain_items s c
   pub later_is : IsTrue s.device.told → later ≡ chain_items s c
+  pub calls_most : sweep_calls first earlier + sweep_calls second later ≤ bound.calls
+  pub written_most : sweep_written first earlier + sweep_written second later ≤ bound.records
   pub is : IsChain t d.list
   pub packed : IsTrue s.device.told → IsPacked t d.list
   pub count_is : d.list.count ≡ sweep_written first earlier + sweep_written second later
@@ -88,34 +96,20 @@ pub record SweepsBoth {Q : Type 0} (q : QueueGhosts Q) (h : Header) (first secon
       (stored_account c.blocks (sweeping_moves c.blocks d.list.blocks))
       (stored_account d.list.blocks 0) (q.counts x) (q.counts y) s t
 
--- Calls on a list of so many blocks beside a queue, of which the last one was refused. Over a device
--- that tells, at most this many calls of the queue came, at most this many blocks were held, and at
--- most this many moves were made beside those of the queue.
-pub record StopsWithin {Q : Type 0} (q : QueueGhosts Q) (calls peak owed : ℕ) (held : List ℕ)
-    (blocks : ℕ) (x y : Q) (s t : RigState) (fault : EmFault) : Type 0 where
-  pub called : ℕ
-  pub held_most : ℕ
-  pub moved : ℕ
-  pub calls_most : IsTrue s.device.told → called ≤ calls
-  pub peak_most : IsTrue s.device.told → held_most ≤ peak
-  pub moves_most : IsTrue s.device.told → moved ≤ owed
-  pub stops : StopsBeside called held_most 0 1 held (stored_account blocks moved) (q.counts x)
-      (q.counts y) s t fault
+-- the most blocks that the list takes which both sweeps write
+abbrev pub bound_room : RigState → Limits → ℕ
+bound_room s l = ceiling l.records (payload_in s)
 
--- the room of the list that both sweeps write, over a device that tells
-abbrev pub both_room : Sweep → Sweep → RigState → Chain → ℕ
-both_room first second s c =
-    ceiling (both_written first second (chain_items s c)) (payload_in s)
-
--- what both sweeps did, by the result
-abbrev pub SweepsTwice : {Q : Type 0} → QueueGhosts Q → Header → Sweep → Sweep → ℕ → Q → Q → Chain
-    → RigState → RigState → Result Swept EmFault → Type 0
-SweepsTwice q h first second next x y c s t (Ok d) = SweepsBoth q h first second next x y c d s t
-SweepsTwice q h first second next x y c s t (Err fault) =
-    StopsWithin q (both_calls first second (chain_items s c))
-    (c.blocks + both_room first second s c)
-    (sweeping_moves c.blocks (both_room first second s c)) (q.blocks x s ++ chain_blocks s c)
-    c.blocks x y s t fault
+-- what both sweeps did, by the result: a call was refused, or over a device that doesn't tell they went
+-- past the limits or left an item in the queue
+abbrev pub SweepsTwice : {Q : Type 0} → QueueGhosts Q → Header → Sweep → Sweep → ℕ → Limits → Q → Q
+    → Chain → RigState → RigState → Result Swept EmFault → Type 0
+SweepsTwice q h first second next bound x y c s t (Ok d) =
+    SweepsBoth q h first second next bound x y c d s t
+SweepsTwice q h _ _ next bound x y c s t (Err fault) =
+    StopsBeside bound.calls (c.blocks + bound_room s bound) 0 1 (q.blocks x s ++ chain_blocks s c)
+    (stored_account c.blocks (sweeping_moves c.blocks (bound_room s bound))) (q.counts x)
+    (q.counts y) s t fault
 
 -- what the sweeps that send ranks write
 abbrev pub ranks_of : Header → List Record → List Record
@@ -125,12 +119,19 @@ ranks_of h rs = (after_both h Send Rank 0 rs).written
 abbrev pub ranking_moves : ℕ → ℕ → ℕ
 ranking_moves read room = sweeping_moves read room + (4 * room + 1)
 
--- What the edges between ranks of a list want: both sweeps write this many, and they can be sorted.
+-- what both sweeps may do that make the edges between ranks
+abbrev pub ranking_limits : Header → ℕ → Limits
+ranking_limits h count = record { calls = 4 * h.gates; records = count }
+
+-- What the edges between ranks of a list want: both sweeps write this many, by 4 calls for each gate, and
+-- they can be sorted.
 pub record CanRank {Q : Type 0} (q : QueueGhosts Q) (h : Header) (count : ℕ) (x : Q) (s : RigState)
     (c : Chain) : Type 0 where
   pub sweeps : CanSweepTwice q h Send Rank 0 x s c
   pub few : (q.counts x).n + 4 * c.count + 2 * count < 2 ^ 100
   pub most : count ≤ 2 ^ 42
+  pub edges : 4 * h.gates ≤ 2 * count
+  pub called : IsTrue s.device.told → both_calls Send Rank (chain_items s c) ≡ 4 * h.gates
   pub written : IsTrue s.device.told → both_written Send Rank (chain_items s c) ≡ count
   pub lacks : IsTrue s.device.told → AllLack [] (ranks_of h (chain_items s c))
 
@@ -138,35 +139,29 @@ pub record CanRank {Q : Type 0} (q : QueueGhosts Q) (h : Header) (count : ℕ) (
 -- use. No call was refused. The queue has no item.
 pub record RanksList {Q : Type 0} (q : QueueGhosts Q) (h : Header) (count : ℕ) (x y : Q) (c d : Chain)
     (s t : RigState) : Type 0 where
-  pub calls : ℕ
-  pub calls_most : IsTrue s.device.told
-      → calls ≤ both_calls Send Rank (chain_items s c) + 2 * count
   pub is : IsChain t d
   pub packed : IsTrue s.device.told → IsPacked t d
   pub count_is : d.count ≡ count
   pub blocks_is : d.blocks ≡ ceiling count (payload_in s)
   pub items : IsTrue s.device.told → chain_items t d ≡ in_order (ranks_of h (chain_items s c))
-  pub in_runs : IsTrue s.device.told → both_calls Send Rank (chain_items s c) ≤ 2 * count
-      → CalledInRuns (both_calls Send Rank (chain_items s c) + 2 * count) (2 * count)
-      (q.counts x) (q.counts y)
-  pub runs : RunsBeside calls (c.blocks + 2 * ceiling count (payload_in s))
+  pub in_runs : CalledInRuns (4 * h.gates + 2 * count) (2 * count) (q.counts x) (q.counts y)
+  pub runs : RunsBeside (4 * h.gates + 2 * count) (c.blocks + 2 * ceiling count (payload_in s))
       (q.blocks x s ++ chain_blocks s c) (q.blocks y t ++ chain_blocks t d)
       (stored_account c.blocks (ranking_moves c.blocks (ceiling count (payload_in s))))
       (stored_account d.blocks 0) (q.counts x) (q.counts y) s t
 
--- Such calls, of which the last one was refused.
-pub record StopsRanking {Q : Type 0} (q : QueueGhosts Q) (count : ℕ) (x y : Q) (c : Chain)
-    (s t : RigState) (fault : EmFault) : Type 0 where
-  pub in_runs : IsTrue s.device.told → both_calls Send Rank (chain_items s c) ≤ 2 * count
-      → CalledInRuns (both_calls Send Rank (chain_items s c) + 2 * count) (2 * count)
-      (q.counts x) (q.counts y)
-  pub stops : StopsWithin q (both_calls Send Rank (chain_items s c) + 2 * count)
-      (c.blocks + 2 * ceiling count (payload_in s))
-      (ranking_moves c.blocks (ceiling count (payload_in s))) (q.blocks x s ++ chain_blocks s c)
-      c.blocks x y s t fault
+-- Such calls, of which the last one was refused; or over a device that doesn't tell, another number of
+-- edges came.
+pub record StopsRanking {Q : Type 0} (q : QueueGhosts Q) (h : Header) (count : ℕ) (x y : Q)
+    (c : Chain) (s t : RigState) (fault : EmFault) : Type 0 where
+  pub in_runs : CalledInRuns (4 * h.gates + 2 * count) (2 * count) (q.counts x) (q.counts y)
+  pub stops : StopsBeside (4 * h.gates + 2 * count) (c.blocks + 2 * ceiling count (payload_in s)) 0 1
+      (q.blocks x s ++ chain_blocks s c)
+      (stored_account c.blocks (ranking_moves c.blocks (ceiling count (payload_in s))))
+      (q.counts x) (q.counts y) s t fault
 
 -- what making them did, by the result
 abbrev pub RanksTo : {Q : Type 0} → QueueGhosts Q → Header → ℕ → Q → Q → Chain → RigState → RigState
     → Result Chain EmFault → Type 0
 RanksTo q h count x y c s t (Ok d) = RanksList q h count x y c d s t
-RanksTo q h count x y c s t (Err fault) = StopsRanking q count x y c s t fault
+RanksTo q h count x y c s t (Err fault) = StopsRanking q h count x y c s t fault

@@ -9,9 +9,10 @@ use Rattle.em_space.specs.Ledger.{Account, both, Runs, Stops}
 use Rattle.em_space.specs.Queue.{CanServe}
 use Rattle.em_space.specs.Rig.{RigState, Sound}
 use Rattle.em_space.specs.declared.fault.EmFault.{EmFault}
+use Rattle.em_space.specs.declared.fault.EmFault.TheVariants.{Damaged}
 use Rattle.em_space.specs.declared.queue.Queue.{Ghosts as QueueGhosts}
 use Rattle.em_chain.specs.Chain.{chain_blocks}
-use Rattle.em_chain.specs.Reader.{IsReader, reader_blocks, reader_items, rest_of}
+use Rattle.em_chain.specs.Reader.{IsReader, reader_blocks, rest_of}
 use Rattle.em_chain.specs.Session.{Took, Wrote, writer_account}
 use Rattle.em_chain.specs.Writer.{IsPackedSoFar, IsWriter, filled, writer_blocks, writer_items}
 use Rattle.em_chain.specs.declared.reader.Reader.{Reader}
@@ -20,6 +21,7 @@ use Rattle.em_queued.specs.Popped.{HasRoom, grown_blocks}
 use Rattle.em_queued.specs.Queued.{RunsBeside, StopsBeside, no_account}
 use Rattle.aig_defs.specs.declared.circuit.Header.{Header}
 use Rattle.aig_edges.specs.Pushes.{reader_account}
+use Rattle.aig_order.specs.declared.limits.Limits.{Limits}
 use Rattle.aig_order.specs.declared.standing.Standing.{Standing}
 use Rattle.aig_order.specs.declared.standing.Sweep.{Sweep}
 use Rattle.aig_order.specs.declared.standing.Sweep.TheVariants.{Recall, Find, Send, Rank}
@@ -50,6 +52,21 @@ sweep_calls sweep (r ∷ rs) = calls_at sweep r + sweep_calls sweep rs
 abbrev pub sweep_written : Sweep → List Record → ℕ
 sweep_written sweep [] = 0
 sweep_written sweep (r ∷ rs) = written_at sweep r + sweep_written sweep rs
+
+-- These records are within what is left to do.
+pub record Fits (sweep : Sweep) (rs : List Record) (l : Limits) : Type 0 where
+  pub calls : sweep_calls sweep rs ≤ l.calls
+  pub records : sweep_written sweep rs ≤ l.records
+
+-- What is left after these records.
+pub record LeftAfter (sweep : Sweep) (rs : List Record) (l k : Limits) : Type 0 where
+  pub calls : k.calls + sweep_calls sweep rs ≡ l.calls
+  pub records : k.records + sweep_written sweep rs ≡ l.records
+
+-- what counting a record did, by the result: no such list comes from a device that tells
+abbrev pub SpendsTo : {T : Type 0} → Sweep → Record → Limits → Limits → Result T EmFault → Type 0
+SpendsTo sweep r l k (Ok done) = LeftAfter sweep (r ∷ []) l k
+SpendsTo sweep r l k (Err fault) = (fault ≡ Damaged 0) × (Fits sweep (r ∷ []) l → ⊥)
 
 -- the items of the queue after a record, which has this number
 abbrev pub items_after : Sweep → Standing → ℕ → Record → List Record → List Record
@@ -209,9 +226,11 @@ pub record CanSweep {Q : Type 0} (q : QueueGhosts Q) (n : ℕ) (x : Q) (w : Writ
 
 -- n records, of which the first has this number, were read and met, and no call was refused.
 pub record Sweeps {Q : Type 0} (q : QueueGhosts Q) (h : Header) (sweep : Sweep) (i n : ℕ)
-    (x y : Q) (p j : Standing) (w v : Writer) (r k : Reader) (s t : RigState) : Type 0 where
+    (x y : Q) (p j : Standing) (w v : Writer) (r k : Reader) (bound left : Limits) (s t : RigState)
+    : Type 0 where
   pub records : List Record
   pub len : length records ≡ n
+  pub spent : LeftAfter sweep records bound left
   pub took : Took s t r k records
   pub meets : Meets q h sweep i records x y p j w v s t
   pub runs : RunsBeside (sweep_calls sweep records) (v.blocks + (reader_account r).blocks)
@@ -220,22 +239,23 @@ pub record Sweeps {Q : Type 0} (q : QueueGhosts Q) (h : Header) (sweep : Sweep) 
   pub apart : IsTrue t.device.told
       → Apart (chain_blocks t (rest_of k)) (q.blocks y t ++ writer_blocks t v)
 
--- A call was refused before n records were met: there were at most as many calls and records to be
--- written as for n records, or over a device that tells, as for those that the reader had.
-pub record StopsSweeping {Q : Type 0} (q : QueueGhosts Q) (sweep : Sweep) (n : ℕ) (x y : Q)
-    (w : Writer) (r : Reader) (s t : RigState) (fault : EmFault) : Type 0 where
+-- A call was refused before all records were met, or they went past the limits, which none of a device
+-- that tells do. The calls and the records to be written were within them.
+pub record StopsSweeping {Q : Type 0} (q : QueueGhosts Q) (x y : Q) (w : Writer) (r : Reader)
+    (bound : Limits) (s t : RigState) (fault : EmFault) : Type 0 where
   pub calls : ℕ
   pub written : ℕ
-  pub calls_most : calls ≤ 2 * n
-  pub written_most : written ≤ 2 * n
-  pub calls_told : IsTrue s.device.told → calls ≤ sweep_calls sweep (reader_items s r)
-  pub written_told : IsTrue s.device.told → written ≤ sweep_written sweep (reader_items s r)
+  pub calls_most : calls ≤ bound.calls
+  pub written_most : written ≤ bound.records
   pub stops : StopsBeside calls (grown_blocks written s w + (reader_account r).blocks)
       (2 * grown_blocks written s w) 1 (sweep_blocks q x w r s) (sweep_account w r) (q.counts x)
       (q.counts y) s t fault
 
 -- what sweeping over n records did, by the result
 abbrev pub SweepsTo : {Q : Type 0} → QueueGhosts Q → Header → Sweep → ℕ → ℕ → Q → Q → Standing
-    → Writer → Writer → Reader → Reader → RigState → RigState → Result Standing EmFault → Type 0
-SweepsTo q h sweep i n x y p w v r k s t (Ok j) = Sweeps q h sweep i n x y p j w v r k s t
-SweepsTo q h sweep i n x y p w v r k s t (Err fault) = StopsSweeping q sweep n x y w r s t fault
+    → Writer → Writer → Reader → Reader → Limits → Limits → RigState → RigState
+    → Result Standing EmFault → Type 0
+SweepsTo q h sweep i n x y p w v r k bound left s t (Ok j) =
+    Sweeps q h sweep i n x y p j w v r k bound left s t
+SweepsTo q h sweep i n x y p w v r k bound left s t (Err fault) =
+    StopsSweeping q x y w r bound s t fault

@@ -15,9 +15,10 @@ use Rattle.em_queued.specs.Popped.{grown_blocks}
 use Rattle.em_queued.specs.Queued.{RunsBeside, StopsBeside}
 use Rattle.aig_defs.specs.declared.circuit.Header.{Header}
 use Rattle.aig_edges.specs.Pushes.{CanServeBeside}
+use Rattle.aig_order.specs.declared.limits.Limits.{Limits}
 use Rattle.aig_order.specs.declared.standing.Standing.{Standing}
 use Rattle.aig_order.specs.declared.standing.Sweep.{Sweep}
-use Rattle.aig_order.specs.SweepCalls.{CanMeet, Meets, sweep_calls, sweep_written}
+use Rattle.aig_order.specs.SweepCalls.{CanMeet, LeftAfter, Meets, sweep_calls}
 use Rattle.aig_order.specs.Sweeps.{at_constant}
 
 -- the blocks of a queue and of a list that is written, and those of a list that is read too
@@ -42,31 +43,31 @@ pub record CanSweepList {Q : Type 0} (q : QueueGhosts Q) (n : ℕ) (x : Q) (w : 
 -- and the list had this account.
 pub record SweepsList {Q : Type 0} (q : QueueGhosts Q) (h : Header) (sweep : Sweep) (i next : ℕ)
     (held : List ℕ) (a : Account) (c : Chain) (x y : Q) (j : Standing) (w v : Writer)
-    (s t : RigState) : Type 0 where
+    (bound left : Limits) (s t : RigState) : Type 0 where
   pub records : List Record
   pub len : length records ≡ c.count
+  pub spent : LeftAfter sweep records bound left
   pub are : IsTrue s.device.told → records ≡ chain_items s c
   pub meets : Meets q h sweep i records x y (at_constant next) j w v s t
   pub runs : RunsBeside (sweep_calls sweep records) (v.blocks + a.blocks) held (pair_held q y v t)
       (both (writer_account w) a) (writer_account v) (q.counts x) (q.counts y) s t
 
--- A call was refused before all were.
-pub record StopsList {Q : Type 0} (q : QueueGhosts Q) (sweep : Sweep) (held : List ℕ) (a : Account)
-    (c : Chain) (x y : Q) (w : Writer) (s t : RigState) (fault : EmFault) : Type 0 where
+-- A call was refused before all were, or they went past the limits.
+pub record StopsList {Q : Type 0} (q : QueueGhosts Q) (held : List ℕ) (a : Account) (x y : Q)
+    (w : Writer) (bound : Limits) (s t : RigState) (fault : EmFault) : Type 0 where
   pub calls : ℕ
   pub written : ℕ
-  pub calls_most : calls ≤ 2 * c.count
-  pub written_most : written ≤ 2 * c.count
-  pub calls_told : IsTrue s.device.told → calls ≤ sweep_calls sweep (chain_items s c)
-  pub written_told : IsTrue s.device.told → written ≤ sweep_written sweep (chain_items s c)
+  pub calls_most : calls ≤ bound.calls
+  pub written_most : written ≤ bound.records
   pub stops : StopsBeside calls (grown_blocks written s w + a.blocks)
       (2 * grown_blocks written s w) 1 held (both (writer_account w) a) (q.counts x) (q.counts y) s t
       fault
 
 -- what a sweep over a list did, by the result
 abbrev pub ListTo : {Q : Type 0} → QueueGhosts Q → Header → Sweep → ℕ → ℕ → List ℕ → Account → Chain
-    → Q → Q → Writer → Writer → RigState → RigState → Result Standing EmFault → Type 0
-ListTo q h sweep i next held a c x y w v s t (Ok j) =
-    SweepsList q h sweep i next held a c x y j w v s t
-ListTo q h sweep i next held a c x y w v s t (Err fault) =
-    StopsList q sweep held a c x y w s t fault
+    → Q → Q → Writer → Writer → Limits → Limits → RigState → RigState → Result Standing EmFault
+    → Type 0
+ListTo q h sweep i next held a c x y w v bound left s t (Ok j) =
+    SweepsList q h sweep i next held a c x y j w v bound left s t
+ListTo q h sweep i next held a c x y w v bound left s t (Err fault) =
+    StopsList q held a x y w bound s t fault

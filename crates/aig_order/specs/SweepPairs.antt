@@ -16,8 +16,9 @@ use Rattle.em_queued.specs.Queued.{RunsBeside, StopsBeside}
 use Rattle.aig_defs.specs.declared.circuit.Header.{Header}
 use Rattle.aig_edges.specs.Pushes.{CanServeBeside}
 use Rattle.aig_edges.specs.Accounts.{stored_account}
+use Rattle.aig_order.specs.declared.limits.Limits.{Limits}
 use Rattle.aig_order.specs.declared.standing.Sweep.{Sweep}
-use Rattle.aig_order.specs.Passes.{both_calls, both_written, restarted}
+use Rattle.aig_order.specs.Passes.{restarted}
 use Rattle.aig_order.specs.SweepCalls.{CanMeet, moment_of, sweep_calls, sweep_written}
 use Rattle.aig_order.specs.SweepLists.{pair_held, three_held}
 use Rattle.aig_order.specs.Sweeps.{Moment, at_constant, meet_all}
@@ -41,16 +42,18 @@ pub record CanSweepPair {Q : Type 0} (q : QueueGhosts Q) (h : Header) (first sec
       → (after_pair h first second next c.count (chain_items s c)
       (moment_of q x (at_constant next) w s)).items ≡ []
 
--- Both were made, and no call was refused. The queue has no item. Over a device that doesn't tell the
--- two may read other records of the list.
+-- Both were made within the limits, and no call was refused. The queue has no item. Over a device that
+-- doesn't tell the two may read other records of the list.
 pub record SweepsPair {Q : Type 0} (q : QueueGhosts Q) (h : Header) (first second : Sweep) (next : ℕ)
-    (c : Chain) (x y : Q) (last : ℕ) (w v : Writer) (s t : RigState) : Type 0 where
+    (c : Chain) (x y : Q) (last : ℕ) (w v : Writer) (bound : Limits) (s t : RigState) : Type 0 where
   pub earlier : List Record
   pub later : List Record
   pub earlier_len : length earlier ≡ c.count
   pub later_len : length later ≡ c.count
   pub earlier_is : IsTrue s.device.told → earlier ≡ chain_items s c
   pub later_is : IsTrue s.device.told → later ≡ chain_items s c
+  pub calls_most : sweep_calls first earlier + sweep_calls second later ≤ bound.calls
+  pub written_most : sweep_written first earlier + sweep_written second later ≤ bound.records
   pub is : IsWriter t v
   pub packed : IsTrue s.device.told → IsPackedSoFar s w → IsPackedSoFar t v
   pub filled_is : filled t v ≡ filled s w
@@ -68,13 +71,14 @@ pub record SweepsPair {Q : Type 0} (q : QueueGhosts Q) (h : Header) (first secon
       (both (writer_account w) (stored_account c.blocks (3 * c.blocks))) (writer_account v)
       (q.counts x) (q.counts y) s t
 
--- A call was refused before both were made, or the queue has an item, which no device that tells left.
-pub record StopsPair {Q : Type 0} (q : QueueGhosts Q) (first second : Sweep) (c : Chain) (x y : Q)
-    (w : Writer) (s t : RigState) (fault : EmFault) : Type 0 where
+-- A call was refused before both were made; or over a device that doesn't tell, they went past the
+-- limits, or the queue has an item. The calls and the records to be written were within the limits.
+pub record StopsPair {Q : Type 0} (q : QueueGhosts Q) (c : Chain) (x y : Q) (w : Writer)
+    (bound : Limits) (s t : RigState) (fault : EmFault) : Type 0 where
   pub calls : ℕ
   pub written : ℕ
-  pub calls_told : IsTrue s.device.told → calls ≤ both_calls first second (chain_items s c)
-  pub written_told : IsTrue s.device.told → written ≤ both_written first second (chain_items s c)
+  pub calls_most : calls ≤ bound.calls
+  pub written_most : written ≤ bound.records
   pub stops : StopsBeside calls (grown_blocks written s w + c.blocks)
       (2 * grown_blocks written s w) 1 (three_held q x w c s)
       (both (writer_account w) (stored_account c.blocks (3 * c.blocks))) (q.counts x) (q.counts y) s
@@ -82,8 +86,8 @@ pub record StopsPair {Q : Type 0} (q : QueueGhosts Q) (first second : Sweep) (c 
 
 -- what both sweeps did, by the result
 abbrev pub PairTo : {Q : Type 0} → QueueGhosts Q → Header → Sweep → Sweep → ℕ → Chain → Q → Q
-    → Writer → Writer → RigState → RigState → Result ℕ EmFault → Type 0
-PairTo q h first second next c x y w v s t (Ok last) =
-    SweepsPair q h first second next c x y last w v s t
-PairTo q h first second next c x y w v s t (Err fault) =
-    StopsPair q first second c x y w s t fault
+    → Writer → Writer → Limits → RigState → RigState → Result ℕ EmFault → Type 0
+PairTo q h first second next c x y w v bound s t (Ok last) =
+    SweepsPair q h first second next c x y last w v bound s t
+PairTo q h _ _ next c x y w v bound s t (Err fault) =
+    StopsPair q c x y w bound s t fault

@@ -3,6 +3,7 @@
 #![tactic(auto)]
 
 mod adjacency;
+mod limits;
 mod merging;
 mod ordering;
 mod passing;

@@ -67,7 +67,18 @@ fn find_order<D: Device, Q: Queue>(
 /// queue, which has no item, is used up. The graph's blocks are released, or are those of the edges.
 ///
 /// It stops with `Cyclic` at the least variable of a gate that is on a cycle of gates or needs the value
-/// of one that is, and with `Em` if a call on the rig or of the queue gave up.
+/// of one that is, and with `Em` if a call on the rig or of the queue gave up. `Damaged` at block 0 also
+/// comes if the lists don't have what was written: a pass would go past 4 calls of the queue for each
+/// gate, notes are left, or another number of edges comes. No device that tells gives this.
+///
+/// 2f + 10 single frames, an area and the rack are free before. All frames are back at each exit, those
+/// of the queue too. Only blocks of the queue and of the graph changed, and blocks that weren't in use.
+/// After Ok all blocks are stored, after a stop all but m + 2.
+///
+/// For A gates, E edges and r passes that found a gate the queue has at most 4·(r + 1)·A + 4·A + 2·E
+/// calls, and at most 2·E between two moments at which it is empty. The moves beside it go by r, and the
+/// blocks by the header alone. All this is said over each device, with r at most A. Over a device that
+/// tells, r is at most that of the circuit, the edges are its own, and `Cyclic` is its first fault.
 pub fn order<D: Device, Q: Queue>(
     rig: &mut Rig<'_, D>,
     graph: Graph,

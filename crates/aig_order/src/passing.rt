@@ -3,15 +3,17 @@
 
 ghost use Rattle.std.specs.Prelude.{◌≡◌, IsTrue, OnOk};
 ghost use Rattle.em_space.specs.Seen.{seen};
+ghost use Rattle.em_chain.specs.Chain.{chain_items};
 ghost use Rattle.em_chain.specs.Writer.{WriterHasFrame};
 ghost use Rattle.aig_defs.specs.Circuit.{IsHeader};
 ghost use Rattle.aig_edges.specs.Accounts.{releasing, stored_account};
 ghost use Rattle.aig_order.specs.Findings.{CanFind, FindsTo};
-ghost use Rattle.aig_order.specs.Passes.{CanSweepTwice, SweepsTwice};
-ghost use Rattle.aig_order.specs.SweepCalls.{AllBelow};
+ghost use Rattle.aig_order.specs.Passes.{BothFit, CanSweepTwice, SweepsTwice};
+ghost use Rattle.aig_order.specs.SweepCalls.{AllBelow, Fits};
 ghost use Rattle.aig_order.specs.SweepLists.{CanSweepList, ListTo, pair_held, three_held};
 ghost use Rattle.aig_order.specs.SweepPairs.{CanSweepPair, PairTo};
 
+use crate::limits::Limits;
 use crate::standing::{Standing, Sweep, at_constant};
 use crate::sweeping::sweep_all;
 use aig_defs::Header;
@@ -19,7 +21,7 @@ use em_chain::{Chain, Reader, Writer, discard};
 use em_frames::Device;
 use em_space::{EmFault, Queue, Rig};
 
-/// A sweep that leaves the list.
+/// A sweep that leaves the list, within the limits.
 fn sweep_over<D: Device, Q: Queue>(
     rig: &mut Rig<'_, D>,
     queue: &mut Q,
@@ -28,11 +30,14 @@ fn sweep_over<D: Device, Q: Queue>(
     header: &Header,
     sweep: Sweep,
     next: u64,
+    limits: &mut Limits,
 ) -> Result<Standing, EmFault>
     requires header { IsHeader header.now }
     requires is { Q.IsQueue queue.old (seen D.state rig.old) }
     requires can { CanSweepList Q.Queue list.now.count queue.old writer.old (seen D.state rig.old)
         list.now }
+    requires fits { IsTrue (seen D.state rig.old).device.told
+        → Fits sweep (chain_items (seen D.state rig.old) list.now) limits.old }
     requires below { IsTrue (seen D.state rig.old).device.told
         → AllBelow 0 (Q.items queue.old (seen D.state rig.old)) }
     ensures frames { Q.HasItsFrames queue.new (seen D.state rig.new) }
@@ -41,7 +46,7 @@ fn sweep_over<D: Device, Q: Queue>(
     ensures sweeps { ListTo Q.Queue header.now sweep 0 next
         (pair_held Q.Queue queue.old writer.old (seen D.state rig.old))
         (stored_account 0 list.now.blocks) list.now queue.old queue.new writer.old writer.new
-        (seen D.state rig.old) (seen D.state rig.new) result }
+        limits.old limits.new (seen D.state rig.old) (seen D.state rig.new) result }
 {
     let mut reader = Reader::over(rig, list);
     let swept = sweep_all(
@@ -51,6 +56,7 @@ fn sweep_over<D: Device, Q: Queue>(
         writer,
         header,
         sweep,
+        limits,
         at_constant(next),
         0,
         list.len(),
@@ -59,7 +65,7 @@ fn sweep_over<D: Device, Q: Queue>(
     swept
 }
 
-/// A sweep that releases the list.
+/// A sweep that releases the list, within the limits.
 fn sweep_taking<D: Device, Q: Queue>(
     rig: &mut Rig<'_, D>,
     queue: &mut Q,
@@ -68,11 +74,14 @@ fn sweep_taking<D: Device, Q: Queue>(
     header: &Header,
     sweep: Sweep,
     next: u64,
+    limits: &mut Limits,
 ) -> Result<Standing, EmFault>
     requires header { IsHeader header.now }
     requires is { Q.IsQueue queue.old (seen D.state rig.old) }
     requires can { CanSweepList Q.Queue list.count queue.old writer.old (seen D.state rig.old)
         list }
+    requires fits { IsTrue (seen D.state rig.old).device.told
+        → Fits sweep (chain_items (seen D.state rig.old) list) limits.old }
     requires below { IsTrue (seen D.state rig.old).device.told
         → AllBelow list.count (Q.items queue.old (seen D.state rig.old)) }
     ensures frames { Q.HasItsFrames queue.new (seen D.state rig.new) }
@@ -81,7 +90,7 @@ fn sweep_taking<D: Device, Q: Queue>(
     ensures sweeps { ListTo Q.Queue header.now sweep list.count next
         (three_held Q.Queue queue.old writer.old list (seen D.state rig.old))
         (releasing list.blocks) list queue.old queue.new writer.old writer.new
-        (seen D.state rig.old) (seen D.state rig.new) result }
+        limits.old limits.new (seen D.state rig.old) (seen D.state rig.new) result }
 {
     let count = list.len();
     let mut reader = Reader::taking(rig, list);
@@ -92,6 +101,7 @@ fn sweep_taking<D: Device, Q: Queue>(
         writer,
         header,
         sweep,
+        limits,
         at_constant(next),
         count,
         count,
@@ -108,8 +118,8 @@ fn sweep_taking<D: Device, Q: Queue>(
     }
 }
 
-/// Both sweeps, one after the other. A device that doesn't tell may leave notes in the queue, and block 0
-/// stands for the damaged one then.
+/// Both sweeps, one after the other, within the limits. A device that doesn't tell may go past them or
+/// leave notes in the queue, and block 0 stands for the damaged one then.
 fn sweep_both<D: Device, Q: Queue>(
     rig: &mut Rig<'_, D>,
     queue: &mut Q,
@@ -119,19 +129,23 @@ fn sweep_both<D: Device, Q: Queue>(
     first: Sweep,
     second: Sweep,
     next: u64,
+    limits: Limits,
 ) -> Result<u64, EmFault>
     requires header { IsHeader header.now }
     requires is { Q.IsQueue queue.old (seen D.state rig.old) }
     requires can { CanSweepPair Q.Queue header.now first second next queue.old writer.old
         (seen D.state rig.old) list }
+    requires fits { IsTrue (seen D.state rig.old).device.told
+        → BothFit first second (chain_items (seen D.state rig.old) list) limits }
     ensures frames { Q.HasItsFrames queue.new (seen D.state rig.new) }
     ensures queue { OnOk result (Q.IsQueue queue.new (seen D.state rig.new)) }
     ensures frame { WriterHasFrame (seen D.state rig.new) writer.new }
     ensures sweeps { PairTo Q.Queue header.now first second next list queue.old queue.new writer.old
-        writer.new (seen D.state rig.old) (seen D.state rig.new) result }
+        writer.new limits (seen D.state rig.old) (seen D.state rig.new) result }
 {
-    sweep_over(rig, queue, &list, writer, header, first, next)?;
-    let last = sweep_taking(rig, queue, list, writer, header, second, next)?;
+    let mut left = limits;
+    sweep_over(rig, queue, &list, writer, header, first, next, &mut left)?;
+    let last = sweep_taking(rig, queue, list, writer, header, second, next, &mut left)?;
     if queue.len() != 0 {
         return Err(EmFault::Damaged { block: 0 });
     }
@@ -148,7 +162,8 @@ pub(crate) struct Swept {
 }
 
 /// What two sweeps write. The list's blocks are released. A fault is that of a call of the queue or of
-/// one on a list, or `Damaged` with block 0 if a device that doesn't tell left notes in the queue.
+/// one on a list, or `Damaged` with block 0 if a device that doesn't tell went past the limits or left
+/// notes in the queue.
 pub(crate) fn sweep_twice<D: Device, Q: Queue>(
     rig: &mut Rig<'_, D>,
     queue: &mut Q,
@@ -157,18 +172,31 @@ pub(crate) fn sweep_twice<D: Device, Q: Queue>(
     first: Sweep,
     second: Sweep,
     next: u64,
+    limits: Limits,
 ) -> Result<Swept, EmFault>
     requires is { Q.IsQueue queue.old (seen D.state rig.old) }
     requires header { IsHeader header.now }
     requires can { CanSweepTwice Q.Queue header.now first second next queue.old
         (seen D.state rig.old) list }
+    requires fits { IsTrue (seen D.state rig.old).device.told
+        → BothFit first second (chain_items (seen D.state rig.old) list) limits }
     ensures frames { Q.HasItsFrames queue.new (seen D.state rig.new) }
     ensures queue { OnOk result (Q.IsQueue queue.new (seen D.state rig.new)) }
-    ensures sweeps { SweepsTwice Q.Queue header.now first second next queue.old queue.new list
+    ensures sweeps { SweepsTwice Q.Queue header.now first second next limits queue.old queue.new list
         (seen D.state rig.old) (seen D.state rig.new) result }
 {
     let mut writer = Writer::new(rig);
-    match sweep_both(rig, queue, list, &mut writer, header, first, second, next) {
+    match sweep_both(
+        rig,
+        queue,
+        list,
+        &mut writer,
+        header,
+        first,
+        second,
+        next,
+        limits,
+    ) {
         Ok(next) => {
             let list = writer.finish(rig)?;
             Ok(Swept { list, next })
@@ -192,8 +220,9 @@ pub(crate) struct Found {
 }
 
 /// Passes over an adjacency list up to one that finds no gate. Each other one finds a gate, so there are
-/// no more of these than gates. A fault is that of a call of the queue or of one on a list, or `Damaged`
-/// with block 0 if a device that doesn't tell left notes in the queue.
+/// no more of these than gates. A pass has at most 4 calls of the queue for each gate. A fault is that of
+/// a call of the queue or of one on a list, or `Damaged` with block 0 if a device that doesn't tell went
+/// past this or left notes in the queue.
 pub(crate) fn find_all<D: Device, Q: Queue>(
     rig: &mut Rig<'_, D>,
     queue: &mut Q,
@@ -212,7 +241,20 @@ pub(crate) fn find_all<D: Device, Q: Queue>(
     let mut next = 1 + header.inputs + header.latches;
     let mut passes = 0;
     for _ in 0..header.gates {
-        let swept = sweep_twice(rig, queue, list, header, Sweep::Recall, Sweep::Find, next)?;
+        let limits = Limits {
+            calls: 4 * header.gates,
+            records: list.len(),
+        };
+        let swept = sweep_twice(
+            rig,
+            queue,
+            list,
+            header,
+            Sweep::Recall,
+            Sweep::Find,
+            next,
+            limits,
+        )?;
         list = swept.list;
         if swept.next == next {
             return Ok(Found { list, passes, next });

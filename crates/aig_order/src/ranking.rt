@@ -12,6 +12,7 @@ ghost use Rattle.aig_order.specs.LeftGates.{left_gate, left_if, looked_if};
 ghost use Rattle.aig_order.specs.Passes.{CanRank, RanksTo};
 
 use crate::adjacency::is_gate;
+use crate::limits::Limits;
 use crate::passing::sweep_twice;
 use crate::standing::Sweep;
 use aig_defs::Header;
@@ -92,7 +93,8 @@ pub(crate) fn left_below<D: Device>(
 
 /// The edges between ranks of an adjacency list in which each gate has a rank, in order; there are to be
 /// `count` of them. The list's blocks are released. A fault is that of a call of the queue or of one on a
-/// list, or `Damaged` with block 0 if a device that doesn't tell gave another number of edges.
+/// list, or `Damaged` with block 0 if a device that doesn't tell gave another number of edges, or left
+/// notes in the queue.
 pub(crate) fn rank_edges<D: Device, Q: Queue>(
     rig: &mut Rig<'_, D>,
     queue: &mut Q,
@@ -108,7 +110,20 @@ pub(crate) fn rank_edges<D: Device, Q: Queue>(
     ensures ranks { RanksTo Q.Queue header.now count queue.old queue.new list
         (seen D.state rig.old) (seen D.state rig.new) result }
 {
-    let ranked = sweep_twice(rig, queue, list, header, Sweep::Send, Sweep::Rank, 0)?;
+    let limits = Limits {
+        calls: 4 * header.gates,
+        records: count,
+    };
+    let ranked = sweep_twice(
+        rig,
+        queue,
+        list,
+        header,
+        Sweep::Send,
+        Sweep::Rank,
+        0,
+        limits,
+    )?;
     if ranked.list.len() != count {
         return Err(EmFault::Damaged { block: 0 });
     }

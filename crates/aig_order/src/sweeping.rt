@@ -4,18 +4,20 @@
 //!     queue  {3 3 6} -> {6} -> {6 6}
 //!     writer -> [.. gate 3 with its rank, edge 3-6]
 //!
-//! Kept here: queue and lists have no block in common. Left to the queue: the order of notes.
+//! Kept here: queue and lists have no block in common, and records past the limits aren't met. Left to
+//! the queue: the order of notes.
 
 ghost use Rattle.std.specs.Prelude.{◌≡◌, ◌<◌, ◌+◌, ◌++◌, ◌^◌, option_to_list, IsTrue, OnOk};
 ghost use Rattle.em_space.specs.Rig.{Sound};
 ghost use Rattle.em_space.specs.Seen.{seen};
-ghost use Rattle.em_chain.specs.Reader.{ReaderHasFrame};
+ghost use Rattle.em_chain.specs.Reader.{ReaderHasFrame, reader_items};
 ghost use Rattle.em_chain.specs.Writer.{IsWriter, WriterHasFrame};
 ghost use Rattle.em_queued.specs.Popped.{HasRoom};
 ghost use Rattle.aig_defs.specs.Circuit.{IsHeader};
-ghost use Rattle.aig_order.specs.SweepCalls.{AllBelow, CanMeet, CanNote, CanSweep, MeetsTo, PassesTo, PutsTo, SweepsTo, TakesTo};
+ghost use Rattle.aig_order.specs.SweepCalls.{AllBelow, CanMeet, CanNote, CanSweep, Fits, MeetsTo, PassesTo, PutsTo, SweepsTo, TakesTo};
 
 use crate::adjacency::is_edge;
+use crate::limits::{Limits, spend};
 use crate::standing::{Standing, Sweep, is_told, note, standing_after, takes_notes, written_after};
 use aig_defs::Header;
 use em_chain::{Reader, Writer};
@@ -138,7 +140,7 @@ fn meet<D: Device, Q: Queue>(
     Ok(standing_after(sweep, standing, item, first, second))
 }
 
-/// Reads the next record, and does what a sweep does there.
+/// Reads the next record, and does what a sweep does there, if that is within the limits.
 fn meet_next<D: Device, Q: Queue>(
     rig: &mut Rig<'_, D>,
     queue: &mut Q,
@@ -146,12 +148,15 @@ fn meet_next<D: Device, Q: Queue>(
     writer: &mut Writer,
     header: &Header,
     sweep: Sweep,
+    limits: &mut Limits,
     standing: Standing,
     number: u64,
 ) -> Result<Standing, EmFault>
     requires header { IsHeader header.now }
     requires is { Q.IsQueue queue.old (seen D.state rig.old) }
     requires can { CanSweep Q.Queue 1 queue.old writer.old reader.old (seen D.state rig.old) }
+    requires fits { IsTrue (seen D.state rig.old).device.told
+        → Fits sweep (reader_items (seen D.state rig.old) reader.old) limits.old }
     requires below { IsTrue (seen D.state rig.old).device.told
         → AllBelow number (Q.items queue.old (seen D.state rig.old)) }
     ensures frames { Q.HasItsFrames queue.new (seen D.state rig.new) }
@@ -159,17 +164,18 @@ fn meet_next<D: Device, Q: Queue>(
     ensures list { WriterHasFrame (seen D.state rig.new) writer.new
         × ReaderHasFrame (seen D.state rig.new) reader.new }
     ensures sweeps { SweepsTo Q.Queue header.now sweep number 1 queue.old queue.new standing
-        writer.old writer.new reader.old reader.new
+        writer.old writer.new reader.old reader.new limits.old limits.new
         (seen D.state rig.old) (seen D.state rig.new) result }
 {
     let Some(item) = reader.next(rig)? else {
         unreachable!()
     };
+    spend(limits, sweep, item)?;
     meet(rig, queue, writer, header, sweep, standing, item, number)
 }
 
-/// A sweep over the `count` records that a reader has left; their numbers begin at `base`. It answers
-/// what comes after the last one.
+/// A sweep over the `count` records that a reader has left, within the limits; their numbers begin at
+/// `base`. It answers what comes after the last one.
 pub(crate) fn sweep_all<D: Device, Q: Queue>(
     rig: &mut Rig<'_, D>,
     queue: &mut Q,
@@ -177,6 +183,7 @@ pub(crate) fn sweep_all<D: Device, Q: Queue>(
     writer: &mut Writer,
     header: &Header,
     sweep: Sweep,
+    limits: &mut Limits,
     standing: Standing,
     base: u64,
     count: u64,
@@ -184,6 +191,8 @@ pub(crate) fn sweep_all<D: Device, Q: Queue>(
     requires header { IsHeader header.now }
     requires is { Q.IsQueue queue.old (seen D.state rig.old) }
     requires can { CanSweep Q.Queue count queue.old writer.old reader.old (seen D.state rig.old) }
+    requires fits { IsTrue (seen D.state rig.old).device.told
+        → Fits sweep (reader_items (seen D.state rig.old) reader.old) limits.old }
     requires numbers { base + count < 2 ^ 64 }
     requires below { IsTrue (seen D.state rig.old).device.told
         → AllBelow base (Q.items queue.old (seen D.state rig.old)) }
@@ -192,7 +201,7 @@ pub(crate) fn sweep_all<D: Device, Q: Queue>(
     ensures list { WriterHasFrame (seen D.state rig.new) writer.new
         × ReaderHasFrame (seen D.state rig.new) reader.new }
     ensures sweeps { SweepsTo Q.Queue header.now sweep base count queue.old queue.new standing
-        writer.old writer.new reader.old reader.new
+        writer.old writer.new reader.old reader.new limits.old limits.new
         (seen D.state rig.old) (seen D.state rig.new) result }
 {
     let mut now = standing;
@@ -204,6 +213,7 @@ pub(crate) fn sweep_all<D: Device, Q: Queue>(
             writer,
             header,
             sweep,
+            limits,
             now,
             base + number,
         )?;

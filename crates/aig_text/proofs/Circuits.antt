@@ -31,7 +31,7 @@ use Rattle.aig_text.specs.Listed.{ReadsListing, LeavesListing, WritesListing}
 use Rattle.aig_text.specs.declared.parts.Parts.{Parts}
 use Rattle.aig_text.specs.declared.stop.AigStop.{AigStop}
 use Rattle.aig_text.specs.declared.stop.AigStop.TheVariants as stop
-use Rattle.aig_text.proofs.Ceilings.{ceiling_three}
+use Rattle.em_chain.proofs.Counts.{ceiling_three}
 use Rattle.aig_text.proofs.Fillings.{stops_as, stops_then}
 use Rattle.aig_text.proofs.Lines.{of_error}
 use Rattle.aig_text.proofs.Listings.{listed_is, listed_size_is}

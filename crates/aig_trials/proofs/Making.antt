@@ -1,13 +1,10 @@
 -- A new queue beside a circuit's parts, and beside its graph.
 use Rattle.std.proofs.Common.{◌≡◌, ◌+◌, ◌*◌, ◌^◌, ◌<◌, ◌≤◌, ◌++◌, ℕ, List, [], IsTrue, ap, sym, subst, ◌∙◌, arith, Result, Ok, Err, IfOk}
-use Rattle.std.proofs.Math.Nat.{mul-le-mul}
 use Rattle.em_record.specs.Shape.{fan_of}
 use Rattle.em_space.specs.Held.{Holds}
 use Rattle.em_space.specs.Rig.{RigState, Touches}
 use Rattle.em_space.proofs.Held.{apart_none}
 use Rattle.em_chain.specs.Effects.{LendsFrame}
-use Rattle.aig_defs.specs.declared.circuit.Header.{Header}
-use Rattle.aig_defs.specs.Circuit.{IsHeader}
 use Rattle.aig_text.specs.Parts.{IsParts, parts_blocks}
 use Rattle.aig_text.specs.declared.parts.Parts.{Parts}
 use Rattle.aig_text.proofs.PartsLaws.{parts_stay}
@@ -15,7 +12,7 @@ use Rattle.aig_edges.specs.BuildGraph.{BuildsGraph}
 use Rattle.aig_edges.specs.Graph.{CanBuild, IsGraph, graph_blocks}
 use Rattle.aig_edges.specs.declared.graph.Graph.{Graph}
 use Rattle.aig_edges.proofs.GraphLaws.{GraphStays, graph_stays}
-use Rattle.aig_order.specs.OrderGraph.{OfDefinedCircuit, adjacency_count, any_calls}
+use Rattle.aig_order.specs.OrderGraph.{OfDefinedCircuit}
 use Rattle.aig_trials.specs.Frames.{HasFrames}
 
 -- A frame was lent to the queue.
@@ -71,14 +68,3 @@ pub graph_held : (t : RigState) (g : Graph) (ks : List ℕ) → ks ≡ [] → Is
     → IsTrue t.device.told → Holds t (ks ++ graph_blocks t g)
 graph_held t g ks none i told =
     subst (λ (js : List ℕ). Holds t (js ++ graph_blocks t g)) (sym none) (i.holds told)
-
--- The calls that ordering a graph makes at most are few.
-pub calls_low : (h : Header) → IsHeader h → any_calls h < 2 ^ 99
-calls_low h i =
-    let passes : 4 * (h.gates + 3) ≤ 2 ^ 44 = omega (arith, i.gates) in
-    let list : adjacency_count h ≤ 2 ^ 43 =
-    omega (arith, i.inputs, i.latches, i.outputs, i.gates) in
-    let both = mul-le-mul {n₁ = 4 * (h.gates + 3)} {m₁ = adjacency_count h} {n₂ = 2 ^ 44} {m₂ = 2 ^ 43}
-    passes list in
-    let low : 2 ^ 44 * 2 ^ 43 < 2 ^ 99 = omega arith in
-    omega (arith, both, low)

@@ -1,39 +1,19 @@
 //! A circuit's edges between ranks, made of its text.
 ghost use Rattle.std.specs.Prelude.{◌≡◌, IfOk, IsTrue, true};
 ghost use Rattle.em_space.specs.Seen.{seen};
-ghost use Rattle.aig_text.specs.Ascii.{GivesParts};
 ghost use Rattle.aig_text.specs.Parts.{IsParts};
 ghost use Rattle.aig_edges.specs.Graph.{IsGraph, IsOrdered};
 ghost use Rattle.aig_order.specs.OrderGraph.{OfDefinedCircuit};
 ghost use Rattle.aig_trials.specs.Frames.{HasFrames, LeavesFrames};
 
-use aig_bin::read_binary;
+use aig_bin::read_either;
 use aig_edges::{Graph, Ordered, check_and_build};
 use aig_order::order;
-use aig_text::{AigStop, Parts, read_ascii, read_magic};
+use aig_text::{AigStop, Parts};
 use em_frames::Device;
 use em_io::{Feed, Shelf};
 use em_plain::ScanQueue;
 use em_space::Rig;
-
-/// Reads a circuit from its first byte, in the form that its magic names.
-fn read_circuit<D: Device, H: Shelf>(
-    rig: &mut Rig<'_, D>,
-    feed: &mut Feed,
-    shelf: &mut H,
-) -> Result<Parts, AigStop>
-    requires ready { ((H.stand shelf.old).slot feed.old.slot).ready ≡ true }
-    requires none { feed.old.place ≡ 0 }
-    requires has { HasFrames (seen D.state rig.old) }
-    ensures leaves { LeavesFrames (seen D.state rig.old) (seen D.state rig.new) }
-    ensures parts { IfOk result (GivesParts (seen D.state rig.old) (seen D.state rig.new)) }
-{
-    if read_magic(feed, shelf)? {
-        read_ascii(rig, feed, shelf)
-    } else {
-        read_binary(rig, feed, shelf)
-    }
-}
 
 /// Makes the graph of a circuit by a new queue.
 fn build<D: Device>(rig: &mut Rig<'_, D>, parts: Parts) -> Result<Graph, AigStop>
@@ -73,7 +53,7 @@ pub fn read_ordered<D: Device, H: Shelf>(
     ensures leaves { LeavesFrames (seen D.state rig.old) (seen D.state rig.new) }
     ensures is { IfOk result (IsOrdered (seen D.state rig.new)) }
 {
-    let parts = read_circuit(rig, feed, shelf)?;
+    let parts = read_either(rig, feed, shelf)?;
     let graph = build(rig, parts)?;
     rank(rig, graph)
 }

@@ -160,3 +160,19 @@ filled_by p (suc c) f z m =
 pub filled_most : (s : RigState) (w : Writer) → IsWriter s w → filled s w ≤ payload_in s * w.blocks
 filled_most s w i = filled_by (payload_in s) w.blocks w.fill
     (λ e. i.last.fill_none (i.last.none e)) i.last.fill_most
+
+sum_by : (x y a b p : ℕ) → 0 < p → x * p ≤ a + p - 1 → y * p ≤ b + p - 1
+    → x + y ≤ (a + b + p - 1) / p + 1
+sum_by zero y a b p pos h k = omega (arith, le-div y (a + b + p - 1) p pos (omega arith))
+sum_by (suc x) y a b p pos h k =
+    omega (arith, le-div (x + y) (a + b + p - 1) p pos (omega arith))
+
+-- two lists take one block more at most than one list of their records,
+pub ceiling_two : (a b p : ℕ) → 0 < p → ceiling a p + ceiling b p ≤ ceiling (a + b) p + 1
+ceiling_two a b p pos = sum_by (ceiling a p) (ceiling b p) a b p pos
+    (div-mul-le_self (a + p - 1) p) (div-mul-le_self (b + p - 1) p)
+
+-- and three lists two more.
+pub ceiling_three : (a b c p : ℕ) → 0 < p
+    → ceiling a p + ceiling b p + ceiling c p ≤ ceiling (a + b + c) p + 2
+ceiling_three a b c p pos = omega (arith, ceiling_two a b p pos, ceiling_two (a + b) c p pos)

@@ -80,8 +80,8 @@ pub record Goes (held : List ℕ) (old new : RigState) : Type 0 where
   pub touches : Touches held old new
   pub frames : SameFrames old.pool new.pool
 
--- Why a call gave up: the device's count of faults rose; a block was needed, and all blocks are in
--- use; or, over a device that doesn't tell what it holds, a block isn't laid out as it was left.
+-- Why a call gave up: the device's count of faults rose; all blocks are in use; or, over a device
+-- that doesn't tell what it holds, a block isn't laid out as it was left.
 abbrev pub Cause : RigState → RigState → EmFault → Type 0
 Cause old new DeviceFault = Rose old.device.faults new.device.faults
 Cause old new (Full used) = (used ≡ new.blocks) × (new.used ≡ new.blocks)

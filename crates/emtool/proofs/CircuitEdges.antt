@@ -1,6 +1,5 @@
 -- How the reading of a circuit ends: with edges between ranks, or a stop.
 use Rattle.std.proofs.Common.{◌≡◌, ℕ, ◌+◌, ◌-◌, ◌*◌, ◌<◌, ◌≤◌, ◌^◌, max, ◌⊎◌, inl, inr, ⊎_elim, Bool, List, [], ◌++◌, ap, sym, subst, ◌∙◌, arith, IsTrue, Result, Ok, Err, IsErrAnd}
-use Rattle.std.proofs.Math.Nat.{mul-le-mul}
 use Rattle.em_record.specs.Shape.{ShapeNumbers, payload_of}
 use Rattle.em_io.specs.Feed.{Fed}
 use Rattle.em_io.specs.declared.shelf.Shelf.{Ghosts as ShelfGhosts}
@@ -16,7 +15,6 @@ use Rattle.em_plain.specs.ScanQueue.{QueueHasFrame, counts_of, fresh_counts}
 use Rattle.em_plain.specs.declared.scan_queue.ScanQueue.{ScanQueue}
 use Rattle.aig_defs.specs.declared.circuit.Header.{Header}
 use Rattle.aig_defs.specs.Begun.{circuit_size}
-use Rattle.aig_defs.specs.Circuit.{IsHeader}
 use Rattle.aig_defs.proofs.EitherText.{text_faulty}
 use Rattle.aig_text.specs.Ascii.{IfEm}
 use Rattle.aig_text.specs.declared.stop.AigStop.{AigStop}
@@ -28,7 +26,7 @@ use Rattle.aig_edges.specs.BuildGraph.{CalledInRuns}
 use Rattle.aig_edges.specs.Graph.{CanBuild, edge_count, graph_blocks, graph_size, ordered_blocks}
 use Rattle.aig_edges.specs.declared.graph.Graph.{Graph}
 use Rattle.aig_edges.specs.declared.graph.Ordered.{Ordered}
-use Rattle.aig_order.specs.OrderGraph.{OrdersGraph, StopsOrdering, StoresOrdered, adjacency_count, any_calls, order_peak, order_run}
+use Rattle.aig_order.specs.OrderGraph.{OrdersGraph, StopsOrdering, StoresOrdered, order_peak, order_run}
 use Rattle.emtool.specs.EvalSize.{eval_room}
 use Rattle.emtool.specs.Evaluation.{ReadsCircuit, SpellsEdges}
 use Rattle.emtool.specs.Run.{IsReady}
@@ -51,17 +49,6 @@ stopped_by h feed last shelf after s t stop result is r stops =
       reads = reads_first r;
       later = r.advances.later;
     })
-
--- The calls that ordering a graph makes at most are few.
-pub calls_low : (h : Header) → IsHeader h → any_calls h < 2 ^ 99
-calls_low h i =
-    let passes : 4 * (h.gates + 3) ≤ 2 ^ 44 = omega (arith, i.gates) in
-    let list : adjacency_count h ≤ 2 ^ 43 =
-    omega (arith, i.inputs, i.latches, i.outputs, i.gates) in
-    let both = mul-le-mul {n₁ = 4 * (h.gates + 3)} {m₁ = adjacency_count h} {n₂ = 2 ^ 44} {m₂ = 2 ^ 43}
-    passes list in
-    let low : 2 ^ 44 * 2 ^ 43 < 2 ^ 99 = omega arith in
-    omega (arith, both, low)
 
 -- An order can be found by a queue that was lent a frame of a rig that is ready.
 pub can_order : {old new : PoolCounts} → IsReady old → LentFrames 1 old new → CanBuild new
@@ -107,7 +94,7 @@ pub order_stops : {tells : Bool} {a d : Source} {s w x : RigState} {g : Graph} {
     (c : QueueCounts) (e : AigStop) → IsUnused s → HasGraph tells a d s w g
     → c ≡ fresh_counts 1 0 → UsesUp held c w x → StopsOrdering w g (Err e)
     → IfEm {A = Ordered} (Err e) (Cause w x) → Pays c.unstored (w.pool.shape.frames + 2) w x
-    → (IsTrue tells → IsTrue x.device.told → x.most ≤ eval_room x.pool.shape (read_of a d) 0)
+    → (IsTrue tells → x.most ≤ eval_room x.pool.shape (read_of a d) 0)
     → StopsAt tells a d s x (circuit_stop e)
 order_stops {a = a} c (stop.Fault kind place) unused h fresh up stops cause pays most = record {
   cause = λ z told.
@@ -137,8 +124,7 @@ module _ {H : Type 0} (h : ShelfGhosts H) (feed last : Fed) (shelf after : H)
     (up : UsesUp (ks ++ graph_blocks w g) c w x)
     (orders : OrdersGraph (ks ++ graph_blocks w g) w x g o)
     (stores : StoresOrdered c w x g (Ok o))
-    (most : IsTrue h.tells → IsTrue x.device.told
-    → x.most ≤ eval_room x.pool.shape (read_of (source h feed shelf) (source h last after)) 0) where
+    (most : IsTrue h.tells → x.most ≤ eval_room x.pool.shape (read_of (source h feed shelf) (source h last after)) 0) where
   abbrev a : Source
   a = source h feed shelf
 
@@ -181,7 +167,7 @@ module _ {H : Type 0} (h : ShelfGhosts H) (feed last : Fed) (shelf after : H)
           let same : circuit_size o.header ≡ circuit_size g.header =
           ap (λ (y : Header). circuit_size y) orders.header in
           omega (arith, same, k.size z);
-      most = λ z told. most z (up.touches.told ∙ k.session.touches.told ∙ told);
+      most = most;
       packed =
           let same : ceiling (edge_count o.header) (payload_in x)
           ≡ ceiling (edge_count g.header) (payload_in w) =

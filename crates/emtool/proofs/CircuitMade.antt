@@ -39,7 +39,7 @@ use Rattle.aig_edges.specs.Graph.{IsGraph, IsGraphOf, edge_count, graph_blocks, 
 use Rattle.aig_edges.specs.declared.graph.Graph.{Graph}
 use Rattle.aig_edges.proofs.GraphLaws.{GraphStays, graph_stays}
 use Rattle.aig_order.specs.OrderGraph.{OfDefinedCircuit}
-use Rattle.emtool.specs.EitherForm.{ReadsEither, SpellsEither}
+use Rattle.aig_bin.specs.EitherForm.{ReadsEither, SpellsEither}
 use Rattle.emtool.specs.EvalSize.{eval_room, given_of}
 use Rattle.emtool.specs.Evaluation.{CircuitCause, FillsEval}
 use Rattle.emtool.specs.Service.{IsUnused}
@@ -67,7 +67,7 @@ fills_paid {s} {t} n used unused owes same few =
 -- a call on the rig gave up, on a rig of which no block was in use at first
 pub stops_em : {tells : Bool} {a d : Source} {s t : RigState} (n : ℕ) (fault : EmFault)
     → IsUnused s → Sound t → Cause s t fault → Owes n s t → n ≤ t.pool.shape.frames + 2
-    → (IsTrue tells → IsTrue t.device.told → t.most ≤ eval_room t.pool.shape (read_of a d) 0)
+    → (IsTrue tells → t.most ≤ eval_room t.pool.shape (read_of a d) 0)
     → StopsAt tells a d s t (Em fault)
 stops_em n em.DeviceFault unused sound cause owes few most = record { cause = cause; full = tt }
 stops_em {t = t} n (em.Full used) unused sound cause owes few most = record {
@@ -78,7 +78,7 @@ stops_em {t = t} n (em.Full used) unused sound cause owes few most = record {
       let low = sound.shape.frames_low in
       record {
         paid = fills_paid n used unused owes (omega (arith, all, full)) (omega (arith, few, low));
-        size_is = λ z told. omega (arith, all, full, sound.numbers.used_most, most z told);
+        size_is = λ z. omega (arith, all, full, sound.numbers.used_most, most z);
       };
 }
 stops_em n (em.Damaged block) unused sound cause owes few most =
@@ -105,7 +105,7 @@ text_stops {tells} {a} {d} (stop.Fault kind place) unused r h = record {
 text_stops stop.Read unused r h = record { cause = h.read; full = tt }
 text_stops {tells} {a} {d} {s} {t} (stop.Em fault) unused r h =
     let low = h.goes.sound.shape.frames_low in
-    stops_em 3 fault unused h.goes.sound h.cause h.owes (omega (arith, low)) (λ z told. most z)
+    stops_em 3 fault unused h.goes.sound h.cause h.owes (omega (arith, low)) most
   where
     most : IsTrue tells → t.most ≤ eval_room t.pool.shape (read_of a d) 0
     most z =
@@ -279,7 +279,7 @@ build_most {tells} {a} {d} {s} {u} {p} v last then c h fresh frame shape called 
 pub used_up_stops : {tells : Bool} {a d : Source} {s u v : RigState} {held : List ℕ} (c : QueueCounts)
     (fault : EmFault) → IsUnused s → Touches [] s u → Pays 0 0 s u → c ≡ fresh_counts 1 0
     → UsesUp held c u v → Cause u v fault → Pays c.unstored (u.pool.shape.frames + 2) u v
-    → (IsTrue tells → IsTrue v.device.told → v.most ≤ eval_room v.pool.shape (read_of a d) 0)
+    → (IsTrue tells → v.most ≤ eval_room v.pool.shape (read_of a d) 0)
     → StopsAt tells a d s v (Em fault)
 used_up_stops {s = s} {u = u} {v = v} c fault unused touches first fresh up cause pays most =
     let none : c.unstored ≡ 0 = ap (λ (x : QueueCounts). x.unstored) fresh in
@@ -309,7 +309,7 @@ build_stops {a = a} {u = u} {p = p} c (stop.Fault kind place) unused h fresh up 
     }
 build_stops c stop.Read unused h fresh up stops cause pays most = absurd stops
 build_stops c (stop.Em fault) unused h fresh up stops cause pays most =
-    used_up_stops c fault unused h.session.touches h.pays fresh up cause pays (λ z told. most z)
+    used_up_stops c fault unused h.session.touches h.pays fresh up cause pays most
 
 -- The text spells a circuit, which has the graph's header. If the device tells, nothing in it is defined
 -- twice or used undefined, and the graph is its own.

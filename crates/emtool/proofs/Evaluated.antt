@@ -73,7 +73,7 @@ module _ (tells : Bool) (x y stimulus : List ℕ) (e : IsTrue tells → x ≡ y)
         (omega arith) in
         let most : used ≤ eval_room c.pool.shape size 0 =
         subst (λ (v : List ℕ). used ≤ eval_room c.pool.shape (circuit_read (slots First) v) 0) (e t)
-        (f.size_is t d) in
+        (f.size_is t) in
         omega (arith, more, most);
   }
 
@@ -155,18 +155,16 @@ module _ (tells told : Bool) (x y z w : List ℕ) (m : RigState) (o : Ordered)
   pub steps_fills : (slots : Slot → SlotState) (c : RigState) (stop : Stop)
       → 0 < payload_of c.pool.shape
       → (IsTrue tells → circuit_size o.header ≤ circuit_read (slots First) x)
-      → (IsTrue tells → IsTrue told
-      → m.most ≤ eval_room c.pool.shape (circuit_read (slots First) x) 0)
-      → c.device.told ≡ told
+      → (IsTrue tells → m.most ≤ eval_room c.pool.shape (circuit_read (slots First) x) 0)
       → IfStopsFull stop (FillsSteps tells m.most (circuit_size o.header)
       (steps_of o.header.inputs z (slots Second)) c)
       → IfStopsFull stop (FillsRun tells (asked_of_eval y w) slots c)
-  steps_fills slots c (Fault kind place) some size before same p = tt
-  steps_fills slots c Read some size before same p = tt
-  steps_fills slots c Write some size before same p = tt
-  steps_fills slots c (Em em.DeviceFault) some size before same p = tt
-  steps_fills slots c (Em (em.Damaged block)) some size before same p = tt
-  steps_fills slots c (Em (em.Full used)) some size before same p = record {
+  steps_fills slots c (Fault kind place) some size before p = tt
+  steps_fills slots c Read some size before p = tt
+  steps_fills slots c Write some size before p = tt
+  steps_fills slots c (Em em.DeviceFault) some size before p = tt
+  steps_fills slots c (Em (em.Damaged block)) some size before p = tt
+  steps_fills slots c (Em (em.Full used)) some size before p = record {
     paid = p.paid;
     size = λ t d.
         let slot = slots Second in
@@ -182,7 +180,7 @@ module _ (tells told : Bool) (x y z w : List ℕ) (m : RigState) (o : Ordered)
         let rises = eval_room_rises c.pool.shape read 0 n some (omega arith) in
         let first : m.most ≤ eval_room c.pool.shape read 0 =
         subst (λ (v : List ℕ). m.most ≤ eval_room c.pool.shape (circuit_read (slots First) v) 0) (e t)
-        (before t (subst (λ (b : Bool). IsTrue b) same d)) in
+        (before t) in
         let most = p.size_is t in
         rw count (omega (arith, grows, rises, first, most));
   }

@@ -1,22 +1,30 @@
 -- Worked words: what the definition of the job says of them.
 use Rattle.std.specs.Prelude.{◌≡◌, ℕ, List, [], ◌∷◌, ◌++◌, Bool, true, false, codes, map, refl, Ok, Result}
 use Rattle.emtool.specs.declared.job.Job.{Job}
+use Rattle.emtool.specs.declared.job.Origin.{Origin}
+use Rattle.emtool.specs.declared.job.Origin.TheVariants.{Files, Made}
 use Rattle.emtool.specs.declared.job.Task.{Task}
 use Rattle.emtool.specs.declared.job.Task.TheVariants.{Answer, Eval}
 use Rattle.emtool.specs.declared.text.FileKind.TheVariants.{Map, Queue, Stab}
 use Rattle.emtool.specs.declared.status.Usage.{Usage}
-use Rattle.emtool.specs.declared.status.UsageKind.TheVariants.{NoCommand, UnknownCommand, UnknownOption, RepeatedOption, BadValue, MissingOperand, ExtraOperand, BlockRange, FramesRange, FramesMultiple, BlocksRange}
+use Rattle.emtool.specs.declared.status.UsageKind.TheVariants.{NoCommand, UnknownCommand, UnknownOption, RepeatedOption, BadValue, MissingOperand, ExtraOperand, BlockRange, FramesRange, FramesMultiple, BlocksRange, UnknownKind, CountRange}
 use Rattle.emtool.specs.Job.{default_frames, job_of, refused}
 
--- a job of a task, B, m, the device's blocks, statistics, and the number of the file's word
-abbrev job_of_task : Task → ℕ → ℕ → ℕ → Bool → ℕ → Result Job Usage
-job_of_task task block frames blocks stats file = Ok (record {
+-- a job of a task, where its texts come from, B, m, the device's blocks, statistics, and the number of
+-- the first operand's word
+abbrev job_on : Task → Origin → ℕ → ℕ → ℕ → Bool → ℕ → Result Job Usage
+job_on task origin block frames blocks stats file = Ok (record {
   task = task;
+  origin = origin;
   shape = record { block = block; frames = frames };
   blocks = blocks;
   stats = stats;
   file = file;
 })
+
+-- the same over files
+abbrev job_of_task : Task → ℕ → ℕ → ℕ → Bool → ℕ → Result Job Usage
+job_of_task task = job_on task Files
 
 -- the same of a map file
 abbrev job : ℕ → ℕ → ℕ → Bool → ℕ → Result Job Usage
@@ -84,6 +92,54 @@ a_queue_of_no_operand = refl
 a_stab_of_two_operands : job_of (codes "stab" ∷ codes "a" ∷ codes "b" ∷ [])
     ≡ refused ExtraOperand 2
 a_stab_of_two_operands = refl
+
+-- Made texts.
+
+-- words after `gen`, and the job that they name
+abbrev MadeRow : Type 0
+MadeRow = List (List ℕ) × Result Job Usage
+
+-- each row says what its words give
+abbrev MakesJobs : List MadeRow → Type 0
+MakesJobs rows = map (λ (row : MadeRow). job_of (codes "gen" ∷ row.0)) rows
+    ≡ map (λ (row : MadeRow). row.1) rows
+
+-- a job over made texts, by the default shape
+abbrev made : Task → ℕ → ℕ → Result Job Usage
+made task start count = job_on task (Made start count) 1024 256 1048576 false 1
+
+jobs_made : MakesJobs (
+    (codes "map" ∷ codes "1" ∷ codes "8" ∷ [], made (Answer Map) 1 8)
+    ∷ (codes "queue" ∷ codes "0" ∷ codes "1" ∷ [], made (Answer Queue) 0 1)
+    ∷ (
+      codes "stab" ∷ codes "18446744073709551615" ∷ codes "1073741824" ∷ [],
+      made (Answer Stab) 18446744073709551615 1073741824,
+    )
+    ∷ (codes "eval" ∷ codes "00000000000000000007" ∷ codes "02" ∷ [], made Eval 7 2)
+    ∷ (
+      codes "--block=128" ∷ codes "--stats" ∷ codes "map" ∷ codes "1" ∷ codes "8" ∷ [],
+      job_on (Answer Map) (Made 1 8) 128 64 1048576 true 3,
+    )
+    ∷ [])
+jobs_made = refl
+
+jobs_refused : MakesJobs (
+    ([], refused MissingOperand 1)
+    ∷ (codes "map" ∷ codes "1" ∷ [], refused MissingOperand 3)
+    ∷ (codes "map" ∷ codes "1" ∷ codes "8" ∷ codes "9" ∷ [], refused ExtraOperand 4)
+    ∷ (codes "tree" ∷ codes "1" ∷ codes "8" ∷ [], refused UnknownKind 1)
+    ∷ (codes "gen" ∷ codes "x" ∷ codes "0" ∷ [], refused UnknownKind 1)
+    ∷ (codes "map" ∷ codes "x" ∷ codes "0" ∷ [], refused BadValue 2)
+    ∷ (codes "map" ∷ [] ∷ codes "8" ∷ [], refused BadValue 2)
+    ∷ (codes "map" ∷ codes "18446744073709551616" ∷ codes "8" ∷ [], refused BadValue 2)
+    ∷ (codes "map" ∷ codes "1" ∷ codes "000000000000000000008" ∷ [], refused BadValue 3)
+    ∷ (codes "map" ∷ codes "1" ∷ codes "0" ∷ [], refused CountRange 3)
+    ∷ (codes "map" ∷ codes "1" ∷ codes "1073741825" ∷ [], refused CountRange 3)
+    ∷ (codes "--frames=60" ∷ codes "map" ∷ codes "1" ∷ codes "0" ∷ [], refused CountRange 4)
+    ∷ (codes "--frames=60" ∷ codes "map" ∷ codes "1" ∷ codes "8" ∷ [], refused FramesRange 1)
+    ∷ (codes "--x" ∷ codes "tree" ∷ [], refused UnknownOption 1)
+    ∷ [])
+jobs_refused = refl
 
 -- words before the name of a file, and what `map` gives of them
 abbrev Row : Type 0

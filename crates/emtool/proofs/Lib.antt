@@ -3,7 +3,6 @@ pub mod Circuit
 pub mod CircuitCosts
 pub mod CircuitEdges
 pub mod CircuitMade
-pub mod EitherForm
 pub mod EndLaws
 pub mod EvalEnds
 mod EvalRows
@@ -14,8 +13,10 @@ pub mod LineLemmas
 pub mod Listing
 pub mod LoopEnds
 pub mod LoopPrints
+pub mod MadeRuns
 pub mod NumberLemmas
 pub mod Opening
+pub mod Origins
 pub mod OptionLemmas
 pub mod PairLaws
 pub mod Printing
@@ -28,5 +29,7 @@ pub mod Serving
 pub mod StepLoop
 pub mod Stepping
 pub mod Steps
+pub mod Summed
 mod TextRows
 pub mod TopLaws
+pub mod WholeTexts

@@ -8,6 +8,8 @@ use Rattle.em_frames.specs.Device.{DeviceState}
 use Rattle.em_io.specs.declared.shelf.Slot.{Slot}
 use Rattle.em_io.specs.declared.shelf.Slot.TheVariants.{First, Second}
 use Rattle.emtool.specs.declared.job.Job.{Job}
+use Rattle.emtool.specs.declared.job.Origin.{Origin}
+use Rattle.emtool.specs.declared.job.Origin.TheVariants.{Files, Made}
 use Rattle.emtool.specs.declared.job.Task.{Task}
 use Rattle.emtool.specs.declared.job.Task.TheVariants.{Answer, Eval}
 use Rattle.emtool.specs.declared.status.Status.{Status}
@@ -15,10 +17,12 @@ use Rattle.emtool.specs.declared.status.Status.TheVariants.{Done, Malformed, Rea
 use Rattle.emtool.specs.declared.status.Status.TheVariants as status
 use Rattle.emtool.specs.Asked.{Asked, asked_of}
 use Rattle.emtool.specs.Bound.{transfer_bound}
-use Rattle.emtool.specs.Due.{due_by, texts_in}
+use Rattle.emtool.specs.Due.{due_by, texts_on}
 use Rattle.emtool.specs.EvalSize.{circuit_read, passes_read, steps_read}
+use Rattle.emtool.specs.Made.{read_whole}
 use Rattle.emtool.specs.Opens.{OpensNamed, ReadsNamed}
-use Rattle.emtool.specs.Promise.{Completes, FullHasCause, Run, room_of}
+use Rattle.emtool.specs.Origin.{LeavesOutside, OnMade, asked_on, slots_of, tells_of}
+use Rattle.emtool.specs.Promise.{Completes, EndsAsDue, FullHasCause, GivesDue, Run, room_of}
 use Rattle.emtool.specs.Run.{Caused, Ended, HasSizes, Outside, RunsJob, outside}
 use Rattle.emtool.specs.RunSize.{run_size}
 use Rattle.emtool.specs.Status.{OnBegun, OnUsage}
@@ -36,26 +40,63 @@ task_small Eval shape texts slots used is h =
     eval_small shape used (circuit_read (slots First) (texts First))
     (steps_read (texts First) (slots Second) (texts Second)) (passes_read (texts First)) is h
 
--- a run that is due what a job asks of the files of these names
+-- so are those of its run on texts of this origin
+origin_small : (origin : Origin) (task : Task) (shape : ShapeNumbers) (texts : Slot → List ℕ)
+    (slots : Slot → SlotState) (used : ℕ) → IsShape shape
+    → used ≤ (asked_on origin task texts).most shape slots
+    → used < transfer_bound task shape texts (slots_of origin slots)
+origin_small Files task shape texts slots used is h = task_small task shape texts slots used is h
+origin_small (Made start count) task shape texts slots used is h =
+    task_small task shape texts (λ slot. read_whole) used is h
+
+-- Where the device isn't begun or there is no memory, shelf and output stay.
+pub leaves_unbegun : {H W : Type 0} (origin : Origin) (shelf : H) (out : W)
+    → OnMade origin (LeavesOutside shelf out shelf out DeviceFault)
+leaves_unbegun Files shelf out = tt
+leaves_unbegun (Made start count) shelf out =
+    record { stays = refl; no_read = λ e. cc; prints = refl }
+
+pub leaves_no_memory : {H W : Type 0} (origin : Origin) (shelf : H) (out : W)
+    → OnMade origin (LeavesOutside shelf out shelf out NoMemory)
+leaves_no_memory Files shelf out = tt
+leaves_no_memory (Made start count) shelf out =
+    record { stays = refl; no_read = λ e. cc; prints = refl }
+
+-- a run that is due what a job asks of the files of these names, or of made texts
 module _ (tells : Bool) (took : List ℕ → List ℕ → List ℕ) (old new : Outside) (stand : Stand)
     (job : Job) (names : Slot → Option (List ℕ)) where
   abbrev the_run : Run
-  the_run =
-      record { due = due_by stand job names; tells = tells; took = took; old = old; new = new }
+  the_run = record {
+    due = due_by stand job names;
+    tells = tells_of job.origin tells;
+    took = took;
+    old = old;
+    new = new;
+  }
+
+  abbrev texts : Slot → List ℕ
+  texts = texts_on job.origin job.task stand names
 
   abbrev asked : Asked
-  asked = asked_of job.task (texts_in stand names)
+  asked = asked_on job.origin job.task texts
 
   abbrev RunEnded : Status → Type 0
-  RunEnded s = Ended tells took asked job.shape job.blocks old new s
+  RunEnded s = Ended (tells_of job.origin tells) took asked job.shape job.blocks old new s
 
   small : IsShape job.shape → (used : ℕ) → used ≤ asked.most job.shape new.stand.slot
       → used < room_of the_run
   small is used h =
-      let less = task_small job.task job.shape (texts_in stand names) new.stand.slot used is h in
+      let less = origin_small job.origin job.task job.shape texts new.stand.slot used is h in
       omega (arith, less)
 
-  -- the end of a run says what a full device is
+  -- the end of a run says what is due
+  pub answers_end : (s : Status) → RunEnded s → GivesDue (Ok the_run) s
+  answers_end s e = λ told. e.answers told.shelf told.device
+
+  pub due_end : (s : Status) → RunEnded s → EndsAsDue (Ok the_run) s
+  due_end s e = e.due
+
+  -- and what a full device is
   pub full_end : (s : Status) → IsShape job.shape → RunEnded s → OnBegun s (old.device.moves ≡ 0)
       → FullHasCause (Ok the_run) s
   full_end (Full used) is e none = record {
@@ -101,8 +142,10 @@ pub record Besides {H W : Type 0} (h : ShelfGhosts H) (w : SinkGhosts W) (job : 
     (out_after : W) (status : Status) : Type 0 where
   pub caused : Caused (outside h w device shelf out)
       (outside h w device_after shelf_after out_after) status
-  pub opens : OpensNamed h.tells device.told names (h.stand shelf) (h.stand shelf_after) status
-  pub all_read : ReadsNamed h.tells names (h.stand shelf_after) status
+  pub opens : OpensNamed (tells_of job.origin h.tells) device.told names (h.stand shelf)
+      (h.stand shelf_after) status
+  pub all_read : ReadsNamed (tells_of job.origin h.tells) names (h.stand shelf_after) status
+  pub leaves : OnMade job.origin (LeavesOutside shelf out shelf_after out_after status)
   pub begun : OnBegun status (HasSizes job device_after)
   pub no_usage : OnUsage status ⊥
 
@@ -111,7 +154,9 @@ pub job_run : {H W : Type 0} {h : ShelfGhosts H} {w : SinkGhosts W} {job : Job}
     {names : Slot → Option (List ℕ)} {device : DeviceState} {shelf : H} {out : W}
     {device_after : DeviceState} {shelf_after : H}
     {out_after : W} {status : Status}
-    → Ended h.tells w.took (asked_of job.task (texts_in (h.stand shelf) names)) job.shape job.blocks
+    → Ended (tells_of job.origin h.tells) w.took
+    (asked_on job.origin job.task (texts_on job.origin job.task (h.stand shelf) names))
+    job.shape job.blocks
     (outside h w device shelf out) (outside h w device_after shelf_after out_after) status
     → Besides h w job names device shelf out device_after shelf_after out_after status
     → RunsJob h w job names device shelf out device_after shelf_after out_after status
@@ -120,6 +165,7 @@ job_run e b = record {
   caused = b.caused;
   opens = b.opens;
   all_read = b.all_read;
+  leaves = b.leaves;
   begun = b.begun;
   no_usage = b.no_usage;
 }

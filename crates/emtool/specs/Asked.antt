@@ -47,8 +47,7 @@ asked_of_file kind text = record {
 }
 
 -- What an evaluation asks, by the texts of the circuit and of the stimulus. Whether the circuit has
--- a fault, and how many notes wait in the queue while its gates are ordered, is found from what the
--- device gives back.
+-- a fault is found from what the device gives back.
 abbrev pub asked_of_eval : List ℕ → List ℕ → Asked
 asked_of_eval circuit stimulus = record {
   status = eval_status circuit stimulus;
@@ -56,7 +55,7 @@ asked_of_eval circuit stimulus = record {
   output = eval_output circuit stimulus;
   most = λ shape slots. eval_room shape (circuit_read (slots First) circuit)
       (steps_read circuit (slots Second) stimulus);
-  most_told = true;
+  most_told = false;
 }
 
 -- what a task asks, by the text of each slot

@@ -6,6 +6,7 @@ use Rattle.em_io.specs.Shelf.{SlotState}
 use Rattle.em_io.specs.declared.shelf.Slot.{Slot}
 use Rattle.em_io.specs.declared.shelf.Slot.TheVariants.{First, Second}
 use Rattle.emtool.specs.EvalSize.{circuit_read, eval_cost, passes_read, steps_read}
+use Rattle.emtool.specs.Origin.{slots_of}
 use Rattle.emtool.specs.RunSize.{run_size}
 use Rattle.emtool.specs.declared.job.Job.{Job}
 use Rattle.emtool.specs.declared.job.Task.{Task}
@@ -23,4 +24,4 @@ transfer_bound Eval shape texts slots =
 -- the blocks that are enough for a run: its transfer cost, and four for each frame
 abbrev pub stated_room : Job → (Slot → List ℕ) → (Slot → SlotState) → ℕ
 stated_room job texts slots =
-    transfer_bound job.task job.shape texts slots + 4 * job.shape.frames
+    transfer_bound job.task job.shape texts (slots_of job.origin slots) + 4 * job.shape.frames

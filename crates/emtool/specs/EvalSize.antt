@@ -51,9 +51,10 @@ passes_read circuit = passes_after (either_text 0 circuit)
 abbrev pub eval_cost : ShapeNumbers → ℕ → ℕ → ℕ → ℕ
 eval_cost shape size steps passes = (steps + passes + 2) * cost shape (2 * size)
 
--- The most blocks that an evaluation may hold: those of its queue, which has at most 2E calls between
--- two moments at which it is empty while graph and ranks are made, and 2E for each step; and those of at
--- most ten lists of E records.
+-- The most blocks that an evaluation may hold. Its queue has at most 2E calls between two moments at
+-- which it is empty while graph and ranks are made, and 2E for each step; there are at most ten lists of
+-- E records beside it. Three times the queue's records and eight lists are enough for both, since a
+-- list of E records takes no more blocks than the queue's.
 abbrev pub eval_room : ShapeNumbers → ℕ → ℕ → ℕ
 eval_room shape size steps = 3 * (ceiling ((steps + 1) * (2 * size)) (payload_of shape) + 2)
     + 8 * (ceiling size (payload_of shape) + 2)

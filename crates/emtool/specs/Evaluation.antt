@@ -57,7 +57,7 @@ pub record MakesEdges {H : Type 0} (h : ShelfGhosts H) (s t : RigState) (shelf s
   pub all_read : IsAllRead h.tells ((h.stand shelf_after).slot First)
   pub size : IsTrue h.tells → circuit_size o.header
       ≤ circuit_read ((h.stand shelf_after).slot First) ((h.stand shelf).slot First).left
-  pub most : IsTrue h.tells → IsTrue s.device.told → t.most ≤ eval_room t.pool.shape
+  pub most : IsTrue h.tells → t.most ≤ eval_room t.pool.shape
       (circuit_read ((h.stand shelf_after).slot First) ((h.stand shelf).slot First).left) 0
 
 -- why no edges were made: the first fault of the text, if shelf and device tell; the shelf's count of
@@ -71,10 +71,9 @@ CircuitCause tells text faults after old new Write = ⊥
 CircuitCause tells text faults after old new (Em fault) = Cause old new fault
 
 -- What a full device says of an evaluation that read a circuit of this size and began this many steps.
--- How many notes wait in the queue while gates are ordered depends on what the device gives back.
 pub record FillsEval (tells : Bool) (size steps : ℕ) (new : RigState) (used : ℕ) : Type 0 where
   pub paid : (2 ^ 64 - 1 ≤ new.moves) ⊎ (used ≤ new.moves + 2 * new.pool.shape.frames)
-  pub size_is : IsTrue tells → IsTrue new.device.told → used ≤ eval_room new.pool.shape size steps
+  pub size_is : IsTrue tells → used ≤ eval_room new.pool.shape size steps
 
 -- What it says of the steps of an evaluation, if at most `before` blocks were in use before them.
 pub record FillsSteps (tells : Bool) (before size steps : ℕ) (new : RigState) (used : ℕ)

@@ -2,17 +2,22 @@
 -- of its bytes.
 use Rattle.std.specs.Prelude.{◌≡◌, ℕ, ◌+◌, ◌*◌, ◌/◌, ◌<◌, ◌≤◌, ◌^◌, List, [], ◌∷◌, if◌then◌else◌, codes, bytes_eq, get_or, length, map, min, nat_lt, Option, Some, None, String, string_bytes, Result, Ok, Err}
 use Rattle.std.specs.Global.{Global}
+use Rattle.std.specs.Option.{option_map}
 use Rattle.em_record.specs.declared.fault.ShapeFault.{ShapeFault}
 use Rattle.em_record.specs.declared.fault.ShapeFault.TheVariants as shape
 use Rattle.em_record.specs.Shape.{IsShape, ShapeNumbers, is_within, shape_of}
 use Rattle.emtool.specs.declared.job.Job.{Job}
+use Rattle.emtool.specs.declared.job.Origin.{Origin}
+use Rattle.emtool.specs.declared.job.Origin.TheVariants.{Files, Made}
 use Rattle.emtool.specs.declared.job.Task.{Task}
 use Rattle.emtool.specs.declared.job.Task.TheVariants.{Answer, Eval}
+use Rattle.emtool.specs.declared.job.Verb.{Verb}
+use Rattle.emtool.specs.declared.job.Verb.TheVariants.{Over, Generate}
 use Rattle.emtool.specs.declared.text.FileKind.TheVariants.{Map, Queue, Stab}
 use Rattle.emtool.specs.declared.status.Usage.{Usage}
 use Rattle.emtool.specs.declared.status.UsageKind.{UsageKind}
-use Rattle.emtool.specs.declared.status.UsageKind.TheVariants.{NoCommand, UnknownCommand, MissingOperand, ExtraOperand, BlockRange, FramesRange, FramesMultiple, BlocksRange}
-use Rattle.emtool.specs.Options.{has_option, number_or, option_words, options_refusal, word_of}
+use Rattle.emtool.specs.declared.status.UsageKind.TheVariants.{NoCommand, UnknownCommand, BadValue, MissingOperand, ExtraOperand, BlockRange, FramesRange, FramesMultiple, BlocksRange, UnknownKind, CountRange}
+use Rattle.emtool.specs.Options.{has_option, number_of_word, number_or, option_words, options_refusal, word_of}
 
 -- the words as the program gets them
 abbrev pub texts_of : List (String Global) → List (List ℕ)
@@ -37,6 +42,16 @@ unless (Some usage) next = Err usage
 abbrev pub operand_count : Task → ℕ
 operand_count (Answer kind) = 1
 operand_count Eval = 2
+
+-- how many operands a command has: `gen` has a kind, a start and a count
+abbrev pub operands_wanted : Verb → ℕ
+operands_wanted (Over task) = operand_count task
+operands_wanted Generate = 3
+
+-- the same of a task by where its texts come from
+abbrev pub operands_by : Origin → Task → ℕ
+operands_by Files task = operand_count task
+operands_by (Made start count) task = 3
 
 -- the number of the first operand's word, of `count` words: it is the word of number `first`, and
 -- the last of the `wanted` operands is the last word
@@ -85,44 +100,94 @@ task_of word =
     else (if bytes_eq word (codes "stab") then Some (Answer Stab)
     else (if bytes_eq word (codes "eval") then Some Eval else None)))
 
--- the job of a task over what the options say, of the files that the words from number `file` on
--- name
-abbrev pub job_with : Task → List (List ℕ) → ℕ → Result Job Usage
-job_with task options file =
+-- what the word of a command asks for
+abbrev pub verb_of : List ℕ → Option Verb
+verb_of word =
+    if bytes_eq word (codes "gen") then Some Generate else option_map Over (task_of word)
+
+-- the word of this number, or no bytes if there is none
+abbrev pub name_at : List (List ℕ) → ℕ → List ℕ
+name_at words number = get_or words number []
+
+-- the job of a task on texts of this origin, over what the options say. Its operands are the words from
+-- number `file` on.
+abbrev pub job_with : Task → Origin → List (List ℕ) → ℕ → Result Job Usage
+job_with task origin options file =
     shape_with options >>= λ numbers. blocks_with options >>= λ blocks. Ok (record {
       task = task;
+      origin = origin;
       shape = numbers;
       blocks = blocks;
       stats = has_option (codes "--stats") options;
       file = file;
     })
 
--- the job of this many words, of which these option words stand after the command
-abbrev pub job_behind : Task → List (List ℕ) → ℕ → Result Job Usage
-job_behind task options count = unless (options_refusal [] options)
-    (operands_of (operand_count task) (length options + 1) count
-    >>= λ file. job_with task options file)
+-- what an operand says, or this refusal at its word
+abbrev pub said_or : {A : Type 0} → UsageKind → ℕ → Option A → Result A Usage
+said_or kind word (Some x) = Ok x
+said_or kind word None = refused kind word
 
--- the job of a command of this task, and of the words after the command
-abbrev pub job_for : Option Task → List (List ℕ) → Result Job Usage
-job_for None words = refused UnknownCommand 0
-job_for (Some task) words = job_behind task (option_words words) (length words + 1)
+-- a count of lines or gates, where it is in its range
+abbrev pub count_within : ℕ → ℕ → Result ℕ Usage
+count_within word count =
+    if is_within 1 (2 ^ 30) count then Ok count else refused CountRange word
+
+-- the task that the operand of this number names
+abbrev pub task_at : List (List ℕ) → ℕ → Result Task Usage
+task_at words word = said_or UnknownKind word (task_of (name_at words word))
+
+-- the number that the operand of this number spells
+abbrev pub number_at : List (List ℕ) → ℕ → Result ℕ Usage
+number_at words word = said_or BadValue word (number_of_word (name_at words word))
+
+-- the count that the operand of this number spells
+abbrev pub count_at : List (List ℕ) → ℕ → Result ℕ Usage
+count_at words word = number_at words word >>= λ count. count_within word count
+
+-- the job of `gen`, by its operands, of which the first is the word of number `file`
+abbrev pub made_job : List (List ℕ) → List (List ℕ) → ℕ → Result Job Usage
+made_job words options file =
+    task_at words file >>= λ task. number_at words (file + 1) >>= λ start.
+    count_at words (file + 2) >>= λ count. job_with task (Made start count) options file
+
+-- the job of a command, by all words and by those that are options
+abbrev pub job_by : Verb → List (List ℕ) → List (List ℕ) → ℕ → Result Job Usage
+job_by (Over task) words options file = job_with task Files options file
+job_by Generate words options file = made_job words options file
+
+-- the job of these words, of which these are the options that stand after the command
+abbrev pub job_behind : Verb → List (List ℕ) → List (List ℕ) → Result Job Usage
+job_behind verb words options = unless (options_refusal [] options)
+    (operands_of (operands_wanted verb) (length options + 1) (length words)
+    >>= λ file. job_by verb words options file)
+
+-- the job of a command that asks for this, and of the words after the command
+abbrev pub job_for : Option Verb → List ℕ → List (List ℕ) → Result Job Usage
+job_for None command words = refused UnknownCommand 0
+job_for (Some verb) command words = job_behind verb (command ∷ words) (option_words words)
 
 -- the job of the words, or their first refusal
 abbrev pub job_of : List (List ℕ) → Result Job Usage
 job_of [] = refused NoCommand 0
-job_of (command ∷ words) = job_for (task_of command) words
+job_of (command ∷ words) = job_for (verb_of command) command words
 
--- the word of this number, or no bytes if there is none
-abbrev pub name_at : List (List ℕ) → ℕ → List ℕ
-name_at words number = get_or words number []
+-- A made text has at least one line or gate, and at most 2^30.
+pub record IsCount (count : ℕ) : Type 0 where
+  pub some : 0 < count
+  pub most : count ≤ 2 ^ 30
 
--- the limits of a job over this many words, of which the last ones name its files
+-- the limits of made texts
+abbrev pub IsOrigin : Origin → Type 0
+IsOrigin Files = Unit {0}
+IsOrigin (Made start count) = IsCount count
+
+-- the limits of a job over this many words, of which the last ones are its operands
 pub record IsJob (words : ℕ) (job : Job) : Type 0 where
   pub shape : IsShape job.shape
   pub blocks_low : 0 < job.blocks
   pub blocks_high : job.blocks ≤ 2 ^ 40
-  pub files : job.file + operand_count job.task ≡ words
+  pub origin : IsOrigin job.origin
+  pub files : job.file + operands_by job.origin job.task ≡ words
 
 -- A job has some blocks, and at most 2 ^ 40.
 pub record HasBlocks (job : Job) : Type 0 where

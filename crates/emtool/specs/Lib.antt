@@ -3,7 +3,6 @@ pub mod Asked
 pub mod Bound
 pub mod CommandLine
 pub mod Due
-pub mod EitherForm
 pub mod EvalDue
 pub mod EvalSize
 pub mod Evaluation
@@ -12,8 +11,10 @@ pub mod Job
 pub mod Kind
 pub mod LineTaken
 pub mod Lines
+pub mod Made
 pub mod Opens
 pub mod Options
+pub mod Origin
 pub mod Outcome
 pub mod Print
 pub mod Promise

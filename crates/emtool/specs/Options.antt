@@ -20,9 +20,13 @@ option_words words = before_first (λ word. not (is_option word)) words
 abbrev pub name_of : List ℕ → List ℕ
 name_of word = before_first (λ byte. byte == 61) word
 
+-- the number that a word spells: 1 to 20 decimal digits, and a value of 64 bits
+abbrev pub number_of_word : List ℕ → Option ℕ
+number_of_word word = result_ok (number_of word)
+
 -- an option's number: what stands after the first `=`, where that is a number
 abbrev pub number_in : List ℕ → Option ℕ
-number_in word = result_ok (number_of (after_first (λ byte. byte == 61) word))
+number_in word = number_of_word (after_first (λ byte. byte == 61) word)
 
 -- the word is of the option of this name
 abbrev pub has_name : List ℕ → List ℕ → Bool

@@ -10,6 +10,7 @@ use Rattle.em_frames.specs.declared.device.Device.{Ghosts as DeviceGhosts}
 use Rattle.emtool.specs.Bound.{stated_room}
 use Rattle.emtool.specs.Asked.{ToldIf}
 use Rattle.emtool.specs.Due.{Due, due_of}
+use Rattle.emtool.specs.Origin.{LeavesOutside, OnMade, tells_of}
 use Rattle.emtool.specs.Opens.{OpensNamed, ReadsNamed}
 use Rattle.emtool.specs.Job.{texts_of}
 use Rattle.emtool.specs.Outcome.{HasStats, report_text}
@@ -20,8 +21,8 @@ use Rattle.emtool.specs.declared.status.Status.{Status}
 use Rattle.emtool.specs.declared.status.Status.TheVariants.{NoMemory}
 use Rattle.emtool.specs.declared.status.Usage.{Usage}
 
--- A run: what is due, whether the shelf tells its texts, the rule of the output, and the outside
--- before and after.
+-- A run: what is due, whether its texts are known (made ones are, and those of files if the shelf tells
+-- them), the rule of the output, and the outside before and after.
 pub record Run : Type 0 where
   pub due : Due
   pub tells : Bool
@@ -32,8 +33,13 @@ pub record Run : Type 0 where
 -- the run of what is due, if the words name a job
 abbrev pub run_for : Bool → (List ℕ → List ℕ → List ℕ) → Outside → Outside → Result Due Usage
     → Result Run Usage
-run_for tells took old new (Ok due) =
-    Ok (record { due = due; tells = tells; took = took; old = old; new = new })
+run_for tells took old new (Ok due) = Ok (record {
+  due = due;
+  tells = tells_of due.job.origin tells;
+  took = took;
+  old = old;
+  new = new;
+})
 run_for tells took old new (Err usage) = Err usage
 
 -- the run that the words ask for, from device, shelf and output before and after, or the refusal of
@@ -45,7 +51,7 @@ run_of d h w words device shelf out device_after shelf_after out_after = run_for
     (outside h w (d.state device_after) shelf_after out_after)
     (due_of (texts_of words) (h.stand shelf))
 
--- shelf and device tell what they hold
+-- the texts are known, and the device tells what it holds
 pub record IsTold (run : Run) : Type 0 where
   pub shelf : IsTrue run.tells
   pub device : IsTrue run.old.device.told
@@ -94,6 +100,13 @@ abbrev pub Opens : Result Run Usage → Status → Type 0
 Opens (Ok run) status =
     OpensNamed run.tells run.old.device.told run.due.names run.old.stand run.new.stand status
 Opens (Err usage) status = Unit {0}
+
+-- A run on made texts leaves the shelf and its count of faults, and takes its summary alone of the
+-- output.
+abbrev pub LeavesAll : {H W : Type 0} → H → W → H → W → Result Run Usage → Status → Type 0
+LeavesAll shelf out shelf_after out_after (Ok run) status =
+    OnMade run.due.job.origin (LeavesOutside shelf out shelf_after out_after status)
+LeavesAll shelf out shelf_after out_after (Err usage) status = Unit {0}
 
 -- The device has `used` blocks and no more. They are at most the moves made plus two for each frame,
 -- if the count of moves isn't at its end. If the shelf tells and, if the task needs that, the device,

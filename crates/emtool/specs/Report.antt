@@ -8,7 +8,7 @@ use Rattle.emtool.specs.declared.text.TextKind.TheVariants.{BadNumber, TooLarge,
 use Rattle.emtool.specs.declared.status.Malform.{Malform}
 use Rattle.emtool.specs.declared.status.Malform.TheVariants.{Text, Aig}
 use Rattle.emtool.specs.declared.status.UsageKind.{UsageKind}
-use Rattle.emtool.specs.declared.status.UsageKind.TheVariants.{NoCommand, UnknownCommand, UnknownOption, RepeatedOption, BadValue, MissingOperand, ExtraOperand, BlockRange, FramesRange, FramesMultiple, BlocksRange}
+use Rattle.emtool.specs.declared.status.UsageKind.TheVariants.{NoCommand, UnknownCommand, UnknownOption, RepeatedOption, BadValue, MissingOperand, ExtraOperand, BlockRange, FramesRange, FramesMultiple, BlocksRange, UnknownKind, CountRange}
 use Rattle.emtool.specs.declared.status.Status.{Status}
 use Rattle.emtool.specs.declared.status.Status.TheVariants.{Done, Usage, Malformed, ReadFault, WriteFault, DeviceFault, Full, NoMemory, Damaged}
 
@@ -61,6 +61,8 @@ usage_kind_name BlockRange = codes "BlockRange"
 usage_kind_name FramesRange = codes "FramesRange"
 usage_kind_name FramesMultiple = codes "FramesMultiple"
 usage_kind_name BlocksRange = codes "BlocksRange"
+usage_kind_name UnknownKind = codes "UnknownKind"
+usage_kind_name CountRange = codes "CountRange"
 
 -- a number in decimal, or nothing
 abbrev pub digits_of : Option ℕ → List ℕ

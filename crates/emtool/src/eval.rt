@@ -8,13 +8,11 @@
 //! unless the output failed (at a stop of shelf or rig the contract says a front of them). Left to
 //! the layers below: what a circuit, a step and a line are.
 
-ghost use Rattle.std.specs.Prelude.{◌≡◌, ◌<◌, true, []};
+ghost use Rattle.std.specs.Prelude.{◌≡◌, true, []};
 ghost use Rattle.em_io.specs.Shelf.{IsFresh};
-ghost use Rattle.em_space.specs.Rig.{Goes, Sound};
+ghost use Rattle.em_space.specs.Rig.{Goes};
 ghost use Rattle.em_space.specs.Seen.{seen};
-ghost use Rattle.aig_text.specs.Source.{source};
 ghost use Rattle.emtool.specs.Due.{names_of};
-ghost use Rattle.emtool.specs.EitherForm.{ReadsEither};
 ghost use Rattle.emtool.specs.Evaluation.{CanBegin, CanRunSteps, PrintsSteps, ReadsCircuit, RunsSteps, SendsRest};
 ghost use Rattle.emtool.specs.Run.{IsReady, RunsTask};
 ghost use Rattle.emtool.specs.Service.{IsUnused};
@@ -23,36 +21,14 @@ use crate::job::Task;
 use crate::run::status_of;
 use crate::status::Status;
 use crate::stop::Stop;
-use aig_bin::read_binary;
+use aig_bin::read_either;
 use aig_edges::{Ordered, check_and_build};
 use aig_forward::{Evaluator, StepEnd};
 use aig_order::order;
-use aig_text::{AigStop, Parts, read_ascii, read_magic};
 use em_frames::Device;
 use em_io::{Feed, Printer, Shelf, Sink, Slot};
 use em_plain::ScanQueue;
 use em_space::{Queue, Rig};
-
-/// Reads a circuit from its first byte, in the form that its magic names. After a stop blocks may stay
-/// in use.
-fn read_either<D: Device, H: Shelf>(
-    rig: &mut Rig<'_, D>,
-    feed: &mut Feed,
-    shelf: &mut H,
-) -> Result<Parts, AigStop>
-    requires sound { Sound (seen D.state rig.old) }
-    requires ready { ((H.stand shelf.old).slot feed.old.slot).ready ≡ true }
-    requires none { feed.old.place ≡ 0 }
-    requires free { 5 < (seen D.state rig.old).pool.free }
-    ensures reads { ReadsEither H.tells (source H.Shelf feed.old shelf.old)
-        (source H.Shelf feed.new shelf.new) (seen D.state rig.old) (seen D.state rig.new) result }
-{
-    if read_magic(feed, shelf)? {
-        read_ascii(rig, feed, shelf)
-    } else {
-        read_binary(rig, feed, shelf)
-    }
-}
 
 /// Reads the circuit in the open first slot and makes its edges between ranks, by a queue for its graph
 /// and another for its order, on a rig of which no block is or was in use. After a stop blocks may stay

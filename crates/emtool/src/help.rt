@@ -5,6 +5,7 @@ pub const VERSION: &str = "emtool 0.1.0\n";
 pub const HELP: &str = "\
 usage: emtool map|queue|stab [options] FILE
        emtool eval [options] CIRCUIT STIMULUS
+       emtool gen [options] map|queue|stab|eval START COUNT
        emtool --help | --version
 
 Answers a command file, or evaluates a circuit, with structures in external memory.
@@ -27,8 +28,13 @@ Commands:
                 of each step on a line; where a line of STIMULUS is faulty, the lines of the steps
                 before it; nothing where the circuit is
                 example: emtool eval adder.aag adder.txt
+  gen KIND START COUNT
+                runs the command KIND on texts that are made from the number START: COUNT lines of
+                commands, or a circuit of COUNT gates with a stimulus; prints one line with the
+                number of lines, of bytes and the sum of the bytes that the command answers
+                example: emtool gen --stats map 1 1000
 
-Options, before the files:
+Options, before the operands:
   --block=N     records of a block, 128 to 65536; default 1024
                 example: emtool map --block=4096 prices.txt
   --frames=N    frames of one block each, a multiple of 8 from 64 to the lesser of 1024 and half of

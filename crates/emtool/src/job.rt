@@ -1,8 +1,9 @@
-ghost use Rattle.std.specs.Prelude.{◌≡◌, ◌+◌, ◌<◌, ◌^◌, length, IfOk};
-ghost use Rattle.emtool.specs.Job.{texts_of, job_of, task_of, blocks_with, default_frames, job_with, operand_count, operands_of, shape_with, IsJob};
+ghost use Rattle.std.specs.Prelude.{◌≡◌, ◌+◌, ◌-◌, ◌<◌, ◌≤◌, ◌^◌, length, IfOk};
+ghost use Rattle.emtool.specs.Job.{texts_of, job_of, task_of, blocks_with, count_at, count_within, default_frames, job_by, job_with, made_job, name_at, number_at, operand_count, operands_by, operands_of, operands_wanted, shape_with, task_at, verb_of, IsCount, IsJob, IsOrigin};
 
 use crate::option::{
-    BLOCK, BLOCKS, FRAMES, STATS, has_option, number_or, option_words, test_options, word_of,
+    BLOCK, BLOCKS, FRAMES, STATS, has_option, number, number_or, option_words, test_options,
+    word_of,
 };
 use crate::status::{Usage, UsageKind};
 use crate::text::FileKind;
@@ -17,12 +18,31 @@ pub enum Task {
     Eval,
 }
 
-/// What the words ask for: the task that the command names, by a shape and over a device of
-/// `blocks` blocks. The name of its first file is the word of number `file`; that of a second one
-/// follows. With `stats` the run tells its moves.
+/// Where the texts of a run come from.
+#[derive(Clone, Copy, Debug, PartialEq, Eq, Drop)]
+pub enum Origin {
+    /// The files that the words name.
+    Files,
+    /// They are made from two numbers: docs/FORMATS.md, "Made texts".
+    Made { start: u64, count: u64 },
+}
+
+/// What a command asks for.
+#[derive(Clone, Copy, Debug, PartialEq, Eq, Drop)]
+pub enum Verb {
+    /// A task over files.
+    Over(Task),
+    /// A task over made texts, which the first operand names.
+    Generate,
+}
+
+/// What the words ask for: a task on texts of this origin, by a shape and over a device of `blocks`
+/// blocks. Its first operand is the word of number `file`: the name of its first file, which that of
+/// a second one follows, or of made texts the task's name. With `stats` the run tells its moves.
 #[derive(Clone, Copy, Debug, PartialEq, Eq)]
 pub struct Job {
     pub task: Task,
+    pub origin: Origin,
     pub shape: Shape,
     pub blocks: u64,
     pub stats: bool,
@@ -37,6 +57,9 @@ const DEFAULT_BLOCKS: u64 = 1 << 20;
 
 /// The most blocks of a device.
 const MOST_BLOCKS: u64 = 1 << 40;
+
+/// The most lines or gates of a made text.
+const MOST_COUNT: u64 = 1 << 30;
 
 /// The task of a command.
 fn task_of(word: &str) -> Option<Task>
@@ -53,6 +76,19 @@ fn task_of(word: &str) -> Option<Task>
         Some(Task::Eval)
     } else {
         None
+    }
+}
+
+/// What the word of a command asks for.
+fn verb_of(word: &str) -> Option<Verb>
+    ensures { result ≡ verb_of word.now }
+{
+    if word.as_bytes() == b"gen".as_slice() {
+        return Some(Verb::Generate);
+    }
+    match task_of(word) {
+        Some(task) => Some(Verb::Over(task)),
+        None => None,
     }
 }
 
@@ -102,11 +138,23 @@ fn blocks_with(options: &[String]) -> Result<u64, Usage>
 
 /// How many operands a task has: a name for each of its files.
 fn operand_count(task: Task) -> u64
-    ensures { result ≡ operand_count task }
+    ensures is { result ≡ operand_count task }
+    ensures few { result ≤ 2 }
 {
     match task {
         Task::Answer(_) => 1,
         Task::Eval => 2,
+    }
+}
+
+/// How many operands a command has: a kind, a start and a count for made texts.
+fn operands_wanted(verb: Verb) -> u64
+    ensures is { result ≡ operands_wanted verb }
+    ensures few { result ≤ 3 }
+{
+    match verb {
+        Verb::Over(task) => operand_count(task),
+        Verb::Generate => 3,
     }
 }
 
@@ -131,21 +179,107 @@ fn operands_of(wanted: u64, first: u64, count: u64) -> Result<u64, Usage>
     Ok(first)
 }
 
-/// The job of a task over what the options say, of the files that the words from number `file` on
-/// name.
-fn job_with(task: Task, options: &[String], file: u64) -> Result<Job, Usage>
-    ensures job { result ≡ job_with task (texts_of options.now) file }
-    ensures is { IfOk result (IsJob (file + operand_count task)) }
+/// The word of this number, or an empty one if there is none.
+pub fn name_at(words: &[String], number: u64) -> &str
+    ensures is { result.now ≡ name_at (texts_of words.now) number }
+{
+    if number >= words.len() as u64 {
+        return "";
+    }
+    words[number as usize].as_str()
+}
+
+/// The task that the word of this number names.
+fn task_at(words: &[String], word: u64) -> Result<Task, Usage>
+    ensures { result ≡ task_at (texts_of words.now) word }
+{
+    match task_of(name_at(words, word)) {
+        Some(task) => Ok(task),
+        None => Err(Usage {
+            kind: UsageKind::UnknownKind,
+            word,
+        }),
+    }
+}
+
+/// The number that the word of this number spells.
+fn number_at(words: &[String], word: u64) -> Result<u64, Usage>
+    ensures { result ≡ number_at (texts_of words.now) word }
+{
+    match number(name_at(words, word).as_bytes()) {
+        Some(value) => Ok(value),
+        None => Err(Usage {
+            kind: UsageKind::BadValue,
+            word,
+        }),
+    }
+}
+
+/// A count of lines or gates that the word of this number says, where it is in its range.
+fn count_within(word: u64, count: u64) -> Result<u64, Usage>
+    ensures says { result ≡ count_within word count }
+    ensures is { IfOk result IsCount }
+{
+    if count == 0 || count > MOST_COUNT {
+        return Err(Usage {
+            kind: UsageKind::CountRange,
+            word,
+        });
+    }
+    Ok(count)
+}
+
+/// The count of lines or gates that the word of this number spells.
+fn count_at(words: &[String], word: u64) -> Result<u64, Usage>
+    ensures says { result ≡ count_at (texts_of words.now) word }
+    ensures is { IfOk result IsCount }
+{
+    let count = number_at(words, word)?;
+    count_within(word, count)
+}
+
+/// The job of a task on texts of this origin, over what the options say. Its operands are the words
+/// from number `file` on.
+fn job_with(task: Task, origin: Origin, options: &[String], file: u64) -> Result<Job, Usage>
+    requires origin { IsOrigin origin }
+    ensures job { result ≡ job_with task origin (texts_of options.now) file }
+    ensures is { IfOk result (IsJob (file + operands_by origin task)) }
 {
     let shape = shape_with(options)?;
     let blocks = blocks_with(options)?;
     Ok(Job {
         task,
+        origin,
         shape,
         blocks,
         stats: has_option(options, STATS),
         file,
     })
+}
+
+/// The job of `gen`, by its three operands, of which the first is the word of number `file`.
+fn made_job(words: &[String], options: &[String], file: u64) -> Result<Job, Usage>
+    requires { file < 2 ^ 64 - 2 }
+    ensures job { result ≡ made_job (texts_of words.now) (texts_of options.now) file }
+    ensures is { IfOk result (IsJob (file + 3)) }
+{
+    let task = task_at(words, file)?;
+    let start = number_at(words, file + 1)?;
+    let count = count_at(words, file + 2)?;
+    job_with(task, Origin::Made { start, count }, options, file)
+}
+
+/// The job of a command, by all words and by those that are options. Its operands are the words from
+/// number `file` on.
+fn job_by(verb: Verb, words: &[String], options: &[String], file: u64) -> Result<Job, Usage>
+    requires { file < 2 ^ 64 - 2 }
+    ensures job { result ≡ job_by verb (texts_of words.now) (texts_of options.now) file }
+    ensures is { IfOk result (IsJob (file + operands_wanted verb)) }
+{
+    match verb {
+        Verb::Over(task) => job_with(task, Origin::Files, options, file),
+        Verb::Generate => made_job(words, options, file),
+    }
 }
 
 /// The job that the words name, or their first refusal.
@@ -159,7 +293,7 @@ pub fn read_job(words: &[String]) -> Result<Job, Usage>
             word: 0,
         });
     };
-    let Some(task) = task_of(command.as_str()) else {
+    let Some(verb) = verb_of(command.as_str()) else {
         return Err(Usage {
             kind: UsageKind::UnknownCommand,
             word: 0,
@@ -168,6 +302,6 @@ pub fn read_job(words: &[String]) -> Result<Job, Usage>
     let options = option_words(&words[1..]);
     test_options(options)?;
     let first = options.len() as u64 + 1;
-    let file = operands_of(operand_count(task), first, words.len() as u64)?;
-    job_with(task, options, file)
+    let file = operands_of(operands_wanted(verb), first, words.len() as u64)?;
+    job_by(verb, words, options, file)
 }

@@ -11,6 +11,7 @@ ghost use Rattle.emtool.specs.Status.{OnDone};
 
 mod byte;
 mod eval;
+mod generate;
 mod help;
 mod job;
 mod line;

@@ -23,8 +23,9 @@ pub const STATS: &[u8] = b"--stats";
 /// The most digits of a number.
 const MOST_DIGITS: usize = 20;
 
-/// The number that the bytes spell, where they spell one.
-fn number(bytes: &[u8]) -> Option<u64>
+/// The number that the bytes spell, where they spell one: 1 to 20 decimal digits, and a value of 64
+/// bits.
+pub fn number(bytes: &[u8]) -> Option<u64>
     ensures { result ≡ result_ok (number_of bytes.now) }
 {
     if bytes.is_empty() || bytes.len() > MOST_DIGITS {

@@ -82,6 +82,8 @@ fn usage_kind(kind: UsageKind) -> &'static [u8]
         UsageKind::FramesRange => b"FramesRange",
         UsageKind::FramesMultiple => b"FramesMultiple",
         UsageKind::BlocksRange => b"BlocksRange",
+        UsageKind::UnknownKind => b"UnknownKind",
+        UsageKind::CountRange => b"CountRange",
     }
 }
 
@@ -160,7 +162,7 @@ fn message_for(status: &Status) -> Message
 }
 
 /// Adds bytes that fit into the printer's line.
-fn put<E: Sink>(printer: &mut Printer, err: &mut E, bytes: &[u8])
+pub fn put<E: Sink>(printer: &mut Printer, err: &mut E, bytes: &[u8])
     requires { length printer.old + length bytes.now ≤ 4096 }
     ensures quiet { err.new ≡ err.old }
     ensures pending { printer.new ≡ printer.old ++ bytes.now }
@@ -169,7 +171,7 @@ fn put<E: Sink>(printer: &mut Printer, err: &mut E, bytes: &[u8])
 }
 
 /// Adds a number that fits, in decimal.
-fn put_number<E: Sink>(printer: &mut Printer, err: &mut E, number: u64)
+pub fn put_number<E: Sink>(printer: &mut Printer, err: &mut E, number: u64)
     requires { length printer.old ≤ 1000 }
     ensures quiet { err.new ≡ err.old }
     ensures pending { printer.new ≡ printer.old ++ decimal number }

@@ -7,13 +7,15 @@ ghost use Rattle.em_space.specs.Seen.{seen};
 ghost use Rattle.em_chain.specs.Effects.{GivesFrame};
 ghost use Rattle.em_plain.specs.CommandList.{BeginsList};
 ghost use Rattle.em_plain.specs.ScanQueue.{IsScanQueue, counts_of, fresh_counts};
-ghost use Rattle.emtool.specs.Due.{names_of};
-ghost use Rattle.emtool.specs.Run.{stop_status, IsReady, Runs, RunsTask};
+ghost use Rattle.emtool.specs.Due.{names_of, names_on};
+ghost use Rattle.emtool.specs.Job.{IsOrigin};
+ghost use Rattle.emtool.specs.Run.{stop_status, IsReady, Runs, RunsOn, RunsTask};
 ghost use Rattle.emtool.specs.Service.{IsUnused, kind_is, list_of};
 ghost use Rattle.emtool.specs.Status.{OnUsage, OnNoMemory};
 
 use crate::eval::run_eval;
-use crate::job::Task;
+use crate::generate::run_made;
+use crate::job::{Origin, Task};
 use crate::print::print_answers;
 use crate::read::read_answers;
 use crate::serve::serve;
@@ -172,5 +174,32 @@ pub fn run_task<D: Device, H: Shelf, W: Sink>(
     match task {
         Task::Answer(kind) => run_file(kind, rig, shelf, first, out),
         Task::Eval => run_eval(rig, shelf, first, second, out),
+    }
+}
+
+/// Runs a task over the files of these names, or on made texts, on an open rig of which no block is or
+/// was in use.
+#[tactic(auto, using(crate::proofs::Origins::runs_files))]
+pub fn run_on<D: Device, H: Shelf, W: Sink>(
+    task: Task,
+    origin: Origin,
+    rig: &mut Rig<'_, D>,
+    shelf: &mut H,
+    first: &str,
+    second: &str,
+    out: &mut W,
+) -> Status
+    requires unused { IsUnused (seen D.state rig.old) }
+    requires free { IsReady (seen D.state rig.old).pool }
+    requires none_moved { (seen D.state rig.old).moves ≡ 0 }
+    requires fresh { IsFresh (H.stand shelf.old) }
+    requires origin { IsOrigin origin }
+    ensures goes { Goes [] (seen D.state rig.old) (seen D.state rig.new) }
+    ensures runs { RunsOn H.Shelf W.Sink task origin (names_on origin task first.now second.now)
+        (seen D.state rig.old) (seen D.state rig.new) shelf.old out.old shelf.new out.new result }
+{
+    match origin {
+        Origin::Files => run_task(task, rig, shelf, first, second, out),
+        Origin::Made { start, count } => run_made(task, start, count, rig, out),
     }
 }

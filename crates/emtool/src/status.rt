@@ -29,6 +29,10 @@ pub enum UsageKind {
     FramesMultiple,
     /// The device has 1 to 2^40 blocks.
     BlocksRange,
+    /// The word names no kind of made texts.
+    UnknownKind,
+    /// A made text has 1 to 2^30 lines or gates.
+    CountRange,
 }
 
 /// Why the words name no job, and the number, from 0, of the word at which that shows.

@@ -3,23 +3,24 @@ ghost use Rattle.std.specs.Result.{result_err};
 ghost use Rattle.em_record.specs.Count.{Rose};
 ghost use Rattle.em_io.specs.Shelf.{IsFresh};
 ghost use Rattle.em_frames.specs.Pool.{fresh_pool};
-ghost use Rattle.emtool.specs.Due.{names_of};
-ghost use Rattle.emtool.specs.Job.{HasBlocks, name_at, texts_of, job_of};
+ghost use Rattle.emtool.specs.Due.{names_on};
+ghost use Rattle.emtool.specs.Job.{HasBlocks, IsOrigin, texts_of, job_of};
 ghost use Rattle.emtool.specs.Outcome.{HasStats};
-ghost use Rattle.emtool.specs.Promise.{run_of, Begins, Completes, DamageHasCause, EndsAsDue, FullHasCause, GivesDue, Opens, ReadsFiles, Reports, ReportsFront, SendsFront};
+ghost use Rattle.emtool.specs.Promise.{run_of, Begins, Completes, DamageHasCause, EndsAsDue, FullHasCause, GivesDue, LeavesAll, Opens, ReadsFiles, Reports, ReportsFront, SendsFront};
 ghost use Rattle.emtool.specs.Run.{outside, GoesOn, RunsJob};
 ghost use Rattle.emtool.specs.Status.{refusal_of, OnBegun, OnNoMemory, OnUsage};
 
-use crate::job::{Job, read_job};
+use crate::job::{Job, name_at, read_job};
 use crate::outcome::{Outcome, stats_of, unmoved};
 use crate::report::report;
-use crate::run::run_task;
+use crate::run::run_on;
 use crate::status::Status;
 use em_frames::{BeginFault, Device, Grant, Pool};
 use em_io::{Shelf, Sink, Slot};
 use em_space::Rig;
 
-/// Runs a job with a pool of its shape, which it gives up. The names are those of the job's files.
+/// Runs a job with a pool of its shape, which it gives up. The names are those of the job's files, if
+/// it has some.
 pub fn run_pool<D: Device, H: Shelf, W: Sink>(
     job: &Job,
     first: &str,
@@ -30,11 +31,12 @@ pub fn run_pool<D: Device, H: Shelf, W: Sink>(
     out: &mut W,
 ) -> Outcome
     requires blocks { HasBlocks job.now }
+    requires origin { IsOrigin job.now.origin }
     requires pool { pool ≡ fresh_pool job.now.shape }
     requires device { (D.state device.old).blocks ≡ 0 }
     requires shelf { IsFresh (H.stand shelf.old) }
     ensures runs { RunsJob H.Shelf W.Sink job.now
-        (names_of job.now.task first.now second.now)
+        (names_on job.now.origin job.now.task first.now second.now)
         (D.state device.old) shelf.old out.old (D.state device.new) shelf.new out.new
         result.status }
     ensures none_moved { (D.state device.old).moves ≡ 0 }
@@ -44,7 +46,7 @@ pub fn run_pool<D: Device, H: Shelf, W: Sink>(
 {
     match Rig::open(job.shape, job.blocks, device, pool) {
         Ok(mut rig) => {
-            let status = run_task(job.task, &mut rig, shelf, first, second, out);
+            let status = run_on(job.task, job.origin, &mut rig, shelf, first, second, out);
             let stats = stats_of(&rig, job.stats);
             let pool = rig.close();
             pool.end();
@@ -79,10 +81,11 @@ fn run_job<D: Device, H: Shelf, W: Sink>(
     out: &mut W,
 ) -> Outcome
     requires blocks { HasBlocks job.now }
+    requires origin { IsOrigin job.now.origin }
     requires device { (D.state device.old).blocks ≡ 0 }
     requires shelf { IsFresh (H.stand shelf.old) }
     ensures runs { RunsJob H.Shelf W.Sink job.now
-        (names_of job.now.task first.now second.now)
+        (names_on job.now.origin job.now.task first.now second.now)
         (D.state device.old) shelf.old out.old (D.state device.new) shelf.new out.new
         result.status }
     ensures none_moved { OnBegun result.status ((D.state device.old).moves ≡ 0) }
@@ -100,18 +103,8 @@ fn run_job<D: Device, H: Shelf, W: Sink>(
     run_pool(job, first, second, pool, device, shelf, out)
 }
 
-/// The word of this number, or an empty one if there is none.
-fn name_at(words: &[String], number: u64) -> &str
-    ensures is { result.now ≡ name_at (texts_of words.now) number }
-{
-    if number >= words.len() as u64 {
-        return "";
-    }
-    words[number as usize].as_str()
-}
-
 /// Runs the job that the words name: `words` are those after the program's name. Answers of a
-/// command file and outputs of a circuit go to `out`, the message of a status other than `Done` and
+/// command file, outputs of a circuit and the summary of made texts go to `out`, the message of a status other than `Done` and
 /// the line of `--stats` to `err`; records go through `device`, in blocks. A fault of `err` changes
 /// nothing: writing there stops.
 ///
@@ -154,6 +147,8 @@ pub fn emtool<D: Device, H: Shelf, W: Sink, E: Sink>(
     // Causes, one for each status.
     ensures opens { Opens (run_of D.Device H.Shelf W.Sink
         words.now device.old shelf.old out.old device.new shelf.new out.new) result }
+    ensures made { LeavesAll shelf.old out.old shelf.new out.new (run_of D.Device H.Shelf W.Sink
+        words.now device.old shelf.old out.old device.new shelf.new out.new) result }
     ensures read_fault { result ≡ Status.ReadFault
         → Rose (H.faults shelf.old) (H.faults shelf.new) }
     ensures write_fault { result ≡ Status.WriteFault
@@ -169,7 +164,7 @@ pub fn emtool<D: Device, H: Shelf, W: Sink, E: Sink>(
     ensures goes_on { GoesOn (outside H.Shelf W.Sink (D.state device.old) shelf.old out.old)
         (outside H.Shelf W.Sink (D.state device.new) shelf.new out.new) }
 
-    // Completeness: if nothing failed, shelf and device tell, and the device has the stated room,
+    // Completeness: if nothing failed, texts and device are told, and the device has the stated room,
     // the status is the one due, or NoMemory.
     ensures complete { Completes (run_of D.Device H.Shelf W.Sink
         words.now device.old shelf.old out.old device.new shelf.new out.new) result }

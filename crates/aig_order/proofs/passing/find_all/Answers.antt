@@ -1,10 +1,10 @@
-use Rattle.std.proofs.Common.{◌≡◌, ◌≢◌, ◌+◌, ℕ, suc, Result, arith, subst, sym}
+use Rattle.std.proofs.Common.{◌≡◌, ◌≢◌, ℕ, Result, arith, subst, sym}
 use Rattle.em_space.specs.Seen.{seen}
 use Rattle.em_space.specs.declared.fault.EmFault.{EmFault}
 use Rattle.aig_edges.proofs.Looks.{of_fault}
 use Rattle.aig_order.specs.declared.passing.Found.{Found}
 use Rattle.aig_order.specs.Findings.{FindsAll, FindsTo}
-use Rattle.aig_order.proofs.Finds.{Passed, finds_all, finds_end, finds_stop, passed_can, passed_next, passed_none}
+use Rattle.aig_order.proofs.Finds.{finds_all, finds_end, finds_stop, passed_can, passed_fits, passed_next, passed_none}
 use Rattle.aig_order.proofs.passing.find_all.Goals as goal
 
 pub loop-init : goal.loop-init
@@ -24,6 +24,12 @@ sweep_twice-requires-clause-can g c =
     passed_can g.Q.Queue c.args.header.now c.args.list c.loop.counter _ c.args.queue.now _ _
     c.requires.header c.loop-test.true c.requires.can c.loop.invariant.passed
 
+pub sweep_twice-requires-clause-fits : goal.sweep_twice-requires-clause-fits
+sweep_twice-requires-clause-fits g c =
+    rw (c.len.ensures) (
+    passed_fits g.Q.Queue c.args.header.now c.args.list c.loop.counter c.loop.next c.args.queue.now _
+    c.loop.list c.loop.invariant.passed c.requires.can)
+
 pub returns-in_err-swept-clause-finds : goal.returns-in_err-swept-clause-finds
 returns-in_err-swept-clause-finds g c =
     let x = c.args.queue.now in
@@ -33,7 +39,7 @@ returns-in_err-swept-clause-finds g c =
     of_fault (λ (r : Result Found EmFault). FindsTo g.Q.Queue c.args.header.now x z c.args.list s u r)
     _ _ c.from_residual.ensures.1
     (finds_stop g.Q.Queue c.args.header.now c.args.list c.loop.counter c.loop.next x c.loop.queue z
-    c.loop.list c.requires.can c.loop.invariant.passed c.in_err-swept.ensures.sweeps)
+    c.loop.list c.loop-test.true c.requires.can c.loop.invariant.passed (rw c.len.ensures at c.in_err-swept.ensures.sweeps))
 
 pub returns-then-swept-next-clause-finds : goal.returns-then-swept-next-clause-finds
 returns-then-swept-next-clause-finds g c =
@@ -50,7 +56,7 @@ returns-then-swept-next-clause-finds g c =
     }) s u =
     finds_end g.Q.Queue c.args.header.now c.args.list c.loop.counter c.loop.next x c.loop.queue z
     c.loop.list c.in_ok-swept.swept c.loop-test.true c.requires.can c.loop.invariant.passed
-    c.in_ok-swept.ensures.sweeps same in
+    (rw c.len.ensures at c.in_ok-swept.ensures.sweeps) same in
     subst (λ (n : ℕ). FindsAll g.Q.Queue c.args.header.now x z c.args.list (record {
       list = c.in_ok-swept.swept.list;
       passes = n;
@@ -65,17 +71,14 @@ loop-preserved g c =
     let u = seen g.D.Device.state c.sweep_twice.new.rig in
     let e = c.in_ok-swept.ensures in
     let other = c.if-swept-next.false in
-    let more : suc c.loop.counter ≡ c.loop.counter + 1 = omega arith in
     let next : c.in_ok-swept.swept.next ≢ c.loop.next = λ same. absurd (omega (arith, same, other)) in
-    let passed = passed_next g.Q.Queue c.args.header.now c.args.list c.loop.counter c.loop.next x
-    c.loop.queue z c.loop.list c.in_ok-swept.swept c.requires.can c.loop.invariant.passed e.sweeps next
-    in
     record {
       queue = e.queue;
       most = omega (arith, c.loop-test.true);
       passes = omega (arith, c.loop.invariant.passes);
-      passed = subst (λ (n : ℕ). Passed g.Q.Queue c.args.header.now c.args.list n
-          c.in_ok-swept.swept.next x z c.in_ok-swept.swept.list s u) more passed;
+      passed = passed_next g.Q.Queue c.args.header.now c.args.list c.loop.counter c.loop.next x
+          c.loop.queue z c.loop.list c.in_ok-swept.swept c.requires.can c.loop.invariant.passed
+          (rw c.len.ensures at e.sweeps) next;
     }
 
 pub returns-clause-finds : goal.returns-clause-finds

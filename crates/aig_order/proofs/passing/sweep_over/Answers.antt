@@ -6,7 +6,7 @@ use Rattle.em_chain.proofs.Views.{view_of}
 use Rattle.aig_edges.proofs.Pushed.{on_ok}
 use Rattle.aig_order.specs.SweepCalls.{SweepsTo}
 use Rattle.aig_order.specs.Sweeps.{at_constant}
-use Rattle.aig_order.proofs.ListSweeps.{Keeps, lent_keeps, opened_can, over_to, swept_keeps, swept_shares}
+use Rattle.aig_order.proofs.ListSweeps.{Keeps, lent_keeps, opened_can, opened_fit, over_to, swept_keeps, swept_shares}
 use Rattle.aig_order.proofs.passing.sweep_over.Goals as goal
 
 pub over-reader-requires-clause-is : goal.over-reader-requires-clause-is
@@ -44,6 +44,11 @@ sweep_all-swept-requires-clause-can g c =
     rw (c.len.ensures)
     (opened_can g.Q.Queue c.args.list.now.count x w c.requires.can e.lends e.opens a)
 
+pub sweep_all-swept-requires-clause-fits : goal.sweep_all-swept-requires-clause-fits
+sweep_all-swept-requires-clause-fits g c =
+    let e = c.over-reader.ensures in
+    opened_fit c.args.sweep c.args.limits.now e.opens e.lends.touches.told c.requires.fits
+
 pub sweep_all-swept-requires-clause-below : goal.sweep_all-swept-requires-clause-below
 sweep_all-swept-requires-clause-below g c =
     let laws = g.met.Q.Queue in
@@ -80,8 +85,8 @@ returns-clause-frames g c =
     let back = c.abandon.ensures in
     let h = c.args.header.now in
     let from = c.at_constant.result in
-    let shares = swept_shares g.Q.Queue h c.args.sweep 0 c.len.result x y from w v r k m n p.result
-    p.ensures.sweeps in
+    let shares = swept_shares g.Q.Queue h c.args.sweep 0 c.len.result x y from w v r k
+    c.args.limits.now p.new.limits m n p.result p.ensures.sweeps in
     let out2 = out_given 1 (g.Q.Queue.counts x) (g.Q.Queue.counts y) s.pool m.pool n.pool t.pool out
     e.lends.frames shares back.gives.frames in
     laws.frames_stay y _ n t p.ensures.frames back.gives.touches out2
@@ -107,8 +112,8 @@ returns-clause-queue g c =
     let back = c.abandon.ensures in
     let h = c.args.header.now in
     let from = c.at_constant.result in
-    let shares = swept_shares g.Q.Queue h c.args.sweep 0 c.len.result x y from w v r k m n p.result
-    p.ensures.sweeps in
+    let shares = swept_shares g.Q.Queue h c.args.sweep 0 c.len.result x y from w v r k
+    c.args.limits.now p.new.limits m n p.result p.ensures.sweeps in
     let out2 = out_given 1 (g.Q.Queue.counts x) (g.Q.Queue.counts y) s.pool m.pool n.pool t.pool out
     e.lends.frames shares back.gives.frames in
     on_ok p.result p.ensures.queue (λ is.
@@ -137,17 +142,18 @@ returns-clause-sweeps g c =
     let back = c.abandon.ensures in
     let h = c.args.header.now in
     let from = c.at_constant.result in
-    let shares = swept_shares g.Q.Queue h c.args.sweep 0 c.len.result x y from w v r k m n p.result
-    p.ensures.sweeps in
+    let shares = swept_shares g.Q.Queue h c.args.sweep 0 c.len.result x y from w v r k
+    c.args.limits.now p.new.limits m n p.result p.ensures.sweeps in
     let out2 = out_given 1 (g.Q.Queue.counts x) (g.Q.Queue.counts y) s.pool m.pool n.pool t.pool out
     e.lends.frames shares back.gives.frames in
     let count = c.args.list.now.count in
     let can = opened_can g.Q.Queue count x w c.requires.can e.lends e.opens a in
-    let swept : SweepsTo g.Q.Queue h c.args.sweep 0 count x y (at_constant c.args.next) w v r k m n
-    p.result = rw (sym c.len.ensures, sym c.at_constant.ensures) p.ensures.sweeps in
+    let swept : SweepsTo g.Q.Queue h c.args.sweep 0 count x y (at_constant c.args.next) w v r k
+    c.args.limits.now p.new.limits m n p.result = rw (sym c.len.ensures, sym c.at_constant.ensures) p.ensures.sweeps in
     let b = swept_keeps g.Q.Queue h c.args.sweep 0 count x y (at_constant c.args.next) w v r k
-    p.result can swept back.gives p.ensures.queue
+    c.args.limits.now p.new.limits p.result can swept back.gives p.ensures.queue
     (λ is. (laws.stays y _ n t is back.gives.touches (λ z. apart_none _) out2).1)
     (λ is. (laws.stays y _ n t is back.gives.touches (λ z. apart_none _) out2).2) in
-    over_to g.Q.Queue h c.args.sweep 0 c.args.next x y w v c.args.list.now r k t p.result
+    over_to g.Q.Queue h c.args.sweep 0 c.args.next x y w v c.args.list.now r k c.args.limits.now
+    p.new.limits t p.result
     c.requires.can e.lends e.unmoved e.opens a swept back.gives back.unmoved b

@@ -15,7 +15,7 @@ use Rattle.aig_order.specs.declared.standing.Standing.{Standing}
 use Rattle.aig_order.specs.SweepCalls.{StopsSweeping, Sweeps}
 use Rattle.aig_order.specs.SweepLists.{ListTo, three_held}
 use Rattle.aig_order.specs.Sweeps.{at_constant}
-use Rattle.aig_order.proofs.ListSweeps.{Keeps, given_keeps, lent_keeps, opened_can, queue_after, released_keeps, swept_out, taken_list, taken_refused, taken_runs, taken_stops}
+use Rattle.aig_order.proofs.ListSweeps.{Keeps, given_keeps, lent_keeps, opened_can, opened_fit, queue_after, released_keeps, swept_out, taken_list, taken_refused, taken_runs, taken_stops}
 use Rattle.aig_order.proofs.passing.sweep_taking.Goals as goal
 
 pub sweep_all-requires-clause-is : goal.sweep_all-requires-clause-is
@@ -48,6 +48,11 @@ sweep_all-requires-clause-can g c =
     lent_keeps g.Q.Queue x w e.lends c.requires.can.meets.writer kept.1 kept.2 in
     rw (c.len-count.ensures)
     (opened_can g.Q.Queue c.args.list.count x w c.requires.can e.lends e.opens a)
+
+pub sweep_all-requires-clause-fits : goal.sweep_all-requires-clause-fits
+sweep_all-requires-clause-fits g c =
+    let e = c.taking-reader.ensures in
+    opened_fit c.args.sweep c.args.limits.now e.opens e.lends.touches.told c.requires.fits
 
 pub sweep_all-requires-clause-below : goal.sweep_all-requires-clause-below
 sweep_all-requires-clause-below g c =
@@ -91,7 +96,7 @@ returns-in_err-discard-in-Ok-clause-frames g c =
     let list = c.args.list in
     let can = opened_can g.Q.Queue list.count x w c.requires.can e.lends e.opens a in
     let f : Sweeps g.Q.Queue h c.args.sweep list.count list.count x y (at_constant c.args.next)
-    c.in-Ok.last w v r k m n =
+    c.in-Ok.last w v r k c.args.limits.now p.new.limits m n =
     rw (sym c.len-count.ensures, sym c.at_constant.ensures) c.in-Ok.ensures.sweeps in
     let shares = shares_frames f.runs.runs.frames f.runs.calls_on.frames f.runs.calls_on.areas in
     let out2 = out_given 1 (g.Q.Queue.counts x) (g.Q.Queue.counts y) s.pool m.pool n.pool t.pool out
@@ -138,7 +143,7 @@ returns-in_err-discard-in-Ok-clause-sweeps g c =
     let list = c.args.list in
     let can = opened_can g.Q.Queue list.count x w c.requires.can e.lends e.opens a in
     let f : Sweeps g.Q.Queue h c.args.sweep list.count list.count x y (at_constant c.args.next)
-    c.in-Ok.last w v r k m n =
+    c.in-Ok.last w v r k c.args.limits.now p.new.limits m n =
     rw (sym c.len-count.ensures, sym c.at_constant.ensures) c.in-Ok.ensures.sweeps in
     let shares = shares_frames f.runs.runs.frames f.runs.calls_on.frames f.runs.calls_on.areas in
     let out2 = out_given 1 (g.Q.Queue.counts x) (g.Q.Queue.counts y) s.pool m.pool n.pool t.pool out
@@ -160,7 +165,8 @@ returns-in_err-discard-in-Ok-clause-sweeps g c =
     subst (λ (z : Chain). Frees {T = Unit {0}} z.blocks t u (Err c.in_err-discard-in-Ok.field-0.0))
     back.words c.in_err-discard-in-Ok.ensures.frees in
     of_fault (λ (z : Result Standing EmFault). ListTo g.Q.Queue h c.args.sweep list.count c.args.next
-    (three_held g.Q.Queue x w list s) (releasing list.blocks) list x y w v s u z) _ _
+    (three_held g.Q.Queue x w list s) (releasing list.blocks) list x y w v c.args.limits.now
+    p.new.limits s u z) _ _
     c.from_residual.ensures.1
     (taken_refused {T = Unit {0}} g.Q.Queue h c.args.sweep list.count c.args.next x y c.in-Ok.last
     c.requires.can e.lends e.unmoved e.opens a f back.gives back.unmoved b st most few goes frees
@@ -192,7 +198,7 @@ returns-in_ok-discard-in-Ok-clause-frames g c =
     let list = c.args.list in
     let can = opened_can g.Q.Queue list.count x w c.requires.can e.lends e.opens a in
     let f : Sweeps g.Q.Queue h c.args.sweep list.count list.count x y (at_constant c.args.next)
-    c.in-Ok.last w v r k m n =
+    c.in-Ok.last w v r k c.args.limits.now p.new.limits m n =
     rw (sym c.len-count.ensures, sym c.at_constant.ensures) c.in-Ok.ensures.sweeps in
     let shares = shares_frames f.runs.runs.frames f.runs.calls_on.frames f.runs.calls_on.areas in
     let out2 = out_given 1 (g.Q.Queue.counts x) (g.Q.Queue.counts y) s.pool m.pool n.pool t.pool out
@@ -239,7 +245,7 @@ returns-in_ok-discard-in-Ok-clause-queue g c =
     let list = c.args.list in
     let can = opened_can g.Q.Queue list.count x w c.requires.can e.lends e.opens a in
     let f : Sweeps g.Q.Queue h c.args.sweep list.count list.count x y (at_constant c.args.next)
-    c.in-Ok.last w v r k m n =
+    c.in-Ok.last w v r k c.args.limits.now p.new.limits m n =
     rw (sym c.len-count.ensures, sym c.at_constant.ensures) c.in-Ok.ensures.sweeps in
     let shares = shares_frames f.runs.runs.frames f.runs.calls_on.frames f.runs.calls_on.areas in
     let out2 = out_given 1 (g.Q.Queue.counts x) (g.Q.Queue.counts y) s.pool m.pool n.pool t.pool out
@@ -289,7 +295,7 @@ returns-in_ok-discard-in-Ok-clause-sweeps g c =
     let list = c.args.list in
     let can = opened_can g.Q.Queue list.count x w c.requires.can e.lends e.opens a in
     let f : Sweeps g.Q.Queue h c.args.sweep list.count list.count x y (at_constant c.args.next)
-    c.in-Ok.last w v r k m n =
+    c.in-Ok.last w v r k c.args.limits.now p.new.limits m n =
     rw (sym c.len-count.ensures, sym c.at_constant.ensures) c.in-Ok.ensures.sweeps in
     let shares = shares_frames f.runs.runs.frames f.runs.calls_on.frames f.runs.calls_on.areas in
     let out2 = out_given 1 (g.Q.Queue.counts x) (g.Q.Queue.counts y) s.pool m.pool n.pool t.pool out
@@ -370,6 +376,6 @@ returns-in-Err-clause-sweeps g c =
     let shares = c.in-Err.ensures.sweeps.stops.frames in
     let out2 = out_given 1 (g.Q.Queue.counts x) (g.Q.Queue.counts y) s.pool m.pool n.pool t.pool out
     e.lends.frames shares back.gives.frames in
-    let stops : StopsSweeping g.Q.Queue c.args.sweep c.args.list.count x y w r m n c.in-Err.fault =
-    rw (sym c.len-count.ensures) c.in-Err.ensures.sweeps in
-    taken_stops g.Q.Queue c.args.sweep x y e.lends e.unmoved e.opens a stops back.gives back.unmoved
+    let stops : StopsSweeping g.Q.Queue x y w r c.args.limits.now m n c.in-Err.fault =
+    c.in-Err.ensures.sweeps in
+    taken_stops g.Q.Queue x y e.lends e.unmoved e.opens a stops back.gives back.unmoved

@@ -8,7 +8,7 @@ use Rattle.em_queued.proofs.Queued.{apart_after, shares_frames, unstored_frames}
 use Rattle.aig_edges.proofs.Looks.{of_fault}
 use Rattle.aig_order.specs.declared.passing.Swept.{Swept}
 use Rattle.aig_order.specs.Passes.{SweepsTwice}
-use Rattle.aig_order.proofs.SweptTwice.{Begun, begun_can, twice_made, twice_stops, twice_unfinished}
+use Rattle.aig_order.proofs.SweptTwice.{Begun, begun_can, begun_fits, twice_made, twice_stops, twice_unfinished}
 use Rattle.aig_order.proofs.passing.sweep_twice.Goals as goal
 
 pub sweep_both-requires-clause-is : goal.sweep_both-requires-clause-is
@@ -47,6 +47,29 @@ sweep_both-requires-clause-can g c =
     let h = c.args.header.now in
     let list = c.args.list in
     begun_can g.Q.Queue h c.args.first c.args.second c.args.next x w list c.requires.can k
+
+pub sweep_both-requires-clause-fits : goal.sweep_both-requires-clause-fits
+sweep_both-requires-clause-fits g c =
+    let laws = g.met.Q.Queue in
+    let x = c.args.queue.now in
+    let w = c.new-writer.result in
+    let s = seen g.D.Device.state c.args.rig.now in
+    let m = seen g.D.Device.state c.new-writer.new.rig in
+    let e = c.new-writer.ensures in
+    let out = laws.out x s (laws.frames_of x s c.requires.is) in
+    let kept = laws.stays x _ s m c.requires.is e.lends.touches (λ z. apart_none _)
+    (out_lent 1 _ _ _ out e.lends.frames) in
+    let k : Begun g.Q.Queue x w s m = record {
+      lends = e.lends;
+      unmoved = e.unmoved;
+      begins = e.begins;
+      out = out;
+      len = laws.len_is x s c.requires.is;
+      items = kept.1;
+      blocks = kept.2;
+    } in
+    begun_fits g.Q.Queue c.args.header.now c.args.first c.args.second c.args.next x w c.args.list
+    c.args.limits c.requires.can k c.requires.fits
 
 pub returns-in_err-list-in-Ok-clause-frames : goal.returns-in_err-list-in-Ok-clause-frames
 returns-in_err-list-in-Ok-clause-frames g c =
@@ -105,7 +128,7 @@ returns-in_err-list-in-Ok-clause-sweeps g c =
     (laws.out y n c.in-Ok.ensures.frames) f.runs.runs.session.sound in
     let end = c.in_err-list-in-Ok.ensures in
     of_fault (λ (r : Result Swept EmFault). SweepsTwice g.Q.Queue h c.args.first c.args.second
-    c.args.next x y list s t r) _ _ c.from_residual.ensures.1
+    c.args.next c.args.limits x y list s t r) _ _ c.from_residual.ensures.1
     (twice_unfinished g.Q.Queue h c.args.first c.args.second c.args.next x y c.in-Ok.next w v list
     c.requires.can k f few back.gives end.spends end.cause)
 

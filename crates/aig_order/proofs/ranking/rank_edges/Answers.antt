@@ -8,6 +8,12 @@ use Rattle.aig_order.specs.Passes.{RanksTo}
 use Rattle.aig_order.proofs.Ranked.{ranks_can, ranks_damaged, ranks_to, ranks_unswept}
 use Rattle.aig_order.proofs.ranking.rank_edges.Goals as goal
 
+pub sweep_twice-requires-clause-fits : goal.sweep_twice-requires-clause-fits
+sweep_twice-requires-clause-fits g c = λ z. record {
+  calls = let called = c.requires.can.called z in omega (arith, called);
+  records = let written = c.requires.can.written z in omega (arith, written);
+}
+
 pub returns-in_err-ranked-clause-ranks : goal.returns-in_err-ranked-clause-ranks
 returns-in_err-ranked-clause-ranks g c =
     of_fault (λ (r : Result Chain EmFault). RanksTo g.Q.Queue c.args.header.now c.args.count

@@ -4,7 +4,7 @@ use Rattle.em_space.specs.declared.fault.EmFault.{EmFault}
 use Rattle.aig_edges.proofs.Looks.{of_fault}
 use Rattle.aig_order.specs.declared.standing.Standing.{Standing}
 use Rattle.aig_order.specs.SweepCalls.{SweepsTo}
-use Rattle.aig_order.proofs.Swept.{sweeps_below, sweeps_can, sweeps_none, sweeps_refused, sweeps_then}
+use Rattle.aig_order.proofs.Swept.{sweeps_below, sweeps_can, sweeps_fit, sweeps_none, sweeps_refused, sweeps_then}
 use Rattle.aig_order.proofs.sweeping.sweep_all.Goals as goal
 
 pub loop-number-init : goal.loop-number-init
@@ -15,7 +15,7 @@ loop-number-init g c =
       queue = c.requires.is;
       most = omega arith;
       sweeps = sweeps_none g.Q.Queue c.args.header.now c.args.sweep c.args.base c.args.count x
-          c.args.standing (g.met.Q.Queue.blocks_most x s c.requires.is) c.requires.can;
+          c.args.standing c.args.limits.now (g.met.Q.Queue.blocks_most x s c.requires.is) c.requires.can;
     }
 
 pub meet_next-requires-clause-can : goal.meet_next-requires-clause-can
@@ -23,6 +23,11 @@ meet_next-requires-clause-can g c =
     sweeps_can g.Q.Queue c.args.header.now c.args.sweep c.args.base c.loop-number.number c.args.count
     c.args.queue.now _ c.args.standing _ c.loop-number-test.true c.requires.can
     c.loop-number.invariant.sweeps
+
+pub meet_next-requires-clause-fits : goal.meet_next-requires-clause-fits
+meet_next-requires-clause-fits g c =
+    sweeps_fit g.Q.Queue c.args.header.now c.args.sweep c.args.base c.loop-number.number
+    c.args.queue.now _ c.args.standing _ c.requires.fits c.loop-number.invariant.sweeps
 
 pub meet_next-requires-clause-below : goal.meet_next-requires-clause-below
 meet_next-requires-clause-below g c =
@@ -47,10 +52,10 @@ returns-in_err-now-clause-sweeps g c =
     let u = seen g.D.Device.state c.meet_next.new.rig in
     of_fault (λ (r : Result Standing EmFault). SweepsTo g.Q.Queue c.args.header.now c.args.sweep
     c.args.base c.args.count x z c.args.standing c.args.writer.now c.meet_next.new.writer
-    c.args.reader.now c.meet_next.new.reader s u r) _ _ c.from_residual.ensures.1
+    c.args.reader.now c.meet_next.new.reader c.args.limits.now c.meet_next.new.limits s u r) _ _
+    c.from_residual.ensures.1
     (sweeps_refused g.Q.Queue c.args.header.now c.args.sweep c.args.base c.loop-number.number
-    c.args.count x _ z c.args.standing _ c.loop-number-test.true c.requires.can.meets.notes.sound
-    c.loop-number.invariant.sweeps c.in_err-now.ensures.sweeps)
+    x _ z c.args.standing _ c.loop-number.invariant.sweeps c.in_err-now.ensures.sweeps)
 
 pub returns-clause-sweeps : goal.returns-clause-sweeps
 returns-clause-sweeps g c =

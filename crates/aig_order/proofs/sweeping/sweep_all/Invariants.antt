@@ -11,5 +11,5 @@ invariant-loop-number g l =
       queue : g.Q.Queue.IsQueue l.queue now;
       most : l.number ≤ l.count;
       sweeps : Sweeps g.Q.Queue l.header l.sweep l.base l.number l.fn.queue l.queue l.fn.standing
-          l.now l.fn.writer l.writer l.fn.reader l.reader first now;
+          l.now l.fn.writer l.writer l.fn.reader l.reader l.fn.limits l.limits first now;
     }

@@ -1,7 +1,8 @@
 use Rattle.std.proofs.Common.{ap, arith}
 use Rattle.em_space.specs.Queue.{QueueCounts}
 use Rattle.em_space.specs.Seen.{seen}
-use Rattle.aig_trials.proofs.Making.{calls_low, can_lend, defined_beside, graph_beside, graph_held}
+use Rattle.aig_order.proofs.FewCalls.{calls_low}
+use Rattle.aig_trials.proofs.Making.{can_lend, defined_beside, graph_beside, graph_held}
 use Rattle.aig_trials.proofs.ordering.rank.Goals as goal
 
 pub order-requires-clause-graph : goal.order-requires-clause-graph

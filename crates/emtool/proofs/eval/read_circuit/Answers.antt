@@ -1,4 +1,4 @@
-use Rattle.std.proofs.Common.{ap, arith, subst, sym, ◌∙◌, List, ℕ, ◌++◌}
+use Rattle.std.proofs.Common.{ap, arith, subst, sym, List, ℕ, ◌++◌}
 use Rattle.em_space.specs.Held.{Holds}
 use Rattle.em_space.specs.Queue.{QueueCounts}
 use Rattle.em_space.specs.Seen.{seen}
@@ -6,9 +6,10 @@ use Rattle.em_plain.specs.ScanQueue.{counts_of}
 use Rattle.aig_text.specs.Parts.{parts_blocks}
 use Rattle.aig_text.specs.Source.{source}
 use Rattle.aig_edges.specs.Graph.{graph_blocks}
+use Rattle.aig_order.proofs.FewCalls.{calls_low}
 use Rattle.emtool.specs.Stop.{circuit_stop}
 use Rattle.emtool.proofs.Circuit.{reads_from}
-use Rattle.emtool.proofs.CircuitEdges.{calls_low, can_order, edges_made, order_most, order_stops, stopped_by}
+use Rattle.emtool.proofs.CircuitEdges.{can_order, edges_made, order_most, order_stops, stopped_by}
 use Rattle.emtool.proofs.CircuitMade.{HasGraph, build_most, build_stops, ends_goes, graph_goes, has_graph, has_parts, text_stops}
 use Rattle.emtool.proofs.eval.read_circuit.Given as given
 use Rattle.emtool.proofs.eval.read_circuit.Goals.{In_ok-queue-2}
@@ -143,10 +144,8 @@ returns-in_err-order-clause-reads g c =
     c.read_either.new.shelf s x (circuit_stop stop) _ c.from_residual-in_err-order.ensures.1
     text
     (order_stops _ stop c.requires.unused h n.counts k.uses_up k.stops k.cause k.stores
-    (λ z told.
-    let first = sym k.uses_up.touches.told ∙ told in
-    let of = h.defined first in
-    let cost = k.costs first of.circuit of.is in
+    (λ z.
+    let cost = k.costs.costs in
     order_most x cost.last cost.then _ _ h n.counts cost.frames cost.shape cost.called cost.most
     k.uses_up.touches.shape z))
 
@@ -170,9 +169,7 @@ returns-clause-reads g c =
     edges_made g.H.Shelf c.new-feed.result c.read_either.new.feed c.args.shelf.now
     c.read_either.new.shelf x c.in_ok-order.field-0 _ c.requires.unused text
     (λ z. (e.gives z).end) h n.counts n.blocks k.uses_up k.orders k.stores
-    (λ z told.
-    let first = sym k.uses_up.touches.told ∙ told in
-    let of = h.defined first in
-    let cost = k.costs first of.circuit of.is in
+    (λ z.
+    let cost = k.costs.costs in
     order_most x cost.last cost.then _ _ h n.counts cost.frames cost.shape cost.called cost.most
     k.uses_up.touches.shape z)

@@ -228,7 +228,7 @@ returns-in-Err-evaluate-clause-runs g c =
           r.goes.touches v.ends v.cause)
           (steps_fills tells told x y z w t edges same given spells last.slot u stop some
           (λ e. rw first (own.size e))
-          (λ e h. rw (first, v.goes.touches.shape) (own.most e h)) touches.told v.full)
+          (λ e. rw (first, v.goes.touches.shape) (own.most e)) v.full)
           (steps_stopped tells told x y z w t edges same given spells _ _ refl stop
           (λ e h. v.prints e (r.goes.touches.told ∙ h) (spells e).circuit (by_pass (spells e).circuit)
           ((spells e).orders h).is)));

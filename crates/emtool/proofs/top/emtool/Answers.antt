@@ -1,8 +1,48 @@
 use Rattle.std.proofs.Common.{rules}
-use Rattle.emtool.specs.Due.{names_of}
-use Rattle.emtool.proofs.TopLaws.{full_end, complete_end}
+use Rattle.emtool.specs.Due.{names_on}
+use Rattle.emtool.proofs.TopLaws.{answers_end, complete_end, due_end, full_end}
 use Rattle.emtool.proofs.top.emtool.Goals as goal
 use Rattle.emtool.proofs.top.emtool.Goals.{in-Ok, in-Err}
+
+pub returns-clause-answers : goal.returns-clause-answers
+returns-clause-answers g c = elim c.match-read_job.branch [
+  | in-Ok w ↦
+      let e = w.run_job-outcome.ensures in
+      let job = w.in-Ok.job in
+      rw (
+        w.device-is,
+        w.shelf-is,
+        w.out-is,
+        w.outcome-is,
+        ← w.in-Ok.ensures.job,
+        ← w.name_at.ensures.is,
+        ← w.name_at-in-Ok.ensures.is,
+      )
+      (answers_end _ _ _ _ (g.H.Shelf.stand c.args.shelf.now) job
+      (names_on job.origin job.task w.name_at.result.now w.name_at-in-Ok.result.now)
+      w.run_job-outcome.result.status e.runs.ended)
+  | in-Err w ↦ search rules
+]
+
+pub returns-clause-due : goal.returns-clause-due
+returns-clause-due g c = elim c.match-read_job.branch [
+  | in-Ok w ↦
+      let e = w.run_job-outcome.ensures in
+      let job = w.in-Ok.job in
+      rw (
+        w.device-is,
+        w.shelf-is,
+        w.out-is,
+        w.outcome-is,
+        ← w.in-Ok.ensures.job,
+        ← w.name_at.ensures.is,
+        ← w.name_at-in-Ok.ensures.is,
+      )
+      (due_end _ _ _ _ (g.H.Shelf.stand c.args.shelf.now) job
+      (names_on job.origin job.task w.name_at.result.now w.name_at-in-Ok.result.now)
+      w.run_job-outcome.result.status e.runs.ended)
+  | in-Err w ↦ search rules
+]
 
 pub returns-clause-full : goal.returns-clause-full
 returns-clause-full g c = elim c.match-read_job.branch [
@@ -19,7 +59,8 @@ returns-clause-full g c = elim c.match-read_job.branch [
         ← w.name_at-in-Ok.ensures.is,
       )
       (full_end _ _ _ _ (g.H.Shelf.stand c.args.shelf.now) job
-      (names_of job.task w.name_at.result.now w.name_at-in-Ok.result.now) w.run_job-outcome.result.status
+      (names_on job.origin job.task w.name_at.result.now w.name_at-in-Ok.result.now)
+      w.run_job-outcome.result.status
       w.in-Ok.ensures.is.shape e.runs.ended e.none_moved)
   | in-Err w ↦ search rules
 ]
@@ -39,7 +80,8 @@ returns-clause-complete g c = elim c.match-read_job.branch [
         ← w.name_at-in-Ok.ensures.is,
       )
       (complete_end _ _ _ _ (g.H.Shelf.stand c.args.shelf.now) job
-      (names_of job.task w.name_at.result.now w.name_at-in-Ok.result.now) w.run_job-outcome.result.status
+      (names_on job.origin job.task w.name_at.result.now w.name_at-in-Ok.result.now)
+      w.run_job-outcome.result.status
       w.in-Ok.ensures.is.shape e.runs.no_usage e.runs.ended e.runs.caused)
   | in-Err w ↦ search rules
 ]

@@ -1,0 +1,13 @@
+pub mod Fronts
+pub mod Numbers
+pub mod Passes
+pub mod Steps
+pub mod Written
+pub mod Finishing
+pub mod Halves
+pub mod Counted
+pub mod Loading
+pub mod Settling
+pub mod Applied
+pub mod Laws
+pub mod Entries

@@ -1,0 +1,8 @@
+use Rattle.em_space.specs.Seen.{seen}
+use Rattle.em_tree_load.specs.AreaFills.{ReadFirst}
+use Rattle.em_tree_load.proofs.filling.read_into.Given as goal
+
+abbrev pub invariant-loop-place : goal.invariant-loop-place
+invariant-loop-place g l =
+    ReadFirst (seen g.D.Device.state l.fn.rig) (seen g.D.Device.state l.rig) l.fn.reader l.reader
+    l.fn.area l.area l.place

@@ -1,0 +1,63 @@
+use Rattle.std.proofs.Common.{Option, arith, subst}
+use Rattle.em_empty.specs.Effects.{EmptiedAt}
+use Rattle.em_space.specs.Seen.{seen}
+use Rattle.em_tree_load.specs.NodeLoads.{LoadedHere}
+use Rattle.em_tree_load.specs.declared.changing.Split.{Split}
+use Rattle.em_tree_load.proofs.PouredLoads.{loaded_cut, loaded_poured, loaded_whole, pouring_stops, rest_pours, stops_of}
+use Rattle.em_tree_load.proofs.loading.load_leaf.Goals as goal
+
+pub returns-in-None-clause-loads : goal.returns-in-None-clause-loads
+returns-in-None-clause-loads g c =
+    let P : Option Split → Type 0 = λ o. LoadedHere (g.S.Settle.key_of c.args.settle.now)
+    (g.S.Settle.step_of c.args.settle.now) (seen g.D.Device.state c.args.rig.now)
+    (seen g.D.Device.state c.load_at.new.rig) c.args.node c.args.at c.args.answers.now
+    c.load_at.new.answers o in
+    loaded_whole (subst P c.in-None.is c.in_ok-split.ensures.loads)
+
+pub returns-then-len-eq0-clause-loads : goal.returns-then-len-eq0-clause-loads
+returns-then-len-eq0-clause-loads g c =
+    let P : Option Split → Type 0 = λ o. LoadedHere (g.S.Settle.key_of c.args.settle.now)
+    (g.S.Settle.step_of c.args.settle.now) (seen g.D.Device.state c.args.rig.now)
+    (seen g.D.Device.state c.load_at.new.rig) c.args.node c.args.at c.args.answers.now
+    c.load_at.new.answers o in
+    let none = c.len.ensures in
+    let test = c.if-len-eq0.true in
+    loaded_cut (subst P c.in-Some.is c.in_ok-split.ensures.loads) (omega (arith, none, test))
+
+pub empty_node-requires-clause-can : goal.empty_node-requires-clause-can
+empty_node-requires-clause-can g c =
+    let P : Option Split → Type 0 = λ o. LoadedHere (g.S.Settle.key_of c.args.settle.now)
+    (g.S.Settle.step_of c.args.settle.now) (seen g.D.Device.state c.args.rig.now)
+    (seen g.D.Device.state c.load_at.new.rig) c.args.node c.args.at c.args.answers.now
+    c.load_at.new.answers o in
+    rest_pours (subst P c.in-Some.is c.in_ok-split.ensures.loads) c.requires.sound
+    c.requires.can.in_use
+
+pub returns-in_err-empty_node-clause-loads : goal.returns-in_err-empty_node-clause-loads
+returns-in_err-empty_node-clause-loads g c =
+    let P : Option Split → Type 0 = λ o. LoadedHere (g.S.Settle.key_of c.args.settle.now)
+    (g.S.Settle.step_of c.args.settle.now) (seen g.D.Device.state c.args.rig.now)
+    (seen g.D.Device.state c.load_at.new.rig) c.args.node c.args.at c.args.answers.now
+    c.load_at.new.answers o in
+    let e = c.in_err-empty_node.ensures in
+    stops_of _ _ _ _ _ _ _ _ c.from_residual-in_err-empty_node.result
+    c.in_err-empty_node.field-0.0 c.from_residual-in_err-empty_node.ensures.1
+    (pouring_stops (subst P c.in-Some.is c.in_ok-split.ensures.loads) e.leaves e.costs e.cause)
+
+pub returns-clause-loads : goal.returns-clause-loads
+returns-clause-loads g c =
+    let P : Option Split → Type 0 = λ o. LoadedHere (g.S.Settle.key_of c.args.settle.now)
+    (g.S.Settle.step_of c.args.settle.now) (seen g.D.Device.state c.args.rig.now)
+    (seen g.D.Device.state c.load_at.new.rig) c.args.node c.args.at c.args.answers.now
+    c.load_at.new.answers o in
+    let e = c.in_ok-empty_node.ensures in
+    let done : EmptiedAt (g.S.Settle.key_of c.args.settle.now)
+    (seen g.D.Device.state c.load_at.new.rig) (seen g.D.Device.state c.empty_node.new.rig)
+    c.args.node c.in-Some.split.rest c.in_ok-empty_node.field-0 = record {
+      emptied = e.emptied;
+      session = e.leaves.0;
+      frames = e.leaves.1;
+      costs = e.costs;
+      frees = e.frees;
+    } in
+    loaded_poured (subst P c.in-Some.is c.in_ok-split.ensures.loads) done

@@ -1,0 +1,42 @@
+use Rattle.std.proofs.Common.{arith, ◌∙◌}
+use Rattle.em_tree_load.proofs.FirstSettles.{filled_can, filling_frame, filling_stops, settled_first, settled_stops, settles_of}
+use Rattle.em_tree_load.proofs.settling.settle_stored.Goals as goal
+
+pub apply_load-requires-clause-can : goal.apply_load-requires-clause-can
+apply_load-requires-clause-can g c =
+    filled_can c.requires.can c.in_ok-rest.ensures.fills c.requires.count c.requires.grow
+    (c.fill_area.ensures.len ∙ c.requires.room)
+
+pub returns-in_err-rest-clause-frame : goal.returns-in_err-rest-clause-frame
+returns-in_err-rest-clause-frame g c =
+    filling_frame c.requires.can c.in_err-rest.ensures.fills
+
+pub returns-in_err-rest-clause-settles : goal.returns-in_err-rest-clause-settles
+returns-in_err-rest-clause-settles g c =
+    settles_of _ _ _ _ _ _ _ _ 0 c.from_residual.result _ c.from_residual.ensures.1
+    (filling_stops c.requires.can c.requires.sound c.in_err-rest.ensures.fills)
+
+pub returns-in_err-change-clause-settles : goal.returns-in_err-change-clause-settles
+returns-in_err-change-clause-settles g c =
+    settles_of _ _ _ _ _ _ _ _ 0 c.from_residual-in_err-change.result _
+    c.from_residual-in_err-change.ensures.1
+    (settled_stops c.requires.can c.in_ok-rest.ensures.fills c.args.answers.now
+    c.requires.sound c.requires.count
+    c.in_err-change.ensures.runs c.in_err-change.ensures.moves)
+
+pub returns-clause-settles : goal.returns-clause-settles
+returns-clause-settles g c =
+    let o = c.in_ok-change.ensures in
+    settled_first c.requires.can c.in_ok-rest.ensures.fills
+    (g.S.Settle.step_of c.args.settle.now) c.in_ok-change.change c.requires.sound c.requires.count
+    (omega (arith, c.requires.count, c.fill_area.ensures.len, c.requires.room)) o.settles o.leaves o.answers o.runs o.moves
+
+pub fill_area-requires-clause-few : goal.fill_area-requires-clause-few
+fill_area-requires-clause-few g c = omega (arith, c.requires.count)
+
+pub fill_area-requires-clause-room : goal.fill_area-requires-clause-room
+fill_area-requires-clause-room g c = omega (arith, c.requires.count, c.requires.room)
+
+pub apply_load-requires-clause-free : goal.apply_load-requires-clause-free
+apply_load-requires-clause-free g c =
+    omega (arith, c.in_ok-rest.ensures.fills.runs.frames.free, c.requires.free)

@@ -1,0 +1,12 @@
+pub mod AreaFills
+pub mod Forms
+pub mod Leaves
+pub mod LeafChanges
+pub mod LeafLoads
+pub mod LeafSettles
+pub mod Paid
+pub mod PathSplit
+pub mod Turns
+pub mod SplitPaths
+pub mod Releases
+pub mod NodeLoads

@@ -1,0 +1,142 @@
+-- A run on made texts ends as the run of its task on them did, with its summary in place of the answers.
+use Rattle.std.proofs.Common.{◌≡◌, ℕ, ◌≤◌, List, [], ap, sym, subst, ◌∙◌, refl, arith, true, IsTrue}
+use Rattle.em_record.specs.Shape.{ShapeNumbers}
+use Rattle.em_io.specs.Shelf.{Stand}
+use Rattle.em_io.specs.Sink.{IsRule, SentPart}
+use Rattle.em_io.proofs.Sent.{part-of, sent-all, sent-nothing}
+use Rattle.em_gen.specs.Tally.{tallied, three}
+use Rattle.emtool.specs.Asked.{Asked}
+use Rattle.emtool.specs.Made.{read_whole, summary_if, summary_of, summary_text, summed_up}
+use Rattle.emtool.specs.Run.{Ended, Outside}
+use Rattle.emtool.specs.Status.{OnUsage}
+use Rattle.emtool.specs.declared.job.Task.{Task}
+use Rattle.emtool.specs.declared.status.Malform.{Malform}
+use Rattle.emtool.specs.declared.status.Status.{Status}
+use Rattle.emtool.specs.declared.status.Status.TheVariants.{Done, Malformed, ReadFault, WriteFault, DeviceFault, Full, NoMemory, Damaged}
+use Rattle.emtool.specs.declared.status.Status.TheVariants as status
+use Rattle.emtool.proofs.EndLaws.{ended_device, ended_no_memory, ended_read}
+
+-- The task's run left the tally `last`, and `b` on the made shelf.
+module _ {IsState : List ℕ → Type 0} {took : List ℕ → List ℕ → List ℕ} (rule : IsRule IsState took)
+    (task : Task) (count : ℕ) (asked : Asked) (shape : ShapeNumbers) (blocks : ℕ)
+    (old new : Outside) (a b : Stand) (last : List ℕ) (ok : IsState old.output) where
+  -- the outside of the task's run
+  abbrev first : Outside
+  first = record {
+    device = old.device;
+    output = three 0 0 0;
+    stand = a;
+    read_faults = 0;
+    write_faults = 0;
+  }
+
+  abbrev after : Outside
+  after = record {
+    device = new.device;
+    output = last;
+    stand = b;
+    read_faults = 0;
+    write_faults = 0;
+  }
+
+  abbrev Inner : Status → Type 0
+  Inner s = Ended true tallied asked shape blocks first after s
+
+  abbrev Outer : Status → Type 0
+  Outer s = Ended true took (summed_up task count asked) shape blocks old new s
+
+  abbrev summary : List ℕ
+  summary = summary_of task count asked.output
+
+  -- no summary is due at a fault
+  none_due : (kind : Malform) (place : ℕ) → Malformed kind place ≡ asked.status
+      → new.output ≡ old.output → new.output ≡ took old.output (summary_if asked.status summary)
+  none_due kind place e same =
+      same ∙ sym (rule.nothing old.output ok)
+      ∙ ap (λ (s : Status). took old.output (summary_if s summary)) e
+
+  part_none : new.output ≡ old.output
+      → SentPart took old.output (summary_if asked.status summary) new.output
+  part_none same = part-of (sent-nothing rule ok (summary_if asked.status summary) same)
+
+  -- the blocks that the run may hold are no fewer for whole texts
+  abbrev Rises : Type 0
+  Rises = asked.most shape b.slot ≤ asked.most shape (λ slot. read_whole)
+
+  most_whole : (used : ℕ) → Rises → used ≤ asked.most shape b.slot
+      → used ≤ asked.most shape (λ slot. read_whole)
+  most_whole used r h = omega (arith, r, h)
+
+  -- It isn't done, and nothing was printed. A tally doesn't fail.
+  pub ends_unsummed : (s : Status) → (s ≡ Done → ⊥) → (s ≡ WriteFault → ⊥) → OnUsage s ⊥ → Rises
+      → new.output ≡ old.output → Inner s → Outer s
+  ends_unsummed Done n w u r same e = absurd (n refl)
+  ends_unsummed WriteFault n w u r same e = absurd (w refl)
+  ends_unsummed (status.Usage kind word) n w u r same e = absurd u
+  ends_unsummed ReadFault n w u r same e =
+      ended_read rule true (summed_up task count asked) shape blocks old new ok same
+  ends_unsummed DeviceFault n w u r same e =
+      ended_device rule true (summed_up task count asked) shape blocks old new ok same
+  ends_unsummed NoMemory n w u r same e =
+      ended_no_memory rule true (summed_up task count asked) shape blocks old new ok same
+  ends_unsummed (Malformed kind place) n w u r same e = record {
+    answers = λ t d. ((e.answers refl d).0, none_due kind place (e.answers refl d).0 same);
+    due = λ t d. e.due refl d;
+    prefix = λ t d. part_none same;
+    full = tt;
+    paid = tt;
+    size = λ t d. tt;
+    damaged = tt;
+  }
+  ends_unsummed (Full used) n w u r same e = record {
+    answers = λ t d. tt;
+    due = λ t d. tt;
+    prefix = λ t d. part_none same;
+    full = e.full;
+    paid = e.paid;
+    size = λ t d. most_whole used r (e.size refl d);
+    damaged = tt;
+  }
+  ends_unsummed (Damaged block) n w u r same e = record {
+    answers = λ t d. tt;
+    due = λ t d. tt;
+    prefix = λ t d. part_none same;
+    full = tt;
+    paid = tt;
+    size = λ t d. tt;
+    damaged = e.damaged;
+  }
+
+  -- It is done, and the tally has the numbers of what is due.
+  summary_due : Inner Done → IsTrue old.device.told
+      → summary_text task count last ≡ summary_if asked.status summary
+  summary_due e d =
+      let x = e.answers refl d in
+      ap (summary_text task count) x.1 ∙ ap (λ (s : Status). summary_if s summary) x.0
+
+  -- The summary was printed.
+  pub ends_summed : Inner Done → new.output ≡ took old.output (summary_text task count last)
+      → Outer Done
+  ends_summed e all = record {
+    answers = λ t d. ((e.answers refl d).0, all ∙ ap (took old.output) (summary_due e d));
+    due = λ t d. e.due refl d;
+    prefix = λ t d. part-of (sent-all (all ∙ ap (took old.output) (summary_due e d)));
+    full = tt;
+    paid = tt;
+    size = λ t d. tt;
+    damaged = tt;
+  }
+
+  -- A front of it went out.
+  pub ends_cut : Inner Done → SentPart took old.output (summary_text task count last) new.output
+      → Outer WriteFault
+  ends_cut e part = record {
+    answers = λ t d. tt;
+    due = λ t d. tt;
+    prefix = λ t d. subst (λ (bytes : List ℕ). SentPart took old.output bytes new.output)
+        (summary_due e d) part;
+    full = tt;
+    paid = tt;
+    size = λ t d. tt;
+    damaged = tt;
+  }

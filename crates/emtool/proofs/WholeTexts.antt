@@ -1,0 +1,100 @@
+-- A run that read its texts whole may hold no fewer blocks than one that stopped in them.
+use Rattle.std.proofs.Common.{ℕ, zero, suc, ◌-◌, ◌<◌, ◌≤◌, Bool, true, false, cond, List, [], ◌∷◌, length, take, arith}
+use Rattle.std.specs.List.{sum_by}
+use Rattle.std.proofs.lemmas.List.Sums.{sum_by-append}
+use Rattle.em_record.specs.Shape.{ShapeNumbers, payload_of}
+use Rattle.em_io.specs.Shelf.{SlotState}
+use Rattle.em_io.specs.declared.shelf.Slot.{Slot}
+use Rattle.em_io.specs.declared.shelf.Slot.TheVariants.{First, Second}
+use Rattle.em_model.specs.Stab.{NumberedInterval, stab_answer_of, stab_answers_from, stab_step}
+use Rattle.em_model.specs.declared.command.Command.{Command}
+use Rattle.aig_defs.specs.Circuit.{Circuit}
+use Rattle.aig_defs.specs.Items.{Reading, Reads, Fails}
+use Rattle.aig_defs.specs.TextFault.{either_text}
+use Rattle.aig_defs.proofs.Begun.{text_size_rises}
+use Rattle.aig_defs.proofs.Stimulus.{steps_begun_rises}
+use Rattle.emtool.specs.Asked.{asked_of}
+use Rattle.emtool.specs.CommandLine.{good_commands}
+use Rattle.emtool.specs.EvalSize.{circuit_read, given_of, steps_after, steps_read}
+use Rattle.emtool.specs.Made.{read_whole}
+use Rattle.emtool.specs.RunSize.{commands_taken, run_size}
+use Rattle.emtool.specs.declared.job.Task.{Task}
+use Rattle.emtool.specs.declared.job.Task.TheVariants.{Answer, Eval}
+use Rattle.emtool.specs.declared.text.FileKind.{FileKind}
+use Rattle.emtool.specs.declared.text.FileKind.TheVariants.{Map, Queue, Stab}
+use Rattle.emtool.proofs.Evaluating.{eval_room_grows, eval_room_rises}
+use Rattle.emtool.proofs.Listing.{room_rises}
+use Rattle.emtool.proofs.ReadLaws.{within_grows}
+
+-- more commands report no fewer pairs
+pairs_rise : (xs : List NumberedInterval) (cs : List Command) (m n : ℕ) → m ≤ n
+    → sum_by length (stab_answers_from xs (take m cs))
+    ≤ sum_by length (stab_answers_from xs (take n cs))
+pairs_rise xs cs zero n h = omega arith
+pairs_rise xs cs (suc m) zero h = absurd (omega (arith, h))
+pairs_rise xs [] (suc m) (suc n) h = omega arith
+pairs_rise xs (c ∷ cs) (suc m) (suc n) h =
+    let ys = stab_step xs c in
+    let rest = pairs_rise ys cs m n (omega (arith, h)) in
+    let few = sum_by-append length (stab_answer_of xs c) (stab_answers_from ys (take m cs)) in
+    let many = sum_by-append length (stab_answer_of xs c) (stab_answers_from ys (take n cs)) in
+    omega (arith, rest, few, many)
+
+-- no fewer commands are taken of a text of which less is left
+taken_rises : (kind : FileKind) (text left less : List ℕ) → length less ≤ length left
+    → commands_taken kind text left ≤ commands_taken kind text less
+taken_rises kind text left less h =
+    let more = within_grows text (length text - length left) (length text - length less)
+    (omega (arith, h)) in
+    omega (arith, more)
+
+-- so its run is no smaller
+size_rises : (kind : FileKind) (text left less : List ℕ) → length less ≤ length left
+    → run_size kind text left ≤ run_size kind text less
+size_rises Map text left less h = taken_rises Map text left less h
+size_rises Queue text left less h = taken_rises Queue text left less h
+size_rises Stab text left less h =
+    let taken = taken_rises Stab text left less h in
+    let pairs = pairs_rise [] (good_commands Stab text) (commands_taken Stab text left)
+    (commands_taken Stab text less) taken in
+    omega (arith, taken, pairs)
+
+-- all was given of a text that is read whole
+given_most : (slot : SlotState) (text : List ℕ) → given_of slot text ≤ given_of read_whole text
+given_most slot text = least slot.ready
+  where
+    least : (ready : Bool)
+        → cond ready (length text - length slot.left) 0 ≤ given_of read_whole text
+    least true = omega arith
+    least false = omega arith
+
+-- no fewer steps were begun if more was given
+steps_rise : (circuit : Reading Circuit) (given more : ℕ) (stimulus : List ℕ) → given ≤ more
+    → steps_after circuit given stimulus ≤ steps_after circuit more stimulus
+steps_rise (Reads c p x) given more stimulus h =
+    steps_begun_rises c.header.inputs given more stimulus h
+steps_rise (Fails kind place) given more stimulus h = omega arith
+
+-- No fewer blocks for whole texts.
+pub most_rises : (task : Task) (texts : Slot → List ℕ) (shape : ShapeNumbers)
+    (slots : Slot → SlotState) → 0 < payload_of shape
+    → (asked_of task texts).most shape slots
+    ≤ (asked_of task texts).most shape (λ slot. read_whole)
+most_rises (Answer kind) texts shape slots some =
+    room_rises shape (run_size kind (texts First) (slots First).left)
+    (run_size kind (texts First) []) some
+    (size_rises kind (texts First) (slots First).left [] (omega arith))
+most_rises Eval texts shape slots some =
+    let c = texts First in
+    let s = texts Second in
+    let size : circuit_read (slots First) c ≤ circuit_read read_whole c =
+    text_size_rises (given_of (slots First) c) (given_of read_whole c) c
+    (given_most (slots First) c) in
+    let steps : steps_read c (slots Second) s ≤ steps_read c read_whole s =
+    steps_rise (either_text 0 c) (given_of (slots Second) s) (given_of read_whole s) s
+    (given_most (slots Second) s) in
+    let grows = eval_room_grows shape (circuit_read (slots First) c) (circuit_read read_whole c)
+    (steps_read c (slots Second) s) some size in
+    let rises = eval_room_rises shape (circuit_read read_whole c) (steps_read c (slots Second) s)
+    (steps_read c read_whole s) some steps in
+    omega (arith, grows, rises)

@@ -1,0 +1,75 @@
+-- A run on made texts: docs/FORMATS.md, "Made texts" and "Output".
+use Rattle.std.specs.Prelude.{ℕ, true, false, List, [], ◌∷◌, ◌++◌, codes, decimal, get_or}
+use Rattle.em_io.specs.Shelf.{SlotState}
+use Rattle.em_io.specs.declared.shelf.Slot.{Slot}
+use Rattle.em_gen.specs.Tally.{tallied, three}
+use Rattle.em_gen.specs.Texts.{made_text}
+use Rattle.em_gen.specs.declared.kind.GenKind.{GenKind}
+use Rattle.em_gen.specs.declared.kind.GenKind.TheVariants as gen
+use Rattle.emtool.specs.Asked.{Asked}
+use Rattle.emtool.specs.declared.job.Task.{Task}
+use Rattle.emtool.specs.declared.job.Task.TheVariants.{Answer, Eval}
+use Rattle.emtool.specs.declared.status.Status.{Status}
+use Rattle.emtool.specs.declared.status.Status.TheVariants.{Done}
+use Rattle.emtool.specs.declared.text.FileKind.TheVariants.{Map, Queue, Stab}
+
+-- the kind of the texts that are made for a task
+abbrev pub kind_for : Task → GenKind
+kind_for (Answer Map) = gen.Map
+kind_for (Answer Queue) = gen.Queue
+kind_for (Answer Stab) = gen.Stab
+kind_for Eval = gen.Eval
+
+-- the texts that are made for a task, by slot
+abbrev pub made_texts : Task → ℕ → ℕ → Slot → List ℕ
+made_texts task start count slot = made_text (kind_for task) slot start count
+
+-- a slot that was read to its end
+abbrev pub read_whole : SlotState
+read_whole = record { opened = true; ready = true; lost = false; left = [] }
+
+-- the word of a task
+abbrev pub task_name : Task → List ℕ
+task_name (Answer Map) = codes "map"
+task_name (Answer Queue) = codes "queue"
+task_name (Answer Stab) = codes "stab"
+task_name Eval = codes "eval"
+
+-- the tally of a text: its newlines, its bytes and their sum
+abbrev pub tally_of : List ℕ → List ℕ
+tally_of text = tallied (three 0 0 0) text
+
+-- what stands before one of the numbers, and the number
+abbrev pub labelled : List ℕ → List ℕ → ℕ → List ℕ
+labelled line label number = (line ++ label) ++ decimal number
+
+-- the summary of a task on made texts, by the three numbers of a tally
+abbrev pub summary_text : Task → ℕ → List ℕ → List ℕ
+summary_text task count tally =
+    labelled
+    (labelled
+    (labelled
+    (labelled (task_name task) (codes " ") count)
+    (codes " lines ") (get_or tally 0 0))
+    (codes " bytes ") (get_or tally 1 0))
+    (codes " sum ") (get_or tally 2 0) ++ 10 ∷ []
+
+-- the summary of a task on made texts, by what it prints
+abbrev pub summary_of : Task → ℕ → List ℕ → List ℕ
+summary_of task count answers = summary_text task count (tally_of answers)
+
+-- the summary, if the task is due to be done
+abbrev pub summary_if : Status → List ℕ → List ℕ
+summary_if Done summary = summary
+summary_if other summary = []
+
+-- What a task on made texts asks, from what it asks of files with these texts: its status, its summary,
+-- and the blocks that it may hold if both texts are read whole.
+abbrev pub summed_up : Task → ℕ → Asked → Asked
+summed_up task count asked = record {
+  status = asked.status;
+  status_told = asked.status_told;
+  output = summary_if asked.status (summary_of task count asked.output);
+  most = λ shape slots. asked.most shape (λ slot. read_whole);
+  most_told = asked.most_told;
+}
