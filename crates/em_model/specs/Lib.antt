@@ -1,4 +1,5 @@
 pub mod Ascending
 pub mod Map
+pub mod MapAnswers
 pub mod Queue
 pub mod Stab

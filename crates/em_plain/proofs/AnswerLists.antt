@@ -9,7 +9,7 @@ use Rattle.em_model.specs.declared.command.Command.TheVariants.{Put, Del, Get, P
 use Rattle.em_model.proofs.MapLaws.{state_after-value}
 use Rattle.em_plain.specs.Command.{command_in, commands_in}
 use Rattle.em_plain.specs.Asks.{get_answer}
-use Rattle.em_plain.specs.MapAnswers.{answer_record, answer_records, answers_of}
+use Rattle.em_model.specs.MapAnswers.{answer_record, answer_records, answers_of}
 
 -- the same with one command before
 behind : (n : ℕ) (m : Map) (front : List Record) (c : Command) (xs ys : List Command)

@@ -5,7 +5,6 @@ pub mod Command
 pub mod CommandList
 pub mod Least
 pub mod Looks
-pub mod MapAnswers
 pub mod QueueLaws
 pub mod Ready
 pub mod Room

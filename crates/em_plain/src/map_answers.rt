@@ -10,7 +10,7 @@ ghost use Rattle.em_plain.specs.Adds.{AddsTo};
 ghost use Rattle.em_plain.specs.Asks.{get_answer};
 ghost use Rattle.em_plain.specs.Command.{command_in, commands_in};
 ghost use Rattle.em_plain.specs.Looks.{Looks};
-ghost use Rattle.em_plain.specs.MapAnswers.{answer_record};
+ghost use Rattle.em_model.specs.MapAnswers.{answer_record};
 ghost use Rattle.em_plain.specs.Ready.{ReadyBeside};
 
 use crate::command_record::to_command;

@@ -23,7 +23,7 @@ pub struct ScanMap {
 
 impl ScanMap {
     ghost use Rattle.em_plain.specs.CommandList.{AnsweredBy, BeginsList, Noted, held, list_len, unstored};
-    ghost use Rattle.em_plain.specs.MapAnswers.{answer_records};
+    ghost use Rattle.em_model.specs.MapAnswers.{answer_records};
     ghost use Rattle.em_plain.specs.Room.{StaysWithin, plain_room};
     ghost use Rattle.em_plain.specs.ScanMap.{IsScanMap, MapHasFrame, blocks_of, commands_of};
     ghost use Rattle.em_space.specs.Queue.{Pays};

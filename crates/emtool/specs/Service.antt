@@ -7,7 +7,7 @@ use Rattle.em_model.specs.declared.command.Command.{Command}
 use Rattle.em_space.specs.Held.{Within}
 use Rattle.em_space.specs.Rig.{RigState, Sound}
 use Rattle.em_plain.specs.CommandList.{IsCommandList, list_blocks, list_len, held, unstored}
-use Rattle.em_plain.specs.MapAnswers.{answer_records}
+use Rattle.em_model.specs.MapAnswers.{answer_records}
 use Rattle.em_plain.specs.Room.{plain_room}
 use Rattle.em_plain.specs.StabAnswers.{stab_pairs}
 use Rattle.em_plain.specs.declared.command_list.CommandList.{CommandList}
