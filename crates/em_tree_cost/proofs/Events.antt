@@ -2,13 +2,12 @@
 -- event pays for; k stays, and so do the levels.
 use Rattle.std.proofs.Common.{◌≡◌, ℕ, ◌+◌, ◌*◌, ◌^◌, ◌≤◌, refl, arith, ◌⊎◌, inl, inr, ⊎_elim}
 use Rattle.std.proofs.Math.Nat.{mul-le-mul_left}
-use Rattle.em_record.specs.Cost.{blocks_of}
 use Rattle.em_record.specs.Shape.{ShapeNumbers, IsShape, wide_of, payload_of}
 use Rattle.em_tree_cost.specs.Counters.{Counters, Sums, fresh_sums}
 use Rattle.em_tree_cost.specs.Effects.{SameRoot, SumsFall, SumsGrow, SumsLoad, SumsLower, SumsRemove, SumsSplit, SumsTake, after_draining, after_loading, after_lowering, after_removing, after_settling, after_splitting, after_taking}
-use Rattle.em_tree_cost.specs.Paid.{PaidFor, toll_of}
-use Rattle.em_tree_cost.specs.Parts.{filled_debt, full_moves, leave_debt, load_moves, settle_debt, split_moves, thin_debt, thin_moves, visit_debt}
-use Rattle.em_tree_cost.specs.Shares.{floors_of, levels_of}
+use Rattle.em_tree_cost.specs.Paid.{PaidFor, settle_toll, toll_of}
+use Rattle.em_tree_cost.specs.Parts.{filled_debt, full_moves, leave_debt, load_moves, split_moves, thin_debt, thin_moves, visit_debt}
+use Rattle.em_tree_cost.specs.Shares.{levels_of}
 use Rattle.em_tree_cost.specs.Sizes.{IsCeil}
 use Rattle.em_tree_cost.proofs.Fees.{covers_debt, covers_draining, covers_loading, covers_settling, covers_taking}
 use Rattle.em_tree_cost.proofs.Fitting.{fits_draining, fits_fall, fits_loading, fits_lowering, fits_removing, fits_settling, fits_splitting, fits_taking}
@@ -16,7 +15,6 @@ use Rattle.em_tree_cost.proofs.Heights.{fits_growing}
 use Rattle.em_tree_cost.proofs.Levels.{size_is}
 use Rattle.em_tree_cost.proofs.Paid.{levels_within}
 use Rattle.em_tree_cost.proofs.Parts.{covers_full, covers_full_root, covers_leaf_split, covers_leave, covers_leave_filled, covers_load, covers_thin, covers_thin_root, covers_visit}
-use Rattle.em_tree_cost.proofs.Settling.{settle_most}
 
 module _ {shape : ShapeNumbers} {spent more : ℕ} {cs : Counters} {t : Sums} (m : ℕ) (u : Sums)
     (is : IsShape shape) (a : PaidFor shape spent more cs t) where
@@ -168,13 +166,9 @@ module _ {shape : ShapeNumbers} {spent more : ℕ} {cs : Counters} {t : Sums} (m
   -- The end of `settle_all` or `finish`, or of one that was refused: d are the moves that no
   -- operation, load or split pays for.
   pub paid_settle : (d : ℕ) → SameRoot t u → SumsFall t u → shape.block * m + more ≤ shape.block * d
-      → (d ≤ 64)
-      ⊎ (1 ≤ cs.k) × (d ≤ settle_debt (levels_of shape cs.k) (blocks_of shape cs.k) t.leaves)
-      → PaidFor shape (spent + m) 0 (after_settling cs) u
+      → d ≤ settle_toll shape cs.k → PaidFor shape (spent + m) 0 (after_settling cs) u
   paid_settle d r c o h =
-      let s = settle_most d is a.fits h in
-      let most = 64 * (blocks_of shape cs.k + 1) * floors_of shape cs.k in
-      let k : shape.block * d ≤ shape.block * most = mul-le-mul_left shape.block s in
+      let k : shape.block * d ≤ shape.block * settle_toll shape cs.k = mul-le-mul_left shape.block h in
       record {
         fits = fits_settling (fits_fall u a.fits c);
         covers = covers_settling m 0 u a.covers r (omega (arith, k, o));

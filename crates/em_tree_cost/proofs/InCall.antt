@@ -2,13 +2,12 @@
 -- the most moves m of the contract below it; `call_less` then puts the moves made in their place.
 use Rattle.std.proofs.Common.{◌≡◌, ℕ, ◌+◌, ◌*◌, ◌^◌, ◌≤◌, refl, arith, ◌⊎◌, inl, inr, ⊎_elim}
 use Rattle.std.proofs.lemmas.Bool.{cases_lt}
-use Rattle.em_record.specs.Cost.{blocks_of}
 use Rattle.em_record.specs.Shape.{ShapeNumbers, IsShape, wide_of, payload_of}
 use Rattle.em_tree_cost.specs.Books.{InCall, KeepsBooks, TreeCounts, WasSplit, count_drain, count_moves, count_settle}
 use Rattle.em_tree_cost.specs.Counters.{Counters, Sums, fresh_sums}
 use Rattle.em_tree_cost.specs.Effects.{SameRoot, SumsFall, SumsGrow, SumsLoad, SumsLower, SumsRemove, SumsSplit, SumsTake, after_loading, after_lowering, after_removing, after_splitting, after_taking}
-use Rattle.em_tree_cost.specs.Paid.{PaidFor, RefusedDebt, open_visit_debt, toll_of}
-use Rattle.em_tree_cost.specs.Parts.{filled_debt, full_moves, leave_debt, load_moves, settle_debt, split_moves, thin_debt, thin_moves, visit_debt}
+use Rattle.em_tree_cost.specs.Paid.{PaidFor, RefusedDebt, open_visit_debt, settle_toll, toll_of}
+use Rattle.em_tree_cost.specs.Parts.{filled_debt, full_moves, leave_debt, load_moves, split_moves, thin_debt, thin_moves, visit_debt}
 use Rattle.em_tree_cost.specs.Shares.{levels_of, tree_share}
 use Rattle.em_tree_cost.specs.Sizes.{IsCeil}
 use Rattle.em_tree_cost.proofs.Books.{books_drain, books_settle, books_step, books_within}
@@ -236,9 +235,7 @@ module _ {shape : ShapeNumbers} {c : TreeCounts} {more h r : ℕ} {t : Sums} (m 
   -- the end of `settle_all` or `finish`, or of one that was refused: d are the moves that no
   -- operation, load or split pays for
   pub call_settle : (d : ℕ) → SameRoot t u → SumsFall t u → shape.block * m + more ≤ shape.block * d
-      → (d ≤ 64) ⊎ (1 ≤ c.k) × (d ≤ settle_debt (levels_of shape c.k) (blocks_of shape c.k)
-      t.leaves)
-      → KeepsBooks shape (count_settle m c) 0 u
+      → d ≤ settle_toll shape c.k → KeepsBooks shape (count_settle m c) 0 u
   call_settle d s f o k =
       books_settle b.books m u (paid_settle m u is b.books.paid d s f o (rw (b.books.k) k))
 

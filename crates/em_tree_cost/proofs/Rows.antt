@@ -110,7 +110,7 @@ leave_row = refl
 filled_row : filled_debt 8 1 ≡ 523
 filled_row = refl
 
-settle_row : settle_debt 2 10 3 ≡ 520
+settle_row : settle_debt 2 10 3 ≡ 574
 settle_row = refl
 
 -- a tree of 20000 operations

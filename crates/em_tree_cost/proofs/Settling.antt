@@ -5,16 +5,18 @@ use Rattle.std.proofs.lemmas.Bool.{cases_lt}
 use Rattle.em_record.specs.Cost.{blocks_of, lev}
 use Rattle.em_record.specs.Shape.{ShapeNumbers, IsShape, wide_of}
 use Rattle.em_tree_cost.specs.Counters.{Counters, Sums}
-use Rattle.em_tree_cost.specs.Paid.{FitsShape}
+use Rattle.em_tree_cost.specs.Paid.{FitsShape, settle_toll}
 use Rattle.em_tree_cost.specs.Parts.{settle_debt}
 use Rattle.em_tree_cost.specs.Shares.{floors_of, levels_of}
 use Rattle.em_tree_cost.proofs.Ceilings.{blocks_ceil}
 use Rattle.em_tree_cost.proofs.Heights.{splits_few}
 use Rattle.em_tree_cost.proofs.Levels.{lev_some, size_is}
 
-settle_sum : (q v r m : ℕ) → 1 ≤ v → m ≤ 10 * q + (1 + r) * (40 * v + 60)
-    → 16 * r * (40 * v + 60) ≤ q * (40 * v + 60) → m ≤ 64 * (q + 1) * (1 + v)
-settle_sum q v r m some a b = omega (arith, a, b)
+settle_sum : (q v r m : ℕ) → 1 ≤ v → m ≤ 16 * q + (1 + r) * (66 * v + 6)
+    → 16 * r * (66 * v + 6) ≤ q * (66 * v + 6) → 1 ≤ q → m ≤ 64 * (q + 1) * (1 + v)
+settle_sum q v r m some a b one =
+    let up : v * 1 ≤ v * q = mul-le-mul_left v one in
+    omega (arith, a, b, up)
 
 -- More than a block of operations has a level.
 big_levels : (shape : ShapeNumbers) (k : ℕ) → IsShape shape → lev shape (blocks_of shape k) ≤ 0
@@ -56,13 +58,13 @@ some_block shape k is h =
           absurd (omega (arith, z, c.holds, h))
     ]
 
--- Beside what records, loads and splits pay: up to 10 for each block of k, and 40 for each leaf and
--- level of its path, and 60 for each leaf; or 64 in all.
+-- Beside what records, loads and splits pay: up to 16 for each block of k, and 66 for each leaf and
+-- level of its path, and 6 for each leaf; or 64 in all.
 pub settle_most : {shape : ShapeNumbers} {cs : Counters} {t : Sums} (m : ℕ) → IsShape shape
     → FitsShape shape cs t
     → (m ≤ 64) ⊎ (1 ≤ cs.k) × (m ≤ settle_debt (levels_of shape cs.k) (blocks_of shape cs.k)
     t.leaves)
-    → m ≤ 64 * (blocks_of shape cs.k + 1) * floors_of shape cs.k
+    → m ≤ settle_toll shape cs.k
 settle_most {shape = shape} {cs = cs} {t = t} m is a h =
     let q = blocks_of shape cs.k in
     let L = levels_of shape cs.k in
@@ -77,18 +79,18 @@ settle_most {shape = shape} {cs = cs} {t = t} m is a h =
     let some = splits_few is a in
     elim (cases_lt 0 (lev shape q)) [
       | inl more ↦
-          let f : t.leaves * (40 * L + 60) ≤ (1 + cs.splits_since) * (40 * L + 60) =
-          mul-le-mul_right (40 * L + 60) (omega (arith, a.leaves_are)) in
-          let g : 16 * cs.splits_since * (40 * L + 60) ≤ q * (40 * L + 60) =
-          mul-le-mul_right (40 * L + 60) some in
+          let f : t.leaves * (66 * L + 6) ≤ (1 + cs.splits_since) * (66 * L + 6) =
+          mul-le-mul_right (66 * L + 6) (omega (arith, a.leaves_are)) in
+          let g : 16 * cs.splits_since * (66 * L + 6) ≤ q * (66 * L + 6) =
+          mul-le-mul_right (66 * L + 6) some in
           let k : L ≡ lev shape q = omega arith in
           settle_sum q (lev shape q) cs.splits_since m more
-          (let f2 = rw k at f in let n2 = rw k at n.1 in omega (arith, n2, f2)) (rw k at g)
+          (let f2 = rw k at f in let n2 = rw k at n.1 in omega (arith, n2, f2)) (rw k at g) one
       | inr none ↦
           let k : L ≡ 1 = omega arith in
           let leaf = one_leaf is a none in
-          let f : t.leaves * (40 * L + 60) ≤ 1 * (40 * L + 60) =
-          mul-le-mul_right (40 * L + 60) leaf in
+          let f : t.leaves * (66 * L + 6) ≤ 1 * (66 * L + 6) =
+          mul-le-mul_right (66 * L + 6) leaf in
           let g : (q + 1) * 1 ≤ (q + 1) * floors = mul-le-mul_left (q + 1) (omega arith) in
           omega (arith, n.1, f, g, k, one)
     ])

@@ -12,6 +12,10 @@ use Rattle.em_tree_cost.specs.Sizes.{IsCeil}
 abbrev pub toll_of : ShapeNumbers → ℕ → ℕ
 toll_of shape k = 64 * floors_of shape k * shape.block
 
+-- what a call of `settle_all` or `finish` pays for beside, in moves
+abbrev pub settle_toll : ShapeNumbers → ℕ → ℕ
+settle_toll shape k = 64 * (blocks_of shape k + 1) * floors_of shape k
+
 -- the most that a refused call may owe for a leaf's visit
 abbrev pub open_visit_debt : ShapeNumbers → ℕ → ℕ
 open_visit_debt shape k =

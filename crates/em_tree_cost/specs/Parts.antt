@@ -38,4 +38,4 @@ filled_debt w L = L * thin_debt w + 42 * w + 37 + 3 * L
 
 -- what `settle_all` or `finish` may owe at its end, over q blocks of operations
 abbrev pub settle_debt : ℕ → ℕ → ℕ → ℕ
-settle_debt L q leaves = 10 * q + leaves * (40 * L + 60)
+settle_debt L q leaves = 16 * q + leaves * (66 * L + 6)

@@ -1,0 +1,200 @@
+-- The calls of a batch, from those of its tree.
+use Rattle.std.specs.Prelude.{◌≡◌, Bool, ℕ, ◌+◌, ◌-◌, ◌<◌, ◌≤◌, ◌^◌, max, List, [], ◌∷◌, ◌++◌, length, IsTrue, Result, Ok, Err, None, option_to_list}
+use Rattle.std.proofs.Common.{sym, ap, subst, ◌∙◌, refl, arith}
+use Rattle.std.specs.List.Sorted.{IsPermutation}
+use Rattle.std.proofs.lemmas.List.{length-append}
+use Rattle.std.proofs.lemmas.List.Sorted.{IsPermutation-refl, IsPermutation-trans}
+use Rattle.em_record.specs.declared.record.Record.{Record}
+use Rattle.em_model.specs.Map.{no_keys}
+use Rattle.em_model.specs.declared.command.Command.{Command}
+use Rattle.em_settle.specs.Keys.{of_key, record_at}
+use Rattle.em_settle.specs.Map.{IsMapKept, IsMapOp, map_key_of, map_step_of}
+use Rattle.em_space.specs.Rig.{RigState, Sound, Touches}
+use Rattle.em_space.specs.declared.fault.EmFault.{EmFault}
+use Rattle.em_chain.specs.Chain.{chain_items}
+use Rattle.em_chain.specs.declared.chain.Chain.{Chain}
+use Rattle.em_tree_cost.specs.Books.{TreeCounts, count_push}
+use Rattle.em_tree_cost.specs.Shares.{batch_share, tree_share}
+use Rattle.em_tree_model.specs.Meaning.{nothing, tree_answers, tree_contents}
+use Rattle.em_tree_model.specs.Owed.{owed}
+use Rattle.em_tree_model.specs.Ranges.{IsTree, least_record}
+use Rattle.em_tree_model.specs.Tree.{Tree, stored_at, stored_in, waiting_at, waiting_in}
+use Rattle.em_tree_model.proofs.Paths.{in_leaf, on_path}
+use Rattle.em_tree_model.proofs.RowPlaces.{all_keys}
+use Rattle.em_tree_model.proofs.Takes.{nothing_owed}
+use Rattle.em_settle.specs.States.{stored_after}
+use Rattle.em_tree.specs.Calls.{ChangesTrunk, CountsCall, FinishCosts, FinishesTrunk, IsNewTrunk, PushesOp}
+use Rattle.em_tree.specs.Meaning.{IsLater}
+use Rattle.em_tree.specs.Trunk.{given_by, model_of}
+use Rattle.em_map.specs.Batch.{BatchCosts, CountsCommand, FinishesBatch, HasCommands, IsBatch, IsNewBatch, TakesTo, trunk_of}
+use Rattle.em_model.specs.MapAnswers.{answer_records}
+use Rattle.em_map.specs.Commands.{map_op, map_ops}
+use Rattle.em_map.specs.Contents.{UpTo, WaitsUpTo, key_record}
+use Rattle.em_map.specs.declared.batch.Batch.{Batch}
+use Rattle.em_map.proofs.Contents.{answers_are}
+use Rattle.em_map.proofs.Numbers.{waits_below, waits_next}
+use Rattle.em_map.proofs.Ordered.{in_order_of}
+use Rattle.em_map.proofs.Pushed.{answers_next, contents_next, ops_next}
+use Rattle.em_map.proofs.Shares.{within_batch}
+
+-- The next operation is above all that waits for its key, and above the stored record.
+pub next_later : {s : RigState} (b : Batch) (op : Record) → IsBatch s b → op.b ≡ b.calls + 1
+    → IsTrue s.device.told → IsLater map_key_of (model_of s (trunk_of b)) op
+next_later {s = s} b op is e told =
+    let below = waits_below b.calls op e (model_of s (trunk_of b)) (is.waits told) in
+    record { waiting = below.0; stored = below.1 }
+
+-- A tree in which nothing is stored or waits.
+module _ (t : Tree) (is : IsTree map_key_of t least_record None) (stored : stored_in t ≡ [])
+    (waiting : waiting_in t ≡ []) where
+  none_waits : (q : Record) → waiting_at map_key_of t q ≡ []
+  none_waits q = sym (on_path map_key_of t least_record None q is (all_keys q))
+      ∙ ap (of_key map_key_of q) waiting
+
+  none_stored : (q : Record) → stored_at map_key_of t q ≡ None
+  none_stored q = sym (in_leaf map_key_of t least_record None q is (all_keys q))
+      ∙ ap (λ xs. record_at map_key_of xs q) stored
+
+  pub no_numbers : WaitsUpTo 0 t
+  no_numbers = record {
+    waiting = λ k. subst (UpTo k 0) (sym (none_waits (key_record k))) tt;
+    stored = λ k. subst (λ r. UpTo k 0 (option_to_list r)) (sym (none_stored (key_record k))) tt;
+  }
+
+  pub no_contents : (q : Record)
+      → stored_after map_step_of (stored_at map_key_of t q) (waiting_at map_key_of t q) ≡ None
+  no_contents q = ap (stored_after map_step_of (stored_at map_key_of t q)) (none_waits q)
+      ∙ none_stored q
+
+  pub no_answers : (given : List Record) → given ≡ []
+      → IsPermutation [] (tree_answers map_key_of map_step_of given t)
+  no_answers given e = subst (λ (zs : List Record). IsPermutation [] zs)
+      (sym (ap (λ zs. zs ++ owed map_key_of map_step_of t) e ∙ nothing_owed map_key_of map_step_of t waiting))
+      (IsPermutation-refl [])
+
+-- what a device tells after a session it told before
+told_before : {held : List ℕ} {s t : RigState} → Touches held s t → IsTrue t.device.told
+    → IsTrue s.device.told
+told_before touches told = subst (λ (z : Bool). IsTrue z) touches.told told
+
+-- A new tree is that of a batch with no command.
+pub is_new : {s t : RigState} (b : Batch) → b.calls ≡ 0
+    → IsNewTrunk map_key_of IsMapOp IsMapKept s t (trunk_of b) → IsNewBatch s t b
+is_new {s = s} {t = t} b e n =
+    let model = model_of t (trunk_of b) in
+    let back : IsTrue t.device.told → IsTrue s.device.told = told_before n.session.touches in
+    let is : IsTrue t.device.told → IsTree map_key_of model least_record None =
+    λ told. (n.is.running.stands told).is in
+    record {
+      is = record {
+        is = n.is;
+        pushed = ap (λ (c : TreeCounts). c.n) n.counts ∙ sym e;
+        few = omega (arith, e);
+        unsettled = ap (λ (c : TreeCounts). c.y) n.counts;
+        waits = λ told. subst (λ k. WaitsUpTo k model) (sym e)
+            (no_numbers model (is told) (n.stored (back told)) (n.waiting (back told)));
+      };
+      tree = n;
+      none = record {
+        calls = e;
+        contents = λ told. no_contents model (is told) (n.stored (back told)) (n.waiting (back told));
+        answers = λ told. no_answers model (is told) (n.stored (back told)) (n.waiting (back told))
+            (given_by t (trunk_of b)) (n.given (back told));
+      };
+    }
+
+-- what a push leaves of a tree's numbers
+module _ {s t : RigState} (b d : Batch) (is : IsBatch s b)
+    (c : CountsCall (count_push 0) s t (trunk_of b) (trunk_of d)) where
+  pushed_more : (trunk_of d).pushed ≡ (trunk_of b).pushed + 1
+  pushed_more = ap (λ (z : TreeCounts). z.n) c.counts
+
+  none_settled : (trunk_of d).settled ≡ 0
+  none_settled = ap (λ (z : TreeCounts). z.y) c.counts ∙ is.unsettled
+
+  longest_more : (trunk_of d).longest ≤ (trunk_of b).pushed + 1
+  longest_more =
+      let e : (trunk_of d).longest ≡ max (trunk_of b).longest ((trunk_of b).since + 1) =
+      ap (λ (z : TreeCounts). z.k) c.counts in
+      let n = is.is.running.numbers in
+      omega (arith, e, n.longest_most, n.since_most)
+
+  -- The numbers of a call that gives a command.
+  pub counts_command : Sound s → d.calls ≡ b.calls + 1 → CountsCommand s t b d
+  counts_command sound e =
+      let now : (trunk_of d).pushed ≡ d.calls = omega (arith, pushed_more, is.pushed, e) in record {
+        calls = e;
+        tree = c;
+        share = λ told. subst (λ n. (trunk_of d).spent ≤ batch_share s.pool.shape n) now
+            (within_batch s.pool.shape (trunk_of d).pushed (trunk_of d).longest (trunk_of d).settled
+            (trunk_of d).spent sound.shape (omega (arith, longest_more, pushed_more))
+            (omega (arith, none_settled)) (c.share told).within);
+      }
+
+  -- What such a call did.
+  pub takes_command : (command : Command) (op : Record) → b.calls < 2 ^ 40 → d.calls ≡ b.calls + 1
+      → map_op (b.calls + 1) command ≡ op ∷ [] → op.b ≡ b.calls + 1
+      → (r : Result (Unit {0}) EmFault)
+      → PushesOp map_key_of map_step_of IsMapOp IsMapKept op s t (trunk_of b) (trunk_of d) r
+      → TakesTo command s t b d r
+  takes_command command op few e ops number (Ok x) p =
+      let back : IsTrue t.device.told → IsTrue s.device.told = told_before p.session.touches in
+      let old = model_of s (trunk_of b) in
+      let new = model_of t (trunk_of d) in
+      record {
+        is = record {
+          is = p.is;
+          pushed = omega (arith, pushed_more, is.pushed, e);
+          few = omega (arith, few, e);
+          unsettled = none_settled;
+          waits = λ told. subst (λ n. WaitsUpTo n new) (sym e)
+              (waits_next b.calls op number old new
+              (p.meaning (back told)).advances (is.waits (back told)));
+        };
+        tree = subst (λ zs. ChangesTrunk map_key_of map_step_of IsMapOp IsMapKept zs s t (trunk_of b)
+            (trunk_of d)) (sym ops) p;
+        commands = λ cs h. let next : map_ops (cs ++ command ∷ []) ≡ map_ops cs ++ op ∷ [] =
+            ops_next cs command b.calls h.calls ∙ ap (λ zs. map_ops cs ++ zs) ops in
+            record {
+              calls = omega (arith, e, h.calls, length-append cs (command ∷ []));
+              contents = λ told. contents_next (tree_contents map_key_of map_step_of old)
+                  (tree_contents map_key_of map_step_of new) [] [] (map_ops cs) (op ∷ []) (map_ops (cs ++ command ∷ []))
+                  (h.contents (back told)) next (p.meaning (back told)).contents;
+              answers = λ told. answers_next (tree_contents map_key_of map_step_of old)
+                  (tree_contents map_key_of map_step_of new)
+                  (tree_answers map_key_of map_step_of (given_by s (trunk_of b)) old)
+                  (tree_answers map_key_of map_step_of (given_by t (trunk_of d)) new) (map_ops cs) (op ∷ []) (map_ops (cs ++ command ∷ []))
+                  (h.contents (back told)) next (h.answers (back told)) (p.meaning (back told)).answers;
+            };
+      }
+  takes_command command op few e ops number (Err fault) p = p
+
+-- The answers of a batch that was finished.
+pub finishes_batch : (s t : RigState) (b : Batch) (r : Result Chain EmFault)
+    → FinishesTrunk map_key_of map_step_of s t (trunk_of b) r → FinishesBatch s t b r
+finishes_batch s t b (Ok c) f =
+    let all : IsTrue s.device.told → (cs : List Command) → HasCommands s b cs
+    → IsPermutation (answer_records cs) (chain_items t c) = λ told cs h.
+    subst (λ zs. IsPermutation zs (chain_items t c))
+    (answers_are 1 cs nothing no_keys (λ k. refl))
+    (IsPermutation-trans _ _ _ (h.answers told) (f.answers told)) in
+    record {
+      tree = f;
+      answers = all;
+      ordered = λ told cs h. in_order_of cs (chain_items t c) (all told cs h);
+    }
+finishes_batch s t b (Err fault) f = f
+
+-- All calls of a batch that was finished are within its share.
+pub batch_costs : {s t : RigState} (b : Batch) → Sound s → IsBatch s b
+    → FinishCosts s t (trunk_of b) → BatchCosts s t b
+batch_costs {s = s} {t = t} b sound is f =
+    let n = is.is.running.numbers in
+    record {
+      later = f.later;
+      share = λ told. subst (λ k. (trunk_of b).spent + (t.moves - s.moves) ≤ batch_share s.pool.shape k)
+          is.pushed
+          (within_batch s.pool.shape (trunk_of b).pushed (trunk_of b).longest ((trunk_of b).settled + 1)
+          ((trunk_of b).spent + (t.moves - s.moves)) sound.shape n.longest_most
+          (omega (arith, is.unsettled)) (f.share told).within);
+    }

@@ -1,0 +1,8 @@
+mod Compared
+mod Contents
+mod Numbers
+mod Ordered
+mod Pushed
+mod Shares
+mod Batches
+pub mod Stays

@@ -1,0 +1,98 @@
+-- Numbers rise: what waits in a batch's tree is below its next operation.
+use Rattle.std.specs.Prelude.{Bool, true, false, cond, ℕ, ◌≡◌, ◌+◌, ◌<◌, ◌≤◌, ◌==◌, List, [], ◌∷◌, ◌++◌, Option, Some, None, option_to_list}
+use Rattle.std.proofs.Common.{sym, ap, subst, ◌∙◌, refl, arith, ⊎_elim}
+use Rattle.std.proofs.lemmas.Bool.{cases_Bool}
+use Rattle.std.proofs.lemmas.Cmp.{nat_cmp_total, tied_itself}
+use Rattle.em_record.specs.Order.{is_below}
+use Rattle.em_record.specs.declared.record.Record.{Record}
+use Rattle.em_settle.specs.Keys.{has_key, of_key}
+use Rattle.em_settle.specs.Map.{map_key_of, map_step_of}
+use Rattle.em_settle.specs.MapLaws.{choose}
+use Rattle.em_settle.specs.Rising.{AllUnder}
+use Rattle.em_settle.specs.States.{stored_after}
+use Rattle.em_settle.proofs.Keys.{key_is, first_of_key, none_of_key}
+use Rattle.em_tree_model.specs.Meaning.{Advances}
+use Rattle.em_tree_model.specs.Tree.{Tree, stored_at, waiting_at}
+use Rattle.em_map.proofs.Compared.{less}
+use Rattle.em_map.specs.Contents.{UpTo, WaitsUpTo, key_record}
+
+-- a record of a key with a lesser number is below another of this key
+below_next : (x op : Record) → x.a ≡ op.a → x.b < op.b → is_below x op ≡ true
+below_next x op e h = rw (e, tied_itself nat_cmp_total op.a, less x.b op.b h) refl
+
+-- records with numbers up to n are below an operation of a greater number
+all_below : (n : ℕ) (op : Record) → n < op.b → (xs : List Record) → UpTo op.a n xs → AllUnder xs op
+all_below n op h [] u = tt
+all_below n op h (x ∷ xs) u =
+    (below_next x op u.0.0 (omega (arith, u.0.1, h)), all_below n op h xs u.1)
+
+-- numbers up to n are up to any greater one
+wider : (k m n : ℕ) → m ≤ n → (xs : List Record) → UpTo k m xs → UpTo k n xs
+wider k m n h [] u = tt
+wider k m n h (x ∷ xs) u = ((u.0.0, omega (arith, u.0.1, h)), wider k m n h xs u.1)
+
+-- two lists together
+together : (k n : ℕ) (xs ys : List Record) → UpTo k n xs → UpTo k n ys → UpTo k n (xs ++ ys)
+together k n [] ys u v = v
+together k n (x ∷ xs) ys u v = (u.0, together k n xs ys u.1 v)
+
+-- and each of them
+front_of : (k n : ℕ) (xs ys : List Record) → UpTo k n (xs ++ ys) → UpTo k n xs
+front_of k n [] ys u = tt
+front_of k n (x ∷ xs) ys u = (u.0, front_of k n xs ys u.1)
+
+back_of : (k n : ℕ) (xs ys : List Record) → UpTo k n (xs ++ ys) → UpTo k n ys
+back_of k n [] ys u = u
+back_of k n (x ∷ xs) ys u = back_of k n xs ys u.1
+
+-- the operations of a key have its first word
+of_word : (k n : ℕ) (op : Record) → op.b ≤ n → UpTo k n (of_key map_key_of (key_record k) (op ∷ []))
+of_word k n op h = ⊎_elim
+    (λ (t : has_key map_key_of (key_record k) op ≡ true).
+    subst (UpTo k n) (sym (first_of_key map_key_of (key_record k) op [] t))
+    ((ap (λ (r : Record). r.a) (key_is map_key_of (key_record k) op t), h), tt))
+    (λ (f : has_key map_key_of (key_record k) op ≡ false).
+    subst (UpTo k n) (sym (none_of_key map_key_of (key_record k) op [] f)) tt)
+    (cases_Bool (has_key map_key_of (key_record k) op))
+
+-- what an operation leaves has the number 0, or is what was stored
+left_by : (k n : ℕ) (old : Option Record) (op : Record) → UpTo k n (option_to_list old) → op.a ≡ k
+    → UpTo k n (option_to_list (map_step_of old op).stored)
+left_by k n old op u e =
+    choose (λ s. UpTo k n (option_to_list s.stored)) (op.c == 0) (op.c == 1) _ _ _
+    ((e, omega arith), tt) tt u
+
+-- and so what several leave
+left_after : (k n : ℕ) (old : Option Record) (ops : List Record) → UpTo k n (option_to_list old)
+    → UpTo k n ops → UpTo k n (option_to_list (stored_after map_step_of old ops))
+left_after k n old [] u v = u
+left_after k n old (op ∷ ops) u v =
+    left_after k n (map_step_of old op).stored ops (left_by k n old op u v.0.0) v.1
+
+-- An operation with the next number was pushed.
+module _ (n : ℕ) (op : Record) (next : op.b ≡ n + 1) (t u : Tree)
+    (a : (q : Record) → Advances map_key_of map_step_of t u (op ∷ []) q) (w : WaitsUpTo n t) where
+  -- what waited and came
+  came : (k : ℕ) → UpTo k (n + 1) ((a (key_record k)).first ++ waiting_at map_key_of u (key_record k))
+  came k = subst (UpTo k (n + 1)) (a (key_record k)).parts
+      (together k (n + 1) (waiting_at map_key_of t (key_record k)) (of_key map_key_of (key_record k) (op ∷ []))
+      (wider k n (n + 1) (omega arith) (waiting_at map_key_of t (key_record k)) (w.waiting k))
+      (of_word k (n + 1) op (omega (arith, next))))
+
+  pub waits_next : WaitsUpTo (n + 1) u
+  waits_next = record {
+    waiting = λ k. back_of k (n + 1) (a (key_record k)).first (waiting_at map_key_of u (key_record k)) (came k);
+    stored = λ k. subst (λ r. UpTo k (n + 1) (option_to_list r)) (sym (a (key_record k)).left)
+        (left_after k (n + 1) (stored_at map_key_of t (key_record k)) (a (key_record k)).first
+        (wider k n (n + 1) (omega arith) (option_to_list (stored_at map_key_of t (key_record k))) (w.stored k))
+        (front_of k (n + 1) (a (key_record k)).first (waiting_at map_key_of u (key_record k)) (came k)));
+  }
+
+-- What waits for the next operation's key, and what is stored under it, is below the operation.
+pub waits_below : (n : ℕ) (op : Record) → op.b ≡ n + 1 → (t : Tree) → WaitsUpTo n t
+    → AllUnder (waiting_at map_key_of t (map_key_of op)) op
+    × AllUnder (option_to_list (stored_at map_key_of t (map_key_of op))) op
+waits_below n op next t w = (
+  all_below n op (omega (arith, next)) (waiting_at map_key_of t (key_record op.a)) (w.waiting op.a),
+  all_below n op (omega (arith, next)) (option_to_list (stored_at map_key_of t (key_record op.a))) (w.stored op.a),
+)

@@ -1,0 +1,21 @@
+use Rattle.std.proofs.Common.{◌+◌, refl}
+use Rattle.em_record.specs.declared.record.Record.{Record}
+use Rattle.em_map.proofs.Batches.{counts_command, next_later, takes_command}
+use Rattle.em_map.proofs.batch.Batch.push.Goals as goal
+
+pub push-requires-clause-later : goal.push-requires-clause-later
+push-requires-clause-later g c = λ told. next_later c.args.self.now
+    (record { a = c.args.key; b = c.args.self.now.calls + 1; c = c.args.what; d = c.args.value })
+    c.requires.is refl told
+
+pub returns-clause-takes : goal.returns-clause-takes
+returns-clause-takes g c = λ given ops. takes_command c.args.self.now
+    (record { tree = c.push.new.self; calls = c.args.self.now.calls + 1 })
+    c.requires.is c.push.ensures.counts given
+    (record { a = c.args.key; b = c.args.self.now.calls + 1; c = c.args.what; d = c.args.value })
+    c.requires.few refl ops refl c.push.result c.push.ensures.pushes
+
+pub returns-clause-counts : goal.returns-clause-counts
+returns-clause-counts g c = counts_command c.args.self.now
+    (record { tree = c.push.new.self; calls = c.args.self.now.calls + 1 })
+    c.requires.is c.push.ensures.counts c.requires.sound refl

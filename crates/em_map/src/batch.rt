@@ -1,0 +1,165 @@
+//! A batch keeps its commands as operations in a tree, numbered from 1:
+//!
+//!     put K V   (K, n, 0, V)
+//!     del K     (K, n, 1, 0)
+//!     get K     (K, n, 2, 0)   answered by (n, 1, V, 0), or by (n, 0, 0, 0) if K has no value
+//!
+//! Kept here: numbers rise, so that each operation is above all that wait for its key. Left to the
+//! tree: where operations wait, and when they are settled.
+
+ghost use Rattle.std.specs.Prelude.{◌≡◌, ◌+◌, ◌<◌, ◌^◌, [], ◌∷◌, IfOk, IfErr, IsTrue};
+ghost use Rattle.em_model.specs.declared.command.Command as commands;
+ghost use Rattle.em_model.specs.declared.command.Command.TheVariants as command;
+ghost use Rattle.em_record.specs.declared.record.Record as records;
+ghost use Rattle.em_space.specs.Queue.{CanServe};
+ghost use Rattle.em_space.specs.Rig.{Sound};
+ghost use Rattle.em_space.specs.Seen.{seen};
+
+use em_chain::Chain;
+use em_frames::Device;
+use em_record::Record;
+use em_settle::MapSettle;
+use em_space::{EmFault, Rig};
+use em_tree::Tree;
+
+/// What an operation does, in its word c.
+const PUT: u64 = 0;
+
+const DEL: u64 = 1;
+
+const GET: u64 = 2;
+
+/// A map from numbers to numbers that answers all its gets at once, in `finish`. Each call is an
+/// operation in a buffer tree. Calls are numbered from 1.
+///
+/// It holds two frames and can't be dropped. After a fault only `abandon` may be called.
+pub struct Batch {
+    tree: Tree<MapSettle>,
+    /// Commands so far.
+    calls: u64,
+}
+
+impl Batch {
+    ghost use Rattle.em_map.specs.Batch.{BatchCosts, BatchHasFrames, CountsCommand, FinishesBatch, IsBatch, IsNewBatch, TakesTo};
+    ghost use Rattle.em_map.specs.Commands.{map_op};
+    ghost use Rattle.em_tree.specs.Calls.{LeavesTrunk, StopsNewTrunk};
+
+    /// A batch with no command. At most four blocks are moved.
+    pub fn new<D: Device>(rig: &mut Rig<'_, D>) -> Result<Batch, EmFault>
+        requires sound { Sound (seen D.state rig.old) }
+        requires free { CanServe (seen D.state rig.old).pool }
+        ensures makes { IfOk result (IsNewBatch (seen D.state rig.old) (seen D.state rig.new)) }
+        ensures stops { IfErr result (StopsNewTrunk (seen D.state rig.old) (seen D.state rig.new)) }
+    {
+        let tree = Tree::new(rig, MapSettle {})?;
+        Ok(Batch { tree, calls: 0 })
+    }
+
+    /// Gives the key this value. It is one push into the tree.
+    pub fn put<D: Device>(
+        &mut self,
+        rig: &mut Rig<'_, D>,
+        key: u64,
+        value: u64,
+    ) -> Result<(), EmFault>
+        requires sound { Sound (seen D.state rig.old) }
+        requires is { IsBatch (seen D.state rig.old) self.old }
+        requires free { CanServe (seen D.state rig.old).pool }
+        requires few { self.old.calls < 2 ^ 40 }
+        ensures takes { TakesTo (command.Put key value) (seen D.state rig.old)
+            (seen D.state rig.new) self.old self.new result }
+        ensures counts { CountsCommand (seen D.state rig.old) (seen D.state rig.new)
+            self.old self.new }
+    {
+        self.push(rig, key, PUT, value)
+    }
+
+    /// Takes the key's value away. It is one push into the tree.
+    pub fn del<D: Device>(&mut self, rig: &mut Rig<'_, D>, key: u64) -> Result<(), EmFault>
+        requires sound { Sound (seen D.state rig.old) }
+        requires is { IsBatch (seen D.state rig.old) self.old }
+        requires free { CanServe (seen D.state rig.old).pool }
+        requires few { self.old.calls < 2 ^ 40 }
+        ensures takes { TakesTo (command.Del key) (seen D.state rig.old)
+            (seen D.state rig.new) self.old self.new result }
+        ensures counts { CountsCommand (seen D.state rig.old) (seen D.state rig.new)
+            self.old self.new }
+    {
+        self.push(rig, key, DEL, 0)
+    }
+
+    /// Asks for the value of a key, which `finish` answers. It is one push into the tree.
+    pub fn get<D: Device>(&mut self, rig: &mut Rig<'_, D>, key: u64) -> Result<(), EmFault>
+        requires sound { Sound (seen D.state rig.old) }
+        requires is { IsBatch (seen D.state rig.old) self.old }
+        requires free { CanServe (seen D.state rig.old).pool }
+        requires few { self.old.calls < 2 ^ 40 }
+        ensures takes { TakesTo (command.Get key) (seen D.state rig.old)
+            (seen D.state rig.new) self.old self.new result }
+        ensures counts { CountsCommand (seen D.state rig.old) (seen D.state rig.new)
+            self.old self.new }
+    {
+        self.push(rig, key, GET, 0)
+    }
+
+    /// The tree in which the batch keeps its commands.
+    pub fn tree(&self) -> &Tree<MapSettle>
+        ensures { result.now ≡ self.now.tree }
+    {
+        &self.tree
+    }
+
+    /// The answers of the gets in any order, each once: `(number, 1, V, 0)` if the key had the value V
+    /// by the calls before, and `(number, 0, 0, 0)` if it had none.
+    pub fn finish<D: Device>(self, rig: &mut Rig<'_, D>) -> Result<Chain, EmFault>
+        requires sound { Sound (seen D.state rig.old) }
+        requires is { IsBatch (seen D.state rig.old) self }
+        requires free { CanServe (seen D.state rig.old).pool }
+        ensures finishes { FinishesBatch (seen D.state rig.old) (seen D.state rig.new) self result }
+        ensures costs { BatchCosts (seen D.state rig.old) (seen D.state rig.new) self }
+    {
+        let Batch { tree, calls: _ } = self;
+        tree.finish(rig)
+    }
+
+    /// Gives its frames back, also after a fault, and moves nothing. Its blocks stay in use.
+    pub fn abandon<D: Device>(self, rig: &mut Rig<'_, D>)
+        requires sound { Sound (seen D.state rig.old) }
+        requires frames { BatchHasFrames (seen D.state rig.old) self }
+        ensures leaves { LeavesTrunk (seen D.state rig.old) (seen D.state rig.new) }
+    {
+        let Batch { tree, calls: _ } = self;
+        tree.abandon(rig);
+    }
+
+    /// Pushes the operation of the next command.
+    fn push<D: Device>(
+        &mut self,
+        rig: &mut Rig<'_, D>,
+        key: u64,
+        what: u64,
+        value: u64,
+    ) -> Result<(), EmFault>
+        requires sound { Sound (seen D.state rig.old) }
+        requires is { IsBatch (seen D.state rig.old) self.old }
+        requires free { CanServe (seen D.state rig.old).pool }
+        requires few { self.old.calls < 2 ^ 40 }
+        requires what { what < 3 }
+        ensures takes { (given : commands.Command) → map_op (self.old.calls + 1) given
+            ≡ record { a = key; b = self.old.calls + 1; c = what; d = value } ∷ []
+            → TakesTo given (seen D.state rig.old) (seen D.state rig.new) self.old self.new result }
+        ensures counts { CountsCommand (seen D.state rig.old) (seen D.state rig.new)
+            self.old self.new }
+    {
+        self.calls += 1;
+        self.tree.push(
+            rig,
+            Record {
+                a: key,
+                b: self.calls,
+                c: what,
+                d: value,
+            },
+        )
+    }
+}

@@ -1,0 +1,263 @@
+-- What `finish` leaves: the answers of a tree as a chain, or its two frames alone.
+use Rattle.std.proofs.Common.{◌≡◌, ℕ, ◌+◌, ◌-◌, ◌*◌, ◌^◌, ◌<◌, ◌≤◌, min, length, inl, inr, refl, sym, ap, ◌∙◌, subst, arith, IsTrue, Result, Ok, Err}
+use Rattle.std.specs.Prelude.{Option}
+use Rattle.std.proofs.Math.Nat.{min-le_right, mul-le-mul_left}
+use Rattle.em_record.specs.Shape.{IsShape, ShapeNumbers}
+use Rattle.em_record.specs.declared.record.Record.{Record}
+use Rattle.em_frames.specs.Pool.{GivenFrames, PoolCounts, SameFrames}
+use Rattle.em_settle.specs.declared.step.Step.{Step}
+use Rattle.em_space.specs.Ledger.{Session}
+use Rattle.em_space.specs.Queue.{Pays}
+use Rattle.em_space.specs.Rig.{Cause, Goes, RigState, Sound}
+use Rattle.em_space.specs.declared.fault.EmFault.{EmFault}
+use Rattle.em_space.specs.declared.fault.EmFault.TheVariants.{Damaged, DeviceFault, Full}
+use Rattle.em_space.proofs.Paying.{pays_kept, pays_more, pays_then}
+use Rattle.em_space.proofs.Sessions.{session_trans}
+use Rattle.em_space.proofs.Steps.{cause_after, goes_trans, same_frames_then, touches_then, touches_trans}
+use Rattle.em_chain.specs.Writer.{writer_blocks}
+use Rattle.em_chain.specs.declared.chain.Chain.{Chain}
+use Rattle.em_tree_blocks.specs.Reading.{tree_blocks}
+use Rattle.em_tree_cost.specs.Books.{KeepsBooks, TreeCounts, count_moves}
+use Rattle.em_tree_cost.specs.Counters.{Sums}
+use Rattle.em_tree_cost.specs.Effects.{SameRoot}
+use Rattle.em_tree_cost.specs.Paid.{settle_toll, toll_of}
+use Rattle.em_tree_cost.specs.Shares.{floors_of, tree_share}
+use Rattle.em_tree_cost.proofs.InCall.{call_begins, call_debt, call_refused, call_settle}
+use Rattle.em_tree.specs.Calls.{FinishCosts, FinishesTrunk, LeavesTrunk, StopsFinishing}
+use Rattle.em_tree.specs.Counting.{counted_settling}
+use Rattle.em_tree.specs.Debts.{owing_all}
+use Rattle.em_tree.specs.Events.{Charges}
+use Rattle.em_tree.specs.Finishing.{FinishedBlocks, FinishesBlocks, GivesAnswers, StopsAfterSettling, StopsAnswers}
+use Rattle.em_tree.specs.Settling.{SettledAll, StopsSettling}
+use Rattle.em_tree.specs.Trunk.{IsTrunk, counts_of, trunk_blocks, trunk_unstored}
+use Rattle.em_tree.specs.declared.trunk.Trunk.{Trunk}
+use Rattle.em_tree.proofs.Charges.{books_less}
+use Rattle.em_tree.proofs.Ends.{stopped_settling, sums_stay}
+use Rattle.em_tree.proofs.Settled.{trunk_finished}
+use Rattle.em_tree.proofs.SettlingBegins.{running_counted}
+use Rattle.em_tree.proofs.SettlingTolls.{released_toll, stopped_toll}
+
+-- frames that stayed, and two that came back
+given_after : (a b c : PoolCounts) → SameFrames a b → GivenFrames 2 b c → GivenFrames 2 a c
+given_after a b c f g = record {
+  shape = g.shape ∙ f.shape;
+  free = omega (arith, f.free, g.free);
+  rack = g.rack ∙ f.rack;
+  free_areas = g.free_areas ∙ f.free_areas;
+  peak = omega (arith, f.peak, g.peak);
+}
+
+-- a cause stands where only the pool changed
+cause_pool : (s t : RigState) (p : PoolCounts) (fault : EmFault) → Cause s t fault
+    → Cause s (record t { pool = p }) fault
+cause_pool s t p DeviceFault c = c
+cause_pool s t p (Full used) c = c
+cause_pool s t p (Damaged block) c = c
+
+-- A call that gave up, after which the frames came back.
+stops_left : {s t u : RigState} {v : Trunk} (n : ℕ) (fault : EmFault) → Goes (trunk_blocks s v) s t
+    → Pays (trunk_unstored v) n s t → Cause s t fault → LeavesTrunk t u → n ≤ s.pool.shape.frames
+    → StopsFinishing s u v fault
+stops_left {s = s} {t = t} {u = u} {v = v} n fault g p c l most =
+    let C : RigState → Type 0 = λ z. Cause s z fault in
+    let used : u.used ≡ t.used = ap (λ (z : RigState). z.used) l.same in
+    record {
+      sound = l.sound;
+      touches = touches_then (trunk_blocks s v) s t u g.touches l.touches;
+      frames = given_after s.pool t.pool u.pool g.frames l.frames;
+      pays = pays_more (pays_then p (pays_kept n (omega (arith, used)) l.touches.moves) l.touches.moves)
+          (omega (arith, most));
+      cause = subst C (sym l.same) (cause_pool s t u.pool fault c);
+    }
+
+-- Moves after a settling are paid for: but for 64 of them, by what the settling is charged.
+released_share : {shape : ShapeNumbers} {t u : Sums} (c : TreeCounts) (m r d : ℕ) → IsShape shape
+    → KeepsBooks shape c 0 t → Charges shape c.k 0 m 0 (shape.block * d) t u
+    → d + (r - 64) ≤ settle_toll shape c.k → c.spent + m + r ≤ tree_share shape c.n c.k c.z (c.y + 1)
+released_share {shape = shape} {t = t} {u = u} c m r d is b h most =
+    let more = r - 64 in
+    let rest = min r 64 in
+    let B = shape.block in
+    let few : rest ≤ 64 = min-le_right r 64 in
+    let same : SameRoot u u = record { root = refl; blocks = refl } in
+    let start = books_less c (count_moves 0 c) 0 0 refl refl refl refl refl (omega arith) (omega arith) b in
+    let all = h.books c 0 refl start in
+    let sum : B * more + B * d ≤ B * (d + more) = omega arith in
+    let e = call_settle more u is (call_begins all) (d + more) same (sums_stay u) (omega (arith, sum)) most in
+    let f = call_debt rest u is (call_begins e) (B * rest) (sums_stay u) same (omega arith) in
+    let k : B * rest ≤ B * (64 * floors_of shape c.k) = mul-le-mul_left B (omega (arith, few)) in
+    let toll : B * rest ≤ toll_of shape c.k = omega (arith, k) in
+    let within = call_refused f is (inl (omega (arith, toll))) in
+    let split : more + rest ≡ r = omega arith in
+    omega (arith, within, split)
+
+module _ (key : Record → Record) (step : Option Record → Record → Step)
+    (IsOp IsKept : Record → Type 0) (s t u : RigState) (v w : Trunk) (sound : Sound s)
+    (few : v.settled < 2 ^ 100) (is : IsTrunk key IsOp IsKept s v) where
+  -- The buffers weren't emptied.
+  unsettled_left : (fault : EmFault) → StopsSettling (owing_all s (counted_settling s.pool.shape v)) s t
+      (counted_settling s.pool.shape v) w fault
+      → LeavesTrunk t u → StopsFinishing s u v fault
+  unsettled_left fault x l =
+      let wide = sound.shape.frames_low in
+      stops_left _ fault x.stops.goes x.stops.pays x.stops.cause l (omega (arith, wide))
+
+  -- They were, but the blocks weren't released.
+  unreleased_left : (fault : EmFault)
+      → StopsAfterSettling key step IsOp IsKept s t (counted_settling s.pool.shape v) w fault
+      → LeavesTrunk t u → StopsFinishing s u v fault
+  unreleased_left fault x l =
+      let wide = sound.shape.frames_low in
+      let a = x.settled.works in
+      let b = x.stops in
+      let one = min-le_right w.buffer.blocks 1 in
+      let two = min-le_right w.answers.blocks 1 in
+      let goes = goes_trans (trunk_blocks s v) (trunk_blocks x.mid w) s x.mid t
+      (record { sound = a.session.sound; touches = a.session.touches; frames = a.frames }) b.goes
+      (λ z k i o. a.session.within.off z k i o) in
+      stops_left (trunk_unstored w) fault goes (pays_then a.pays b.pays b.goes.touches.moves)
+      (cause_after (trunk_blocks s v) s x.mid t fault a.session.touches b.cause) l
+      (omega (arith, wide, one, two))
+
+  -- What `finish` did, of a tree whose blocks weren't released,
+  finish_left : (fault : EmFault)
+      → FinishesBlocks {T = Unit {0}} key step IsOp IsKept s t (counted_settling s.pool.shape v) w (Err fault)
+      → LeavesTrunk t u → StopsFinishing s u v fault
+  finish_left fault (inl x) l = unsettled_left fault x l
+  finish_left fault (inr x) l = unreleased_left fault x l
+
+  -- the answers weren't stored
+  answers_left : (fault : EmFault)
+      → FinishedBlocks key step IsOp IsKept s t (counted_settling s.pool.shape v) w
+      → StopsAnswers t u w fault → StopsFinishing s u v fault
+  answers_left fault x h =
+      let a = x.settled.works in
+      let b = x.released in
+      let low = sound.shape.frames_low in
+      let first : Session (trunk_blocks s v) s t (writer_blocks t w.answers) =
+      session_trans a.session b.session in
+      record {
+        sound = h.sound;
+        touches = touches_trans (trunk_blocks s v) (writer_blocks t w.answers) s t u first.touches
+            h.touches (λ z k i o. first.within.off z k i o);
+        frames = given_after s.pool t.pool u.pool
+            (same_frames_then s.pool x.mid.pool t.pool a.frames b.same_frames) h.frames;
+        pays = pays_more (pays_then a.pays
+            (pays_then b.pays h.pays h.touches.moves) (omega (arith, b.session.touches.moves, h.touches.moves)))
+            (omega (arith, low));
+        cause = cause_after (trunk_blocks s v) s t u fault first.touches h.cause;
+      }
+
+  -- and of one whose blocks were.
+  finish_given : (r : Result Chain EmFault)
+      → FinishedBlocks key step IsOp IsKept s t (counted_settling s.pool.shape v) w
+      → GivesAnswers t u w r → FinishesTrunk key step s u v r
+  finish_given (Ok c) x h =
+      let all = trunk_finished (running_counted few is.running) x.settled.works
+      x.settled.none_waits x.settled.drained x.released h in
+      record {
+        chain = all.chain;
+        packed = all.packed;
+        session = all.session;
+        frames = all.frames;
+        pays = all.pays;
+        answers = all.answers;
+      }
+  finish_given (Err fault) x h = answers_left fault x h
+
+  -- The moves after a settling that went well are paid for.
+  settled_costs : (m : RigState) → SettledAll key step IsOp IsKept (owing_all s (counted_settling s.pool.shape v)) s m
+      (counted_settling s.pool.shape v) w
+      → m.moves ≤ u.moves
+      → (IsTrue m.device.told → u.moves ≤ m.moves + 2 * length (tree_blocks w.level m w.root) + 1)
+      → FinishCosts s u v
+  settled_costs m x later most =
+      let first = x.works.session.touches in
+      record {
+        later = omega (arith, first.moves, later);
+        share = λ told.
+            let over : IsTrue m.device.told = first.told ∙ told in
+            let r = most over in
+            let up = first.moves in
+            let fits = released_toll key step IsOp IsKept s m v w sound is x told (u.moves - m.moves) (omega (arith, r)) in
+            let all = released_share (counts_of v) (m.moves - s.moves) (u.moves - m.moves) x.debt
+            sound.shape (is.books told) (x.works.charges told) fits in
+            record { within = omega (arith, all, up, later) };
+      }
+
+  -- The moves, at each exit: the buffers weren't emptied,
+  unsettled_costs : (fault : EmFault) → StopsSettling (owing_all s (counted_settling s.pool.shape v)) s t
+      (counted_settling s.pool.shape v) w fault
+      → u.moves ≡ t.moves → FinishCosts s u v
+  unsettled_costs fault x same =
+      let up = x.stops.goes.touches.moves in
+      record {
+        later = omega (arith, up, same);
+        share = λ told.
+            let all = stopped_settling (counts_of v) (t.moves - s.moves) x.debt sound.shape (is.books told)
+            (x.stops.charges told) (stopped_toll key step IsOp IsKept s t v w sound is x told) in
+            record { within = omega (arith, all, up, same) };
+      }
+
+  -- the blocks weren't released,
+  left_costs : (fault : EmFault)
+      → FinishesBlocks {T = Unit {0}} key step IsOp IsKept s t (counted_settling s.pool.shape v) w (Err fault)
+      → LeavesTrunk t u → FinishCosts s u v
+  left_costs fault (inl x) l = unsettled_costs fault x (ap (λ (z : RigState). z.moves) l.same)
+  left_costs fault (inr x) l =
+      let same : u.moves ≡ t.moves = ap (λ (z : RigState). z.moves) l.same in
+      let up = x.stops.goes.touches.moves in
+      settled_costs x.mid x.settled (omega (arith, up, same))
+      (λ z. (let most = x.stops.moves z in omega (arith, most, same)))
+
+  -- or they were.
+  given_costs : (r : Result Chain EmFault)
+      → FinishedBlocks key step IsOp IsKept s t (counted_settling s.pool.shape v) w
+      → GivesAnswers t u w r → FinishCosts s u v
+  given_costs (Ok c) x h =
+      let up = x.released.session.touches.moves in
+      let on = h.session.touches.moves in
+      let one = h.moves in
+      settled_costs x.mid x.settled (omega (arith, up, on))
+      (λ z. (let most = x.released.moves z in omega (arith, most, one)))
+  given_costs (Err fault) x h =
+      let up = x.released.session.touches.moves in
+      let on = h.touches.moves in
+      let one = h.moves in
+      settled_costs x.mid x.settled (omega (arith, up, on))
+      (λ z. (let most = x.released.moves z in omega (arith, most, one)))
+
+-- The whole call, by its parts.
+module _ (key : Record → Record) (step : Option Record → Record → Step)
+    (IsOp IsKept : Record → Type 0) (s t u : RigState) (v x w : Trunk) (shape : ShapeNumbers)
+    (same : shape ≡ s.pool.shape) (begun : x ≡ counted_settling shape v) (sound : Sound s)
+    (few : v.settled < 2 ^ 100) (is : IsTrunk key IsOp IsKept s v) where
+  begun_as : x ≡ counted_settling s.pool.shape v
+  begun_as = begun ∙ ap (λ g. counted_settling g v) same
+
+  module _ (fault : EmFault)
+      (h : FinishesBlocks {T = Unit {0}} key step IsOp IsKept s t x w (Err fault)) (l : LeavesTrunk t u) where
+    stopped : FinishesBlocks {T = Unit {0}} key step IsOp IsKept s t (counted_settling s.pool.shape v) w
+        (Err fault)
+    stopped =
+        let P : Trunk → Type 0 = λ z. FinishesBlocks {T = Unit {0}} key step IsOp IsKept s t z w (Err fault) in
+        subst P begun_as h
+
+    pub call_left : StopsFinishing s u v fault
+    call_left = finish_left key step IsOp IsKept s t u v w sound few is fault stopped l
+
+    pub call_left_costs : FinishCosts s u v
+    call_left_costs = left_costs key step IsOp IsKept s t u v w sound few is fault stopped l
+
+  module _ (r : Result Chain EmFault) (h : FinishedBlocks key step IsOp IsKept s t x w)
+      (g : GivesAnswers t u w r) where
+    finished : FinishedBlocks key step IsOp IsKept s t (counted_settling s.pool.shape v) w
+    finished =
+        let P : Trunk → Type 0 = λ z. FinishedBlocks key step IsOp IsKept s t z w in
+        subst P begun_as h
+
+    pub call_given : FinishesTrunk key step s u v r
+    call_given = finish_given key step IsOp IsKept s t u v w sound few is r finished g
+
+    pub call_given_costs : FinishCosts s u v
+    call_given_costs = given_costs key step IsOp IsKept s t u v w sound few is r finished g

@@ -1,0 +1,96 @@
+-- Steps of a call on a tree compose.
+use Rattle.std.proofs.Common.{◌≡◌, ℕ, ◌+◌, ◌-◌, ◌≤◌, subst, ◌∙◌, arith}
+use Rattle.std.specs.Prelude.{Option}
+use Rattle.em_record.specs.Shape.{ShapeNumbers}
+use Rattle.em_record.specs.declared.record.Record.{Record}
+use Rattle.em_space.specs.Rig.{RigState}
+use Rattle.em_space.specs.declared.fault.EmFault.{EmFault}
+use Rattle.em_space.proofs.Paying.{pays_then}
+use Rattle.em_space.proofs.Sessions.{session_trans}
+use Rattle.em_space.proofs.Steps.{cause_after, goes_trans, same_frames_then}
+use Rattle.em_settle.specs.declared.step.Step.{Step}
+use Rattle.em_tree.specs.Events.{Charges, ChargesUpTo}
+use Rattle.em_tree.specs.Trunk.{given_by, model_of, sums_in, trunk_blocks}
+use Rattle.em_tree.specs.Works.{SameNumbers, StopsWorking, Works}
+use Rattle.em_tree.specs.declared.trunk.Trunk.{Trunk}
+use Rattle.em_tree.proofs.Charges.{charges_then, charges_up_to}
+use Rattle.em_tree.proofs.Continues.{continues_then}
+
+-- numbers that stay twice
+pub numbers_then : {u v w : Trunk} → SameNumbers u v → SameNumbers v w → SameNumbers u w
+numbers_then a b = record {
+  pushed = b.pushed ∙ a.pushed;
+  longest = b.longest ∙ a.longest;
+  since = b.since ∙ a.since;
+  settled = b.settled ∙ a.settled;
+  spent = b.spent ∙ a.spent;
+}
+
+-- the moves of two steps
+moves_then : (a b c : ℕ) → a ≤ b → b ≤ c → (b - a) + (c - b) ≡ c - a
+moves_then a b c h k = omega (arith, h, k)
+
+module _ {key : Record → Record} {step : Option Record → Record → Step}
+    {IsOp IsKept : Record → Type 0} {p q d n : ℕ} {s t : RigState} {v w : Trunk}
+    (a : Works key step IsOp IsKept p q d n s t v w) where
+  -- one step after another
+  pub works_then : {r e k : ℕ} {u : RigState} {x : Trunk}
+      → Works key step IsOp IsKept q r e k t u w x
+      → Works key step IsOp IsKept p r (d + e) (n + k) s u v x
+  works_then {r = r} {e = e} {k = k} {u = u} {x = x} b =
+      let first = a.session.touches in
+      let later = b.session.touches.moves in
+      record {
+        session = session_trans a.session b.session;
+        frames = same_frames_then s.pool t.pool u.pool a.frames b.frames;
+        pays = pays_then a.pays b.pays later;
+        numbers = numbers_then a.numbers b.numbers;
+        steps = omega (arith, a.steps, b.steps);
+        running = b.running;
+        continues = λ told. continues_then key step IsOp IsKept (given_by s v) (given_by t w)
+            (given_by u x) (model_of s v) (model_of t w) (model_of u x) (a.continues told)
+            (b.continues (first.told ∙ told));
+        charges = λ told.
+            let S : ShapeNumbers → Type 0 =
+            λ shape. Charges shape w.longest q (u.moves - t.moves) r e (sums_in t w) (sums_in u x) in
+            let K : ℕ → Type 0 =
+            λ k. Charges s.pool.shape k q (u.moves - t.moves) r e (sums_in t w) (sums_in u x) in
+            let M : ℕ → Type 0 =
+            λ m. Charges s.pool.shape v.longest p m r (d + e) (sums_in s v) (sums_in u x) in
+            subst M (moves_then s.moves t.moves u.moves first.moves later)
+            (charges_then p (t.moves - s.moves) q d (u.moves - t.moves) r e (a.charges told)
+            (subst K a.numbers.longest (subst S first.shape (b.charges (first.told ∙ told)))));
+        paces = λ told.
+            let S : ShapeNumbers → Type 0 =
+            λ shape. Charges shape w.longest q k r e (sums_in t w) (sums_in u x) in
+            let K : ℕ → Type 0 =
+            λ j. Charges s.pool.shape j q k r e (sums_in t w) (sums_in u x) in
+            charges_then p n q d k r e (a.paces told)
+            (subst K a.numbers.longest (subst S first.shape (b.paces (first.told ∙ told))));
+      }
+
+  -- Steps that went well, and one that gave up.
+  pub stops_after : {e k : ℕ} {u : RigState} {x : Trunk} {fault : EmFault}
+      → StopsWorking q e k t u w x fault → StopsWorking p (d + e) k s u v x fault
+  stops_after {e = e} {k = k} {u = u} {x = x} {fault = fault} b =
+      let first = a.session.touches in
+      let later = b.goes.touches.moves in
+      record {
+        goes = goes_trans (trunk_blocks s v) (trunk_blocks t w) s t u
+            (record { sound = a.session.sound; touches = first; frames = a.frames }) b.goes
+            (λ z j i o. a.session.within.off z j i o);
+        frames = b.frames;
+        numbers = numbers_then a.numbers b.numbers;
+        pays = pays_then a.pays b.pays later;
+        cause = cause_after (trunk_blocks s v) s t u fault first b.cause;
+        charges = λ told.
+            let S : ShapeNumbers → Type 0 =
+            λ shape. ChargesUpTo shape w.longest q (u.moves - t.moves) e (sums_in t w) in
+            let K : ℕ → Type 0 =
+            λ k. ChargesUpTo s.pool.shape k q (u.moves - t.moves) e (sums_in t w) in
+            let M : ℕ → Type 0 =
+            λ m. ChargesUpTo s.pool.shape v.longest p m (d + e) (sums_in s v) in
+            subst M (moves_then s.moves t.moves u.moves first.moves later)
+            (charges_up_to p (t.moves - s.moves) q d (u.moves - t.moves) e (a.charges told)
+            (subst K a.numbers.longest (subst S first.shape (b.charges (first.told ∙ told)))));
+      }

@@ -1,0 +1,55 @@
+use Rattle.std.proofs.Common.{refl}
+use Rattle.em_space.specs.Seen.{seen}
+use Rattle.em_tree.proofs.SettleCall.{call_counts, call_later, call_settles, call_spent}
+use Rattle.em_tree.proofs.SettlingBegins.{begins_settles, begins_works}
+use Rattle.em_tree.proofs.tree.Tree.settle_all.Goals as goal
+
+pub settle_tree-settled-requires-clause-can : goal.settle_tree-settled-requires-clause-can
+settle_tree-settled-requires-clause-can g c =
+    begins_works c.shape.result c.shape.ensures c.count_settling.ensures c.requires.sound c.requires.free
+    c.requires.few c.requires.is
+
+pub settle_tree-settled-requires-clause-settle : goal.settle_tree-settled-requires-clause-settle
+settle_tree-settled-requires-clause-settle g c =
+    begins_settles c.shape.result c.shape.ensures c.count_settling.ensures c.requires.sound c.requires.is
+
+pub count_moves-requires-clause-later : goal.count_moves-requires-clause-later
+count_moves-requires-clause-later g c =
+    let settle = c.args.self.now.settle in
+    call_later (g.S.Settle.key_of settle) (g.S.Settle.step_of settle) (g.S.Settle.IsOp settle)
+    (g.S.Settle.IsKept settle) (seen g.D.Device.state c.args.rig.now)
+    (seen g.D.Device.state c.settle_tree-settled.new.rig) c.args.self.now.trunk c.count_settling.new.self
+    c.settle_tree-settled.new.trunk c.settle_tree-settled.new.trunk c.moves-before.result 0 c.shape.result
+    c.shape.ensures c.count_settling.ensures c.moves-before.ensures c.requires.sound c.requires.is
+    c.settle_tree-settled.result c.settle_tree-settled.ensures.settles
+
+pub count_moves-requires-clause-spent : goal.count_moves-requires-clause-spent
+count_moves-requires-clause-spent g c =
+    let settle = c.args.self.now.settle in
+    call_spent (g.S.Settle.key_of settle) (g.S.Settle.step_of settle) (g.S.Settle.IsOp settle)
+    (g.S.Settle.IsKept settle) (seen g.D.Device.state c.args.rig.now)
+    (seen g.D.Device.state c.settle_tree-settled.new.rig) c.args.self.now.trunk c.count_settling.new.self
+    c.settle_tree-settled.new.trunk c.settle_tree-settled.new.trunk c.moves-before.result 0 c.shape.result
+    c.shape.ensures c.count_settling.ensures c.moves-before.ensures c.requires.sound c.requires.is
+    c.settle_tree-settled.result c.settle_tree-settled.ensures.settles
+
+pub returns-clause-settles : goal.returns-clause-settles
+returns-clause-settles g c =
+    let settle = c.args.self.now.settle in
+    call_settles (g.S.Settle.key_of settle) (g.S.Settle.step_of settle) (g.S.Settle.IsOp settle)
+    (g.S.Settle.IsKept settle) (seen g.D.Device.state c.args.rig.now)
+    (seen g.D.Device.state c.settle_tree-settled.new.rig) c.args.self.now.trunk c.count_settling.new.self
+    c.settle_tree-settled.new.trunk c.count_moves.new.self c.moves-before.result _ c.shape.result
+    c.shape.ensures c.count_settling.ensures c.moves-before.ensures c.requires.sound c.requires.is
+    c.settle_tree-settled.result c.settle_tree-settled.ensures.settles c.count_moves.ensures refl
+    c.requires.few
+
+pub returns-clause-counts : goal.returns-clause-counts
+returns-clause-counts g c =
+    let settle = c.args.self.now.settle in
+    call_counts (g.S.Settle.key_of settle) (g.S.Settle.step_of settle) (g.S.Settle.IsOp settle)
+    (g.S.Settle.IsKept settle) (seen g.D.Device.state c.args.rig.now)
+    (seen g.D.Device.state c.settle_tree-settled.new.rig) c.args.self.now.trunk c.count_settling.new.self
+    c.settle_tree-settled.new.trunk c.count_moves.new.self c.moves-before.result _ c.shape.result
+    c.shape.ensures c.count_settling.ensures c.moves-before.ensures c.requires.sound c.requires.is
+    c.settle_tree-settled.result c.settle_tree-settled.ensures.settles c.count_moves.ensures refl

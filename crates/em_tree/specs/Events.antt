@@ -1,0 +1,40 @@
+-- What the events of a call keep of a tree: its meaning, and the books of its moves.
+use Rattle.std.specs.Prelude.{◌≡◌, ℕ, ◌+◌, ◌*◌, ◌/◌, List, [], Option}
+use Rattle.em_record.specs.Shape.{ShapeNumbers}
+use Rattle.em_record.specs.declared.record.Record.{Record}
+use Rattle.em_settle.specs.States.{Stored}
+use Rattle.em_settle.specs.declared.step.Step.{Step}
+use Rattle.em_tree_model.specs.Meaning.{Advances, Represents}
+use Rattle.em_tree_model.specs.Tree.{Tree}
+use Rattle.em_tree_cost.specs.Books.{KeepsBooks, TreeCounts, count_moves}
+use Rattle.em_tree_cost.specs.Counters.{Sums}
+
+-- A tree became another one that means the same: its contents and all its answers stay, whether
+-- they were given or are owed, and of each key the operations that don't wait any more were folded
+-- over the stored record, in turn.
+pub record Continues (key : Record → Record) (step : Option Record → Record → Step)
+    (IsOp IsKept : Record → Type 0) (given : List Record) (t : Tree) (told : List Record) (u : Tree)
+    : Type 0 where
+  pub represents : (contents : Stored) (answers : List Record)
+      → Represents key step IsOp IsKept contents answers given t
+      → Represents key step IsOp IsKept contents answers told u
+  pub advances : (contents : Stored) (answers : List Record)
+      → Represents key step IsOp IsKept contents answers given t
+      → (q : Record) → Advances key step t u [] q
+
+-- The books of a tree over m moves, of which p were paid for in advance; q are paid for afterwards,
+-- and d more is owed. Its k is the most operations since a reset: the number stays inside a call.
+pub record Charges (shape : ShapeNumbers) (k p m q d : ℕ) (t u : Sums) : Type 0 where
+  pub books : (c : TreeCounts) (more : ℕ) → c.k ≡ k → KeepsBooks shape (count_moves p c) more t
+      → KeepsBooks shape (count_moves (m + q) c) (more + d) u
+
+-- The moves of a tree that is given up are paid for but for d: there are sums that it would have
+-- had.
+pub record ChargesUpTo (shape : ShapeNumbers) (k p m d : ℕ) (t : Sums) : Type 0 where
+  pub sums : Sums
+  pub charges : Charges shape k p m 0 d t sums
+
+-- the steps that a call may take after n operations, k of them since the contents were empty: no
+-- fewer than the moves that it can be charged for
+abbrev pub step_allowance : ShapeNumbers → ℕ → ℕ → ℕ
+step_allowance shape n k = 26 * (160 * (n / shape.block + 2) + 64 * (k / shape.block + 2))

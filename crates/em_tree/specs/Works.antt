@@ -1,0 +1,48 @@
+-- A step of a call on a tree, and several one after another: they compose.
+use Rattle.std.specs.Prelude.{◌≡◌, ℕ, ◌+◌, ◌-◌, Option, IsTrue}
+use Rattle.em_record.specs.declared.record.Record.{Record}
+use Rattle.em_frames.specs.Pool.{SameFrames}
+use Rattle.em_space.specs.Ledger.{Session}
+use Rattle.em_space.specs.Queue.{Pays}
+use Rattle.em_space.specs.Rig.{Cause, Goes, RigState}
+use Rattle.em_space.specs.declared.fault.EmFault.{EmFault}
+use Rattle.em_settle.specs.declared.step.Step.{Step}
+use Rattle.em_tree.specs.Events.{Charges, ChargesUpTo, Continues}
+use Rattle.em_tree.specs.Trunk.{IsRunning, TrunkHasFrames, given_by, model_of, sums_in, trunk_blocks, trunk_unstored}
+use Rattle.em_tree.specs.declared.trunk.Trunk.{Trunk}
+
+-- The numbers that only the ends of a call change.
+pub record SameNumbers (v w : Trunk) : Type 0 where
+  pub pushed : w.pushed ≡ v.pushed
+  pub longest : w.longest ≡ v.longest
+  pub since : w.since ≡ v.since
+  pub settled : w.settled ≡ v.settled
+  pub spent : w.spent ≡ v.spent
+
+-- What a step did that went well. Before it p moves were paid for in advance, after it q are; it
+-- owes d, and took n of the call's steps. As many moves as that would be paid for too: a step makes
+-- one, also if the count of moves stands at its end.
+pub record Works (key : Record → Record) (step : Option Record → Record → Step)
+    (IsOp IsKept : Record → Type 0) (p q d n : ℕ) (s t : RigState) (v w : Trunk) : Type 0 where
+  pub session : Session (trunk_blocks s v) s t (trunk_blocks t w)
+  pub frames : SameFrames s.pool t.pool
+  pub pays : Pays (trunk_unstored v) (trunk_unstored w) s t
+  pub numbers : SameNumbers v w
+  pub steps : w.steps + n ≡ v.steps
+  pub running : IsRunning key IsOp IsKept t w
+  pub continues : IsTrue s.device.told → Continues key step IsOp IsKept (given_by s v) (model_of s v)
+      (given_by t w) (model_of t w)
+  pub charges : IsTrue s.device.told
+      → Charges s.pool.shape v.longest p (t.moves - s.moves) q d (sums_in s v) (sums_in t w)
+  pub paces : IsTrue s.device.told → Charges s.pool.shape v.longest p n q d (sums_in s v) (sums_in t w)
+
+-- A step gave up. At most n of the tree's blocks in use weren't stored since they came into use.
+pub record StopsWorking (p d n : ℕ) (s t : RigState) (v w : Trunk) (fault : EmFault)
+    : Type 0 where
+  pub goes : Goes (trunk_blocks s v) s t
+  pub frames : TrunkHasFrames t w
+  pub numbers : SameNumbers v w
+  pub pays : Pays (trunk_unstored v) n s t
+  pub cause : Cause s t fault
+  pub charges : IsTrue s.device.told
+      → ChargesUpTo s.pool.shape v.longest p (t.moves - s.moves) d (sums_in s v)

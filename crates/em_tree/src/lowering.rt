@@ -1,0 +1,57 @@
+//! The root's buffer, emptied into those of its entries, and the buffer of an entry over a node, into
+//! those of its child.
+
+ghost use Rattle.std.specs.Prelude.{◌≡◌, ◌-◌, ◌<◌, ◌≤◌};
+ghost use Rattle.em_space.specs.Seen.{seen};
+ghost use Rattle.em_tree.specs.Draining.{CanDrain, DrainsTo};
+ghost use Rattle.em_tree.specs.Emptying.{CanEmptyEntry, CanWork, LowersTo};
+
+use crate::trunk::Trunk;
+use em_empty::empty_node;
+use em_frames::Device;
+use em_settle::Settle;
+use em_space::{EmFault, Rig};
+use em_tree_walk::take_out;
+
+/// Empties the buffer of an entry over a node into the buffers of its child. A full buffer pays for
+/// the moves; of another one a part of them is owed. After a fault the tree may only be abandoned.
+pub fn lower_entry<D: Device, S: Settle>(
+    rig: &mut Rig<'_, D>,
+    settle: &S,
+    trunk: &Trunk,
+    level: u64,
+    node: u64,
+    at: usize,
+) -> Result<(), EmFault>
+    requires can { CanWork (S.key_of settle.now) (S.IsOp settle.now) (S.IsKept settle.now)
+        (seen D.state rig.old) trunk.now }
+    requires above { 2 ≤ level }
+    requires spot { CanEmptyEntry (level - 1) node at (seen D.state rig.old) trunk.now }
+    ensures lowers { (spot : CanEmptyEntry (level - 1) node at (seen D.state rig.old) trunk.now)
+        → LowersTo (S.key_of settle.now) (S.step_of settle.now) (S.IsOp settle.now)
+        (S.IsKept settle.now) (level - 1) at (seen D.state rig.old) (seen D.state rig.new)
+        trunk.now trunk.now spot.spot.path result }
+{
+    let (child, buffer) = take_out(rig, node, level, at)?;
+    empty_node(rig, settle, child, buffer)?;
+    Ok(())
+}
+
+/// Empties the root's buffer into the buffers of the root's entries. A full buffer pays for the
+/// moves; of another one a part of them is owed. After a fault the tree may only be abandoned.
+pub fn empty_root<D: Device, S: Settle>(
+    rig: &mut Rig<'_, D>,
+    settle: &S,
+    trunk: &mut Trunk,
+) -> Result<(), EmFault>
+    requires can { CanWork (S.key_of settle.now) (S.IsOp settle.now) (S.IsKept settle.now)
+        (seen D.state rig.old) trunk.old }
+    requires drain { CanDrain (seen D.state rig.old) trunk.old }
+    ensures drains { DrainsTo (S.key_of settle.now) (S.step_of settle.now) (S.IsOp settle.now)
+        (S.IsKept settle.now) (seen D.state rig.old) (seen D.state rig.new) trunk.old trunk.new
+        result }
+{
+    let buffer = trunk.take_buffer(rig)?;
+    empty_node(rig, settle, trunk.root, buffer)?;
+    Ok(())
+}

@@ -1,0 +1,55 @@
+//! All buffers emptied, level by level from the root down.
+
+ghost use Rattle.std.specs.Prelude.{◌≡◌, ◌≤◌};
+ghost use Rattle.em_space.specs.Seen.{seen};
+ghost use Rattle.em_tree.specs.Debts.{owing_all, owing_to};
+ghost use Rattle.em_tree.specs.Emptying.{CanWork};
+ghost use Rattle.em_tree.specs.Settling.{CanSettleDown, CanSettleTree, SettlesAllTo};
+
+use crate::emptying::empty_level;
+use crate::lowering::empty_root;
+use crate::trunk::Trunk;
+use em_frames::Device;
+use em_settle::Settle;
+use em_space::{EmFault, Rig};
+
+/// Empties all buffers, with a debt. After a fault the tree may only be abandoned.
+pub fn settle_tree<D: Device, S: Settle>(
+    rig: &mut Rig<'_, D>,
+    settle: &S,
+    trunk: &mut Trunk,
+) -> Result<(), EmFault>
+    requires can { CanWork (S.key_of settle.now) (S.IsOp settle.now) (S.IsKept settle.now)
+        (seen D.state rig.old) trunk.old }
+    requires ready { S.IsReady settle.now }
+    requires settle { CanSettleTree (seen D.state rig.old) trunk.old }
+    ensures settles { SettlesAllTo (S.key_of settle.now) (S.step_of settle.now)
+        (S.IsOp settle.now) (S.IsKept settle.now) (owing_all (seen D.state rig.old) trunk.old)
+        (seen D.state rig.old) (seen D.state rig.new) trunk.old trunk.new result }
+{
+    empty_root(rig, settle, trunk)?;
+    let level = trunk.level;
+    settle_down(rig, settle, trunk, level)
+}
+
+/// Empties the buffers of a level and of those below it, one level after another.
+fn settle_down<D: Device, S: Settle>(
+    rig: &mut Rig<'_, D>,
+    settle: &S,
+    trunk: &mut Trunk,
+    level: u64,
+) -> Result<(), EmFault>
+    requires can { CanWork (S.key_of settle.now) (S.IsOp settle.now) (S.IsKept settle.now)
+        (seen D.state rig.old) trunk.old }
+    requires ready { S.IsReady settle.now }
+    requires settles { CanSettleDown level (seen D.state rig.old) trunk.old }
+    ensures settles { SettlesAllTo (S.key_of settle.now) (S.step_of settle.now)
+        (S.IsOp settle.now) (S.IsKept settle.now) (owing_to level (seen D.state rig.old) trunk.old)
+        (seen D.state rig.old) (seen D.state rig.new) trunk.old trunk.new result }
+{
+    if level == 0 {
+        return Ok(());
+    }
+    empty_level(rig, settle, trunk, level)?;
+    settle_down(rig, settle, trunk, level - 1)
+}

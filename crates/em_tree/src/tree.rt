@@ -1,0 +1,138 @@
+//! A tree, as it lies in blocks, and what it keeps in memory:
+//!
+//!     root's buffer    a list that is being written: new operations come here
+//!     root             a node of level R: entries with a low key, a buffer and a child
+//!       ..             nodes of the levels R - 1 to 1
+//!     leaf blocks      each has the words of a chain of stored records, one per key, in order
+//!     answers          a list that is being written: what operations answered when they were settled
+
+ghost use Rattle.std.specs.Prelude.{◌≡◌, ◌+◌, ◌<◌, ◌^◌, IsTrue};
+ghost use Rattle.em_space.specs.Queue.{CanServe};
+ghost use Rattle.em_space.specs.Rig.{Sound};
+ghost use Rattle.em_space.specs.Seen.{seen};
+ghost use Rattle.em_tree_cost.specs.Books.{count_push, count_settle};
+
+use crate::emptying::push_op;
+use crate::ending::finish_blocks;
+use crate::settling::settle_tree;
+use crate::trunk::Trunk;
+use em_chain::Chain;
+use em_frames::Device;
+use em_record::Record;
+use em_settle::Settle;
+use em_space::{EmFault, Rig};
+
+/// A tree of operations and stored records. It holds two frames, and can't be dropped: `finish` makes
+/// a chain of its answers, and after a fault only `abandon` may be called.
+pub struct Tree<S: Settle> {
+    settle: S,
+    trunk: Trunk,
+}
+
+impl<S: Settle> Tree<S> {
+    ghost use Rattle.std.specs.Prelude.{Result, Ok, Err, IfOk, IfErr};
+    ghost use Rattle.em_tree.specs.Calls.{CountsCall, FinishCosts, FinishesTrunk, IsNewTrunk, LeavesTrunk, PushesOp, SettlesTrunk, StopsNewTrunk};
+    ghost use Rattle.em_tree.specs.Meaning.{IsLater};
+    ghost use Rattle.em_tree.specs.Trunk.{IsTrunk, TrunkHasFrames, model_of};
+
+    /// A tree with no record: a root of level 1 over one empty leaf. It holds two frames. At most 4 blocks
+    /// are moved. After a fault some blocks may stay in use.
+    pub fn new<D: Device>(rig: &mut Rig<'_, D>, settle: S) -> Result<Tree<S>, EmFault>
+        requires sound { Sound (seen D.state rig.old) }
+        requires free { CanServe (seen D.state rig.old).pool }
+        ensures makes { IfOk result (λ tree. IsNewTrunk (S.key_of settle) (S.IsOp settle) (S.IsKept settle)
+            (seen D.state rig.old) (seen D.state rig.new) tree.trunk) }
+        ensures rule { IfOk result (λ tree. tree.settle ≡ settle) }
+        ensures stops { IfErr result (StopsNewTrunk (seen D.state rig.old) (seen D.state rig.new)) }
+    {
+        let trunk = Trunk::new(rig)?;
+        Ok(Tree { settle, trunk })
+    }
+
+    /// Adds an operation. It waits in the root's buffer; a buffer that is full is emptied.
+    pub fn push<D: Device>(&mut self, rig: &mut Rig<'_, D>, op: Record) -> Result<(), EmFault>
+        requires sound { Sound (seen D.state rig.old) }
+        requires ready { S.IsReady self.old.settle }
+        requires is { IsTrunk (S.key_of self.old.settle) (S.IsOp self.old.settle)
+            (S.IsKept self.old.settle) (seen D.state rig.old) self.old.trunk }
+        requires free { CanServe (seen D.state rig.old).pool }
+        requires few { self.old.trunk.pushed < 2 ^ 100 }
+        requires op { S.IsOp self.old.settle op }
+        requires later { IsTrue (seen D.state rig.old).device.told
+            → IsLater (S.key_of self.old.settle) (model_of (seen D.state rig.old) self.old.trunk) op }
+        ensures rule { self.new.settle ≡ self.old.settle }
+        ensures pushes { PushesOp (S.key_of self.old.settle) (S.step_of self.old.settle)
+            (S.IsOp self.old.settle) (S.IsKept self.old.settle) op (seen D.state rig.old)
+            (seen D.state rig.new) self.old.trunk self.new.trunk result }
+        ensures counts { CountsCall (count_push 0) (seen D.state rig.old) (seen D.state rig.new)
+            self.old.trunk self.new.trunk }
+    {
+        let before = rig.moves();
+        self.trunk.count_push(&rig.shape());
+        let pushed = push_op(rig, &self.settle, &mut self.trunk, op);
+        self.trunk.count_moves(rig, before);
+        pushed
+    }
+
+    /// Empties all buffers: no operation waits afterwards.
+    pub fn settle_all<D: Device>(&mut self, rig: &mut Rig<'_, D>) -> Result<(), EmFault>
+        requires sound { Sound (seen D.state rig.old) }
+        requires ready { S.IsReady self.old.settle }
+        requires is { IsTrunk (S.key_of self.old.settle) (S.IsOp self.old.settle)
+            (S.IsKept self.old.settle) (seen D.state rig.old) self.old.trunk }
+        requires free { CanServe (seen D.state rig.old).pool }
+        requires few { self.old.trunk.settled < 2 ^ 100 }
+        ensures rule { self.new.settle ≡ self.old.settle }
+        ensures settles { SettlesTrunk (S.key_of self.old.settle) (S.step_of self.old.settle)
+            (S.IsOp self.old.settle) (S.IsKept self.old.settle) (seen D.state rig.old)
+            (seen D.state rig.new) self.old.trunk self.new.trunk result }
+        ensures counts { CountsCall (count_settle 0) (seen D.state rig.old) (seen D.state rig.new)
+            self.old.trunk self.new.trunk }
+    {
+        let before = rig.moves();
+        self.trunk.count_settling(&rig.shape());
+        let settled = settle_tree(rig, &self.settle, &mut self.trunk);
+        self.trunk.count_moves(rig, before);
+        settled
+    }
+
+    /// Empties all buffers, releases the tree's blocks, and gives the answers in any order.
+    pub fn finish<D: Device>(self, rig: &mut Rig<'_, D>) -> Result<Chain, EmFault>
+        requires sound { Sound (seen D.state rig.old) }
+        requires ready { S.IsReady self.settle }
+        requires is { IsTrunk (S.key_of self.settle) (S.IsOp self.settle) (S.IsKept self.settle)
+            (seen D.state rig.old) self.trunk }
+        requires free { CanServe (seen D.state rig.old).pool }
+        requires few { self.trunk.settled < 2 ^ 100 }
+        ensures finishes { FinishesTrunk (S.key_of self.settle) (S.step_of self.settle)
+            (seen D.state rig.old) (seen D.state rig.new) self.trunk result }
+        ensures costs { FinishCosts (seen D.state rig.old) (seen D.state rig.new) self.trunk }
+    {
+        let Tree { settle, mut trunk } = self;
+        trunk.count_settling(&rig.shape());
+        match finish_blocks(rig, &settle, &mut trunk) {
+            Ok(()) => trunk.into_answers(rig),
+            Err(fault) => {
+                trunk.abandon(rig);
+                Err(fault)
+            }
+        }
+    }
+
+    /// The levels of nodes.
+    pub fn height(&self) -> u64
+        ensures { result ≡ self.now.trunk.level }
+    {
+        self.trunk.level
+    }
+
+    /// Gives the frames back, also after a fault. The blocks stay in use, and nothing is moved.
+    pub fn abandon<D: Device>(self, rig: &mut Rig<'_, D>)
+        requires sound { Sound (seen D.state rig.old) }
+        requires frames { TrunkHasFrames (seen D.state rig.old) self.trunk }
+        ensures leaves { LeavesTrunk (seen D.state rig.old) (seen D.state rig.new) }
+    {
+        let Tree { settle: _, trunk } = self;
+        trunk.abandon(rig);
+    }
+}
