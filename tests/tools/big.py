@@ -1,0 +1,209 @@
+#!/usr/bin/env python3
+"""Large files of random commands and large circuits, and the program's answers to them beside those of the baselines of
+bench/. The gate doesn't run it.
+
+tests/tools/big.py KIND COUNT FILE            writes COUNT commands of a map, queue or stab file
+tests/tools/big.py eval COUNT FILE STIMULUS   writes a circuit of COUNT gates in straight order, and a stimulus of 8 lines
+tests/tools/big.py --compare KIND COUNT       runs the baselines on such a file, and the program at three shapes: all must print
+                                              the same
+tests/tools/big.py --plain KIND COUNT         compares the baselines with the plain answers of made.py and aiger.py, without the
+                                              program; those that sort also with blocks of 4 records and 3 frames
+
+Options, anywhere: --asks=PERCENT of the commands are gets, pops or stabs (25); --keys=N, keys and points are below it (COUNT);
+--start=N, another file of the same kind (1).
+
+The program is the one that `rt ci` or `./emtool` built, or the one that EMTOOL names.
+"""
+import filecmp
+import os
+import random
+import subprocess
+import sys
+import tempfile
+import time
+
+sys.dont_write_bytecode = True
+HERE = os.path.dirname(os.path.abspath(__file__))
+TOP = os.path.dirname(os.path.dirname(HERE))
+sys.path.insert(0, HERE)
+import aiger
+import made
+
+# the baselines of each kind, programs of bench/
+BASELINES = {
+    "map": ("map_stl", "map_sort"),
+    "queue": ("queue_stl", "queue_merge"),
+    "stab": ("stab_sweep", "stab_sort"),
+    "eval": ("circuit",),
+}
+SORTING = "map_sort", "queue_merge", "stab_sort"
+# the shapes that --compare runs: records of a block, and frames; the last is the default
+SHAPES = (128, 64), (512, 128), (1024, 256)
+STEPS = 8
+
+
+def map_lines(count, asks, keys, draw):
+    """Of the commands that aren't gets, one in five is a del."""
+    puts = asks + (1 - asks) * 4 / 5
+    for i in range(1, count + 1):
+        word, key = draw(), int(draw() * keys)
+        yield f"get {key}\n" if word < asks else f"put {key} {i}\n" if word < puts else f"del {key}\n"
+
+
+def queue_lines(count, asks, keys, draw):
+    for i in range(1, count + 1):
+        yield "pop\n" if draw() < asks else f"push {int(draw() * keys)} {i}\n"
+
+
+def stab_lines(count, asks, keys, draw):
+    """Intervals of all widths: for N keys, a share of N / (COUNT * w) is w wide at least. So a point is in about ln COUNT."""
+    for _ in range(count):
+        word, low = draw(), int(draw() * keys)
+        if word < asks:
+            yield f"stab {low}\n"
+        else:
+            yield f"iv {low} {min(low + int(keys / (count * (1 - draw()))), keys - 1)}\n"
+
+
+def circuit_lines(gates, inputs=64, latches=32, outputs=64):
+    """A circuit in straight order. A rule with a fixed start draws the literals: operands of each gate from those below
+    it, next values and outputs from all."""
+    drawn = 1
+
+    def literal(below):
+        nonlocal drawn
+        drawn = (drawn * 6364136223846793005 + 1442695040888963407) % (1 << 64)
+        return (drawn >> 33) % below
+
+    first = 1 + inputs + latches
+    most = inputs + latches + gates
+    yield f"aag {most} {inputs} {latches} {outputs} {gates}\n"
+    yield from (f"{2 * (1 + i)}\n" for i in range(inputs))
+    yield from (f"{2 * (1 + inputs + i)} {literal(2 * most + 2)}\n" for i in range(latches))
+    yield from (f"{literal(2 * most + 2)}\n" for _ in range(outputs))
+    yield from (f"{2 * v} {literal(2 * v)} {literal(2 * v)}\n" for v in range(first, first + gates))
+
+
+def stimulus_lines(inputs=64, steps=STEPS):
+    """A stimulus: the bit of input i in step t is bit 3 of the number 5 * i + 7 * t."""
+    for t in range(steps):
+        yield "".join(str((5 * i + 7 * t) >> 3 & 1) for i in range(inputs)) + "\n"
+
+
+def write_files(kind, count, paths, asks=25, keys=None, start=1):
+    """Writes a command file, or a circuit and its stimulus."""
+    if kind == "eval":
+        texts = circuit_lines(count), stimulus_lines()
+    else:
+        lines = {"map": map_lines, "queue": queue_lines, "stab": stab_lines}[kind]
+        texts = (lines(count, asks / 100, keys or count, random.Random(start).random),)
+    for path, text in zip(paths, texts, strict=True):
+        with open(path, "w") as file:
+            file.writelines(text)
+
+
+def names_of(kind):
+    """The names of a kind's files."""
+    return ["circuit.aag", "stimulus"] if kind == "eval" else ["commands"]
+
+
+def sorting_bound(records, block, frames):
+    """The sorting bound in block moves: 2 * q * (1 + ceil(log q)) for q blocks of records, to the base of the frames."""
+    blocks = -(-records // block)
+    passes, reached = 1, 1
+    while reached < blocks:
+        passes, reached = passes + 1, reached * frames
+    return 2 * blocks * passes
+
+
+def compiled(name, folder, *flags):
+    """The program of a C or C++ file of bench/."""
+    program = os.path.join(folder, name + "".join(flags))
+    source = os.path.join(TOP, "bench", name)
+    command = [os.environ.get("CC", "cc"), source + ".c"]
+    if not os.path.exists(command[1]):
+        command = [os.environ.get("CXX", "c++"), source + ".cc"]
+    subprocess.run([*command, "-O2", "-Wall", "-Wextra", *flags, "-o", program], check=True)
+    return program
+
+
+def ran(title, command, folder, answers):
+    """Runs a command, and keeps what it prints in a file. What it writes to the error stream is shown."""
+    start = time.perf_counter()
+    with open(os.path.join(folder, answers), "wb") as output:
+        child = subprocess.run(command, cwd=folder, stdin=subprocess.DEVNULL, stdout=output, stderr=subprocess.PIPE)
+    print(f"  {title:40} {time.perf_counter() - start:9.2f} s  {child.stderr.decode().strip()}", flush=True)
+    if child.returncode:
+        sys.exit(f"big.py: {command} ended with {child.returncode}")
+
+
+def plain_answers(kind, folder, answers):
+    """Keeps what a plain program prints in a file."""
+    texts = []
+    for name in names_of(kind):
+        with open(os.path.join(folder, name), "rb") as file:
+            texts.append(file.read())
+    if kind == "eval":
+        output = aiger.answer(*texts)[0]
+    else:
+        plain = {"map": made.map_answers, "queue": made.queue_answers, "stab": made.stab_answers}[kind]
+        output = "".join(f"{line}\n" for line in plain(texts[0].decode().splitlines()))
+    with open(os.path.join(folder, answers), "w") as file:
+        file.write(output)
+
+
+def runs_of(kind, count, with_program, folder):
+    """The title and the command of each run that must print the same."""
+    for name in BASELINES[kind]:
+        yield name, [compiled(name, folder), *names_of(kind)]
+        if not with_program and name in SORTING:
+            yield name + ", 3 blocks of 4", [compiled(name, folder, "-DBLOCK=4", "-DFRAMES=3"), *names_of(kind)]
+    if with_program:
+        program = os.path.abspath(os.environ.get("EMTOOL") or os.path.join(TOP, "emtool"))
+        for block, frames in SHAPES:
+            options = [f"--block={block}", f"--frames={frames}", "--stats"]
+            bound = f", sorting bound {sorting_bound(count, block, frames)}" if kind != "eval" else ""
+            yield f"emtool, B = {block}, m = {frames}{bound}", [program, kind, *options, *names_of(kind)]
+
+
+def compare(kind, count, options, with_program):
+    """Runs all on one file, and says which print something else than the first."""
+    wrong = []
+    with tempfile.TemporaryDirectory(prefix="emtool-big-") as folder:
+        write_files(kind, count, [os.path.join(folder, name) for name in names_of(kind)], **options)
+        print(f"{kind}, {count} {'gates' if kind == 'eval' else 'lines'}", *(f"{name} {it}" for name, it in options.items()))
+        first = None if with_program else "plain"
+        if first:
+            plain_answers(kind, folder, first)
+        for number, (title, command) in enumerate(runs_of(kind, count, with_program, folder)):
+            answers = f"answers{number}"
+            ran(title, command, folder, answers)
+            first = first or answers
+            if not filecmp.cmp(os.path.join(folder, first), os.path.join(folder, answers), shallow=False):
+                wrong.append(title)
+        size = os.path.getsize(os.path.join(folder, first))
+    print("".join(f"  WRONG: {title} prints something else\n" for title in wrong), end="")
+    print(f"  {size} bytes of answers, {len(wrong)} wrong")
+    return 1 if wrong else 0
+
+
+def main(words):
+    try:
+        options = {name[2:]: int(it) for name, _, it in (word.partition("=") for word in words if "=" in word)}
+        words = [word for word in words if "=" not in word]
+        mode = words.pop(0) if words[0] in ("--compare", "--plain") else None
+        kind, count, paths = words[0], int(words[1]), words[2:]
+        fits = len(paths) == (0 if mode else len(names_of(kind)))
+        if not fits or kind not in BASELINES or count < 1 or not set(options) <= {"asks", "keys", "start"}:
+            raise ValueError
+    except (ValueError, IndexError):
+        print(__doc__, file=sys.stderr)
+        return 1
+    if mode:
+        return compare(kind, count, options, mode == "--compare")
+    write_files(kind, count, paths, **options)
+    return 0
+
+
+if __name__ == "__main__":
+    sys.exit(main(sys.argv[1:]))
