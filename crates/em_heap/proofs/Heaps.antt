@@ -10,6 +10,7 @@ use Rattle.em_record.proofs.Order.{at_least_trans, with_least, order_push}
 use Rattle.em_record.proofs.Commutes.{order_cons, order_ascending, at_least_order}
 use Rattle.em_record.proofs.OrderLaws.{which, order_set, order_permutation, ascends_apart}
 use Rattle.em_heap.specs.Heap.{IsHeap, IsHeapWithin, heap_items, SiftsUp, SiftsDown, HeapPushes, HeapPops, HeapHalves}
+use Rattle.em_heap.specs.State.{HeapState}
 use Rattle.em_heap.proofs.Sifting.{at_least_each, top}
 
 -- two lists with the same records from low up to m are heaps alike
@@ -222,3 +223,35 @@ halves xs zs n heap same long rises =
           ∙ (λ i. (sym (order_ascending low parts.0) ∙ ap in_order (sym front)) i ++ sym back i);
       long = whole;
     }
+
+-- what is seen of a heap of n records
+abbrev pub seen_as : List Record → ℕ → HeapState
+seen_as xs n = record {
+  items = heap_items xs n;
+  len = n;
+  capacity = length xs;
+  behind = drop n xs;
+}
+
+-- Of a heap with no record the first m records of its area, in order, are a heap.
+pub refills : (xs : List Record) (n m : ℕ) (h : HeapState) → seen_as xs n ≡ h → h.len ≡ 0
+    → m ≤ h.capacity → IsAscending (take m h.behind)
+    → IsHeap xs m × (seen_as xs m ≡ record h {
+      items = take m h.behind;
+      len = m;
+      behind = drop m h.behind;
+    })
+refills xs zero m h e none within ascends =
+    let P : HeapState → Type 0 = λ k. m ≤ k.capacity → IsAscending (take m k.behind)
+    → IsHeap xs m × (seen_as xs m ≡ record k {
+      items = take m k.behind;
+      len = m;
+      behind = drop m k.behind;
+    }) in
+    subst P e (λ w a. (
+      ascending_heap xs m w a,
+      ap (λ l. record { items = l; len = m; capacity = length xs; behind = drop m xs })
+          (order_ascending (take m xs) a),
+    )) within ascends
+refills xs (suc n) m h e none within ascends =
+    absurd (let l = ap (λ (k : HeapState). k.len) e in omega (arith, l, none))

@@ -8,6 +8,7 @@
 //! Kept here: the first `len` records are a heap (`IsHeap`). Left to others: what stands after them.
 //! After `upper_half` these are the records that it took out, in order.
 ghost use Rattle.std.specs.Prelude.{◌≡◌, ℕ, ◌+◌, ◌-◌, ◌/◌, ◌<◌, ◌≤◌, [], ◌++◌, length, take, drop, slice_get, IfNone, IfSome, option_to_list};
+ghost use Rattle.std.specs.Borrow.{sem};
 ghost use Rattle.em_record.specs.Order.{with_record, IsAscending};
 
 use crate::front;
@@ -39,6 +40,8 @@ impl Model for Heap {
 }
 
 impl Heap {
+    ghost use Rattle.em_heap.specs.Lending.{LendsArea};
+
     /// A heap of no records.
     pub fn new(area: Area) -> Heap
         ensures { result ≡ record { items = []; len = 0; capacity = length area; behind = area } }
@@ -142,6 +145,31 @@ impl Heap {
         ensures len { length result.now ≡ count }
     {
         &self.area.records()[self.len..self.len + count]
+    }
+
+    /// The area of a heap with no record, to be written. What is written stands after the heap (`behind`),
+    /// until `refill` takes records from it.
+    pub fn empty_area(&mut self) -> &mut Area
+        requires empty { self.old.len ≡ 0 }
+        ensures* writes_back { sem 𝓛 (LendsArea self.entry result) }
+        ensures value { result.now ≡ self.old.behind }
+        ensures len { length result.now ≡ self.old.capacity }
+    {
+        &mut self.area
+    }
+
+    /// Has a heap with no record take the first `len` of those after it, which stand in order.
+    pub fn refill(&mut self, len: usize)
+        requires empty { self.old.len ≡ 0 }
+        requires within { len ≤ self.old.capacity }
+        requires ascending { IsAscending (take len self.old.behind) }
+        ensures { self.new ≡ record self.old {
+          items = take len self.old.behind;
+          len = len;
+          behind = drop len self.old.behind;
+        } }
+    {
+        self.len = len;
     }
 
     /// Gives its area back.

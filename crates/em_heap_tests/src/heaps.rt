@@ -115,6 +115,28 @@ fn an_area_filled_in_order_is_a_heap(rt: HostRuntime) -> Result<(), Fail> {
     Ok(())
 }
 
+/// A heap that has no record any more takes three that were written into its area.
+#[test]
+fn an_empty_heap_is_refilled_in_its_area(rt: HostRuntime) -> Result<(), Fail> {
+    let mut pool = Grant::new(rt.alloc()).pool(Shape::new(128, 64)?)?;
+    let mut heap = Heap::new(pool.lend_area());
+    heap.push(key(7));
+    assert_eq!(rt; heap.pop(), Some(key(7)));
+    write_three(heap.empty_area());
+    assert_eq!(rt; (heap.len(), heap.capacity()), (0, 1024));
+    heap.refill(3);
+    assert_eq!(rt; (heap.len(), heap.capacity()), (3, 1024));
+    heap.push(key(5));
+    let popped = [heap.pop(), heap.pop(), heap.pop(), heap.pop(), heap.pop()];
+    assert_eq!(rt;
+        popped,
+        [Some(key(2)), Some(key(2)), Some(key(5)), Some(key(9)), None]
+    );
+    pool.give_area(heap.into_area());
+    pool.end();
+    Ok(())
+}
+
 /// Pushes the keys below `count`, the greatest first, while there is room.
 fn push_falling(heap: &mut Heap, count: u64)
     ensures { heap.new.capacity ≡ heap.old.capacity }
