@@ -131,7 +131,8 @@ GraphCosts q x s v p = SortCosts q (sort_calls p.header) (sort_run p.header) (so
 pub costs_left : {Q : Type 0} (q : QueueGhosts Q) (x y : Q) {s u v : RigState} (p : Parts)
     → DoneUntil q x y s u p → q.HasItsFrames y u → Leaves (q.counts y) u v
     → IfSome q.allowance IsRising
-    → IfSome q.allowance (λ f. (q.counts y).spent ≤ f u.pool.shape (q.counts y).n (q.counts y).k)
+    → (IsTrue u.device.told → IfSome q.allowance (λ f. (q.counts y).spent
+    ≤ f u.pool.shape (q.counts y).n (q.counts y).k))
     → IfSome q.room IsRisingRoom
     → IfSome q.room (λ f. (q.counts y).most ≤ f u.pool.shape (q.counts y).k)
     → GraphCosts q x s v p
@@ -153,8 +154,9 @@ costs_left q x y {s} {u} {v} p h has l rising spends rising_room fits =
           let same = ap (λ (z : ShapeNumbers). ending_most q.room z (q.counts y)) e in
           omega (arith, h.most, m, top, same);
       moves = h.moves;
-      all_moves = allowed q.allowance s u v (q.counts x) (q.counts y) calls run (sort_moves s p) e
-          h.called h.moves rising (still_allowed q.allowance u v (q.counts y) n spends);
+      all_moves = λ z. allowed q.allowance s u v (q.counts x) (q.counts y) calls run
+          (sort_moves s p) e h.called h.moves rising
+          (still_allowed q.allowance u v (q.counts y) n (spends (h.touches.told ∙ z)));
       room = roomy q.room s u v (q.counts x) (q.counts y) calls run (parts_size p) (sort_peak s p) e
           h.called h.most m rising_room fits;
     }
@@ -248,8 +250,8 @@ costs_ended q x y {s} {u} {v} {m} p b has l rising rising_room fits =
           (q.counts y) (parts_size p) (sort_peak s p) (graph_size m) h.most
           (omega (arith, used)) least top same l.most;
       moves = h.moves;
-      all_moves = allowed q.allowance s u v (q.counts x) (q.counts y) calls run (sort_moves s p) e
-          h.called h.moves rising l.spent;
+      all_moves = λ z. allowed q.allowance s u v (q.counts x) (q.counts y) calls run
+          (sort_moves s p) e h.called h.moves rising (l.spent (h.touches.told ∙ z));
       room = ended_roomy q.room s u v (q.counts x) (q.counts y) calls run (parts_size p)
           (sort_peak s p) (graph_size m) e h.called h.most (omega (arith, used)) least rising_room
           fits l.most;

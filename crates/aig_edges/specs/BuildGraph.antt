@@ -122,7 +122,7 @@ pub record SortCosts {Q : Type 0} (queue : QueueGhosts Q) (calls run own held pe
   pub most : new.most + (c.blocks + held) ≤ max (old.most + (c.blocks + held))
       (old.used + (ending_most queue.room old.pool.shape (queue.counts last) + peak))
   pub moves : then.moves + c.spent ≤ old.moves + (queue.counts last).spent + own
-  pub all_moves : IfSome queue.allowance (λ f. new.moves + c.spent
+  pub all_moves : IsTrue old.device.told → IfSome queue.allowance (λ f. new.moves + c.spent
       ≤ old.moves + f old.pool.shape (c.n + calls) (max c.k (c.since + run)) + own)
   pub room : IfSome queue.room (λ f. new.most + (c.blocks + held)
       ≤ max (old.most + (c.blocks + held))

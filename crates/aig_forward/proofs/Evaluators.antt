@@ -77,6 +77,7 @@ module _ {Q : Type 0} (queue : Ghosts Q) {s t : RigState} (o : Ordered) (q : Q)
           };
           header = refl;
           queue_is = refl;
+          size = made.runs.spends.held;
           runs = runs;
         }
 
@@ -186,10 +187,11 @@ module _ {Q : Type 0} (queue : Ghosts Q) {s t : RigState} (e : Evaluator Q) (sou
             k.touches;
         frames = shares_then c c (without_frames c) s.pool t.pool u.pool
             (shares_same c s.pool t.pool runs.frames) k.frames;
-        spent = some_more queue.allowance
+        spent = λ z. some_more queue.allowance
             (λ f. c.spent + u.moves ≤ t.moves + f t.pool.shape c.n c.k)
             (λ f. c.spent + u.moves ≤ s.moves + f s.pool.shape c.n c.k + 2 * lists_size e)
-            (λ f h. let g = rw shape at h in omega (arith, g, x.moves)) k.spent;
+            (λ f h. let g = rw shape at h in omega (arith, g, x.moves))
+            (k.spent (runs.session.touches.told ∙ z));
         most =
             let same = ap (λ (z : ShapeNumbers). ending_most queue.room z c) shape in
             omega (arith, k.most, same, x.most, x.used, low);
@@ -221,8 +223,8 @@ pub end_refused : {Q : Type 0} (queue : Ghosts Q) {s t u : RigState} {f : EmFaul
     e)) s t f
     → Leaves (queue.counts e.queue) t u
     → (queue.counts e.queue).unstored ≤ s.pool.shape.frames
-    → IfSome queue.allowance (λ g. (queue.counts e.queue).spent
-    ≤ g s.pool.shape (queue.counts e.queue).n (queue.counts e.queue).k)
+    → (IsTrue s.device.told → IfSome queue.allowance (λ g. (queue.counts e.queue).spent
+    ≤ g s.pool.shape (queue.counts e.queue).n (queue.counts e.queue).k))
     → EndsEvaluator queue s u e × EndsTo queue s u e (Err f)
 end_refused queue {s} {t} {u} {f} e sound k g stored spent =
     let qs = queue.blocks e.queue s in
@@ -237,9 +239,9 @@ end_refused queue {s} {t} {u} {f} e sound k g stored spent =
             (λ z j i o. off_right j qs ks o)) g.touches;
         frames = shares_then c c (without_frames c) s.pool t.pool u.pool
             (shares_same c s.pool t.pool k.goes.frames) g.frames;
-        spent = some_more queue.allowance (λ x. c.spent ≤ x s.pool.shape c.n c.k)
+        spent = λ z. some_more queue.allowance (λ x. c.spent ≤ x s.pool.shape c.n c.k)
             (λ x. c.spent + u.moves ≤ s.moves + x s.pool.shape c.n c.k + 2 * lists_size e)
-            (λ x y. omega (arith, y, h.moves, v.moves)) spent;
+            (λ x y. omega (arith, y, h.moves, v.moves)) (spent z);
         most = omega (arith, h.most, v.same.most, low);
       },
       (

@@ -88,6 +88,7 @@ pub record BeginsEvaluator {Q : Type 0} (queue : Ghosts Q) (s t : RigState) (o :
   pub is : IsEvaluator queue t e
   pub header : e.header ≡ o.header
   pub queue_is : e.queue ≡ q
+  pub size : lists_size e ≤ begin_room s o
   pub runs : RunsBeside 0 (begin_room s o) (queue.blocks q s ++ ordered_blocks s o)
       (evaluator_blocks queue t e) (lists_account o.edges.blocks (begin_moves s o))
       (lists_account (lists_size e) 0) (queue.counts q) (queue.counts q) s t
@@ -112,14 +113,15 @@ BeginsFor queue s t o e = (c : Circuit) (order : List Gate) → IsOrderedOf s o 
     → Evaluates queue t e c order (replicate e.header.latches false)
 
 -- An evaluator was used up, whether its end gave up or not: the queue's frames are back, and only
--- its own blocks may have changed. Its moves are two a block of its chains beside what the queue is
--- allowed.
+-- its own blocks may have changed. Over a device that tells its moves are two a block of its chains
+-- beside what the queue is allowed.
 pub record EndsEvaluator {Q : Type 0} (queue : Ghosts Q) (s t : RigState) (e : Evaluator Q) :
     Type 0 where
   pub sound : Sound t
   pub touches : Touches (evaluator_blocks queue s e) s t
   pub frames : Shares (queue.counts e.queue) (without_frames (queue.counts e.queue)) s.pool t.pool
-  pub spent : IfSome queue.allowance (λ f. (queue.counts e.queue).spent + t.moves
+  pub spent : IsTrue s.device.told → IfSome queue.allowance (λ f.
+      (queue.counts e.queue).spent + t.moves
       ≤ s.moves + f s.pool.shape (queue.counts e.queue).n (queue.counts e.queue).k
       + 2 * lists_size e)
   pub most : t.most + (queue.counts e.queue).blocks

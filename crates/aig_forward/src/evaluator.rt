@@ -180,8 +180,8 @@ impl<Q: Queue> Evaluator<Q> {
     }
 
     /// Releases all blocks, and gives the queue's frames back. After a fault the frames are back too, and
-    /// blocks may stay in use. It makes at most two moves for each block of the chains, beside what is
-    /// left of the queue's allowance, if it has one.
+    /// blocks may stay in use. Over a device that tells it makes at most two moves for each block of the
+    /// chains, beside what is left of the queue's allowance, if it has one.
     pub fn end<D: Device>(self, rig: &mut Rig<'_, D>) -> Result<(), EmFault>
         requires sound { Sound (seen D.state rig.old) }
         requires is { IsEvaluator Q.Queue (seen D.state rig.old) self }

@@ -59,7 +59,8 @@ costs_of h costs = record {
 pub costs_left : {Q : Type 0} (q : QueueGhosts Q) (x y : Q) {s u v : RigState} (g : Graph)
     → DoneUntil q x y s u g → q.HasItsFrames y u → Leaves (q.counts y) u v
     → IfSome q.allowance IsRising
-    → IfSome q.allowance (λ f. (q.counts y).spent ≤ f u.pool.shape (q.counts y).n (q.counts y).k)
+    → (IsTrue u.device.told → IfSome q.allowance (λ f. (q.counts y).spent
+    ≤ f u.pool.shape (q.counts y).n (q.counts y).k))
     → IfSome q.room IsRisingRoom
     → IfSome q.room (λ f. (q.counts y).most ≤ f u.pool.shape (q.counts y).k)
     → OrderCosts q (q.counts x) s v g
@@ -82,9 +83,9 @@ costs_left q x y {s} {u} {v} g h has l rising spends rising_room fits =
           let same = ap (λ (k : ShapeNumbers). ending_most q.room k (q.counts y)) e in
           omega (arith, w.most, m, top, same);
       moves = w.moves;
-      all_moves = allowed q.allowance s u v (q.counts x) (q.counts y) calls run
+      all_moves = λ z. allowed q.allowance s u v (q.counts x) (q.counts y) calls run
           (order_moves h.passes s g + h.looked) e w.called w.moves rising
-          (still_allowed q.allowance u v (q.counts y) n spends);
+          (still_allowed q.allowance u v (q.counts y) n (spends (h.touches.told ∙ z)));
       room = roomy q.room s u v (q.counts x) (q.counts y) calls run (graph_size g) (order_peak s g) e
           w.called w.most m rising_room fits;
     })
@@ -189,8 +190,9 @@ costs_ended q x y {s} {u} {v} {o} g b has l rising rising_room fits =
           (q.counts y) (graph_size g) (order_peak s g) o.edges.blocks w.most b.used least top same
           l.most;
       moves = w.moves;
-      all_moves = allowed q.allowance s u v (q.counts x) (q.counts y) calls run
-          (order_moves h.passes s g + h.looked) e w.called w.moves rising l.spent;
+      all_moves = λ z. allowed q.allowance s u v (q.counts x) (q.counts y) calls run
+          (order_moves h.passes s g + h.looked) e w.called w.moves rising
+          (l.spent (h.touches.told ∙ z));
       room = ended_roomy q.room s u v (q.counts x) (q.counts y) calls run (graph_size g)
           (order_peak s g) o.edges.blocks e w.called w.most b.used least rising_room fits l.most;
     })

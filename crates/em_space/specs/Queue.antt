@@ -1,5 +1,5 @@
 -- What every queue over a rig promises: docs/CONTRACTS.md, "Queues".
-use Rattle.std.specs.Prelude.{◌≡◌, ◌==◌, ℕ, ◌+◌, ◌*◌, ◌<◌, ◌≤◌, ◌-◌, ◌^◌, ◌⊎◌, max, if◌then◌else◌, List, [], Option, Some, None, IfSome, false}
+use Rattle.std.specs.Prelude.{◌≡◌, ◌==◌, ℕ, ◌+◌, ◌*◌, ◌<◌, ◌≤◌, ◌-◌, ◌^◌, ◌⊎◌, max, if◌then◌else◌, List, [], Option, Some, None, IfSome, IsTrue, false}
 use Rattle.em_record.specs.Shape.{ShapeNumbers, fan_of}
 use Rattle.em_frames.specs.Pool.{PoolCounts, singles_of}
 use Rattle.em_space.specs.Rig.{RigState, Sound, Touches}
@@ -99,15 +99,15 @@ ending_most None shape c = c.most
 ending_most (Some f) shape c = f shape c.k
 
 -- What holds after the end of a queue, whether it gave up or not: only its blocks may have changed,
--- its frames are back, and its moves and its greatest number of blocks were within what it was
--- allowed.
+-- its frames are back, its greatest number of blocks was within what it was allowed, and so were its
+-- moves, if the device tells.
 pub record Ends (allowance : Option (ShapeNumbers → ℕ → ℕ → ℕ))
     (room : Option (ShapeNumbers → ℕ → ℕ)) (held : List ℕ) (c : QueueCounts) (old new : RigState)
     : Type 0 where
   pub sound : Sound new
   pub touches : Touches held old new
   pub frames : Shares c (record c { frames = 0; areas = 0 }) old.pool new.pool
-  pub spent : IfSome allowance (λ f.
+  pub spent : IsTrue old.device.told → IfSome allowance (λ f.
       c.spent + new.moves ≤ old.moves + f old.pool.shape c.n c.k)
   pub most : new.most + c.blocks
       ≤ max (old.most + c.blocks) (old.used + ending_most room old.pool.shape c)

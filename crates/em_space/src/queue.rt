@@ -28,7 +28,8 @@ pub trait Queue {
     ghost HasItsFrames: { Self → RigState → Type 0 };
     /// Its numbers.
     ghost counts: { Self → QueueCounts };
-    /// At most this many moves after `n` calls, by the shape, n and k; where there is such a number.
+    /// At most this many moves after `n` calls, by the shape, n and k, if there is such a number and the
+    /// device tells.
     ghost allowance: { Option (ShapeNumbers → ℕ → ℕ → ℕ) };
     /// At most this many blocks at once, by the shape and k; where there is such a number.
     ghost room: { Option (ShapeNumbers → ℕ → ℕ) };
@@ -168,10 +169,12 @@ pub trait Queue {
     ghost unstored_most: { (q : Self) (s : RigState) → IsQueue q s
         → (counts q).unstored ≤ (counts q).frames };
 
-    /// What it is allowed doesn't fall where n or k rises, and its moves never exceed it.
+    /// What it is allowed doesn't fall where n or k rises, and its moves never exceed it, if the device
+    /// tells.
     ghost rising: { IfSome allowance IsRising };
 
-    ghost spends: { (q : Self) (s : RigState) → HasItsFrames q s → IfSome allowance (λ f.
+    ghost spends: { (q : Self) (s : RigState) → HasItsFrames q s → IsTrue s.device.told
+        → IfSome allowance (λ f.
         (counts q).spent ≤ f s.pool.shape (counts q).n (counts q).k) };
 
     /// Its room doesn't fall where k rises, and its blocks never exceed it.
