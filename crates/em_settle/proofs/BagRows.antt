@@ -1,8 +1,8 @@
 -- Operations of a bag that were worked out by hand, from the table in README.md.
-use Rattle.std.specs.Prelude.{◌≡◌, ℕ, ◌<◌, List, [], ◌∷◌, Some, None}
-use Rattle.std.proofs.Common.{refl, arith}
+use Rattle.std.specs.Prelude.{◌≡◌, ℕ, List, [], ◌∷◌, Some, None}
+use Rattle.std.proofs.Common.{refl}
 use Rattle.em_record.specs.declared.record.Record.{Record}
-use Rattle.em_settle.specs.Bag.{bag_key_of, bag_step_of, IsBagOp}
+use Rattle.em_settle.specs.Bag.{bag_key_of, bag_step_of}
 use Rattle.em_settle.specs.Keys.{has_key, of_key}
 use Rattle.em_settle.specs.Lists.{list_with_ops}
 use Rattle.em_settle.specs.States.{Stored, answers_to, with_ops}
@@ -29,9 +29,6 @@ first = refl
 
 over : bag_step_of (Some (rec 4 1 7 6)) (rec 4 1 7 9) ≡ stores (rec 4 1 7 9)
 over = refl
-
-no_number : IsBagOp (rec 4 0 7 6) → ⊥
-no_number h = let e : 0 < 0 = h in omega arith
 
 -- three operations, of which two have the same word a
 abbrev ops : List Record

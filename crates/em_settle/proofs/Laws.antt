@@ -1,7 +1,7 @@
 -- The laws of both implementations, and of all operations, each as one record.
-use Rattle.std.specs.Prelude.{Option}
+use Rattle.std.specs.Prelude.{Option, ⊤}
 use Rattle.em_record.specs.declared.record.Record.{Record}
-use Rattle.em_settle.specs.Bag.{bag_key_of, bag_step_of, IsBagOp}
+use Rattle.em_settle.specs.Bag.{bag_key_of, bag_step_of}
 use Rattle.em_settle.specs.BagLaws as bag
 use Rattle.em_settle.specs.Laws.{IsFold, IsSettle}
 use Rattle.em_settle.specs.Map.{map_key_of, map_step_of, IsMapKept, IsMapOp}
@@ -19,7 +19,7 @@ map_settles = record {
 }
 
 -- The operations of a bag have the laws of `Settle`.
-pub bag_settles : IsSettle bag_key_of bag_step_of IsBagOp IsBagOp
+pub bag_settles : IsSettle bag_key_of bag_step_of (λ _. ⊤) (λ _. ⊤)
 bag_settles = record {
   in_order = bag.in_order;
   keeps = bag.keeps;

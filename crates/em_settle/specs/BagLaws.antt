@@ -1,11 +1,11 @@
 -- The laws of a bag's operations.
-use Rattle.std.specs.Prelude.{◌≡◌, true, false, Option, Some, IfSome}
+use Rattle.std.specs.Prelude.{◌≡◌, true, false, Option, Some, IfSome, ⊤}
 use Rattle.std.proofs.Common.{subst, refl}
 use Rattle.std.specs.Ordering.{nat_cmp, ordering_then}
 use Rattle.em_record.specs.declared.record.Record.{Record}
 use Rattle.em_record.specs.Order.{is_below}
 use Rattle.em_settle.specs.Orders.{first_two}
-use Rattle.em_settle.specs.Bag.{bag_key_of, bag_step_of, IsBagOp}
+use Rattle.em_settle.specs.Bag.{bag_key_of, bag_step_of}
 
 -- records in order have keys in order
 pub in_order : (x y : Record) → is_below y x ≡ false
@@ -18,9 +18,9 @@ itself : (P : Record → Type 0) (op new : Record) → Some op ≡ Some new → 
 itself P op new e p = let Q : Option Record → Type 0 = λ o. IfSome o P in subst Q e p
 
 -- what an operation leaves may be stored
-pub keeps : (old : Option Record) (op new : Record) → IfSome old IsBagOp → IsBagOp op
-    → (bag_step_of old op).stored ≡ Some new → IsBagOp new
-keeps old op new kept is_op e = itself IsBagOp op new e is_op
+pub keeps : (old : Option Record) (op new : Record) → IfSome old (λ _. ⊤) → ⊤
+    → (bag_step_of old op).stored ≡ Some new → ⊤
+keeps old op new kept is_op e = tt
 
 -- it has the operation's key
 pub keeps_key : (old : Option Record) (op new : Record)
@@ -30,7 +30,7 @@ keeps_key old op new same e = itself (λ r. bag_key_of r ≡ bag_key_of op) op n
 
 -- it is below every later operation of its key
 pub stays_below : (old : Option Record) (op new later : Record)
-    → IfSome old (λ r. is_below r op ≡ true) → IsBagOp op → IsBagOp later
+    → IfSome old (λ r. is_below r op ≡ true) → ⊤ → ⊤
     → bag_key_of later ≡ bag_key_of op → is_below op later ≡ true
     → (bag_step_of old op).stored ≡ Some new → is_below new later ≡ true
 stays_below old op new later below is_op is_later same after e =

@@ -1,5 +1,6 @@
 //! The operations of a bag: each one `(K, n, V, W)` is stored as it is, and answers nothing. Its key is
-//! `(K, n, 0, 0)`, so records of equal K stand beside each other, in the order of their numbers.
+//! `(K, n, 0, 0)`, so records of equal K stand beside each other, in the order of their numbers. Any record
+//! is an operation.
 
 use crate::settle::Settle;
 use crate::step::Step;
@@ -11,7 +12,7 @@ pub struct BagSettle {}
 
 impl Settle for BagSettle {
     ghost use Rattle.std.specs.Prelude.{⊤};
-    ghost use Rattle.em_settle.specs.Bag.{bag_key_of, bag_step_of, IsBagOp};
+    ghost use Rattle.em_settle.specs.Bag.{bag_key_of, bag_step_of};
     ghost use Rattle.em_settle.specs.BagLaws as laws;
 
     ghost key_of = { λ _. bag_key_of };
@@ -20,9 +21,9 @@ impl Settle for BagSettle {
 
     ghost IsReady = { λ _. ⊤ };
 
-    ghost IsOp = { λ _. IsBagOp };
+    ghost IsOp = { λ _ _. ⊤ };
 
-    ghost IsKept = { λ _. IsBagOp };
+    ghost IsKept = { λ _ _. ⊤ };
 
     ghost in_order = { λ _. laws.in_order };
 
