@@ -9,6 +9,12 @@ pub Ascend-lower : {A : Type 0} (f : A → ℕ) (less low : ℕ) (xs : List A) (
 Ascend-lower f less low [] high h a = omega arith
 Ascend-lower f less low (x ∷ xs) high h (first, rest) = (omega arith, rest)
 
+pub Ascend-higher : {A : Type 0} (f : A → ℕ) (low : ℕ) (xs : List A) (high more : ℕ) → high ≤ more
+    → Ascend f low xs high → Ascend f low xs more
+Ascend-higher f low [] high more h a = omega arith
+Ascend-higher f low (x ∷ xs) high more h (first, rest) =
+    (first, Ascend-higher f (f x + 1) xs high more h rest)
+
 kept : {A : Type 0} (f : A → ℕ) (low : ℕ) (x : A) (xs : List A) (high : ℕ) (b : Bool) → low ≤ f x
     → Ascend f (f x + 1) xs high → Ascend f low (if b then x ∷ xs else xs) high
 kept f low x xs high true h a = (h, a)

@@ -4,6 +4,7 @@ use Rattle.em_model.specs.declared.command.Command.TheVariants.{Put, Del, Get, P
 use Rattle.em_model.specs.Map.{map_answers}
 use Rattle.em_model.specs.Queue.{queue_answers}
 use Rattle.em_model.specs.Stab.{stab_answers}
+use Rattle.em_model.specs.StabAnswers.{pair_record, stab_pairs}
 
 -- a get answers the last put before it, and none after a del
 map_of_one_key :
@@ -40,6 +41,12 @@ stab_of_three = refl
 -- a stab sees the earlier intervals alone
 stab_before_interval : stab_answers (Stab 5 ∷ Interval 0 9 ∷ []) ≡ [] ∷ []
 stab_before_interval = refl
+
+-- a pair for each stab and each interval of its answer, stab by stab
+pairs_of_two :
+    stab_pairs (Interval 5 9 ∷ Stab 9 ∷ Interval 7 7 ∷ Stab 10 ∷ Stab 7 ∷ [])
+    ≡ pair_record 0 0 ∷ pair_record 2 0 ∷ pair_record 2 1 ∷ []
+pairs_of_two = refl
 
 -- the commands of the other two files change nothing and answer nothing
 map_of_others : map_answers (Push 5 1 ∷ Interval 5 5 ∷ Get 5 ∷ Pop ∷ Stab 5 ∷ []) ≡ None ∷ []

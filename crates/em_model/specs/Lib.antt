@@ -3,3 +3,4 @@ pub mod Map
 pub mod MapAnswers
 pub mod Queue
 pub mod Stab
+pub mod StabAnswers

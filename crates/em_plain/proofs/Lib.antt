@@ -9,7 +9,6 @@ pub mod Lacks
 pub mod Least
 pub mod Looks
 pub mod Notes
-pub mod Ordered
 pub mod Restarts
 pub mod Scans
 pub mod StabLists

@@ -8,7 +8,7 @@ use Rattle.em_model.proofs.StabLaws.{stab_answers_from-append}
 use Rattle.em_model.specs.declared.command.Command.{Command}
 use Rattle.em_model.specs.declared.command.Command.TheVariants.{Put, Del, Get, Push, Pop, Interval, Stab}
 use Rattle.em_plain.specs.Command.{command_in, commands_in}
-use Rattle.em_plain.specs.StabAnswers.{pair_record, pairs_from}
+use Rattle.em_model.specs.StabAnswers.{pair_record, pairs_from}
 use Rattle.em_plain.specs.StabPairs.{intervals_in, holder_pairs, pair_with, next_interval, pairs_of, next_stab, stabs_in, pairs_in}
 
 -- the intervals of commands that follow others

@@ -5,7 +5,7 @@ use Rattle.em_model.specs.Map.{no_keys, state_after}
 use Rattle.em_model.specs.declared.command.Command.{Command}
 use Rattle.em_plain.specs.Command.{command_in, commands_in}
 use Rattle.em_model.specs.MapAnswers.{answer_records, answers_of}
-use Rattle.em_plain.specs.StabAnswers.{stab_pairs}
+use Rattle.em_model.specs.StabAnswers.{stab_pairs}
 use Rattle.em_plain.specs.StabPairs.{next_interval, next_stab, pair_with, pairs_of}
 use Rattle.em_plain.specs.declared.answers.Asks.{Asks}
 use Rattle.em_plain.specs.declared.answers.Asks.TheVariants.{Gets, Stabs}

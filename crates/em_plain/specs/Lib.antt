@@ -11,5 +11,4 @@ pub mod Room
 pub mod ScanMap
 pub mod ScanQueue
 pub mod ScanStab
-pub mod StabAnswers
 pub mod StabPairs

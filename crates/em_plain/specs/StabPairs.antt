@@ -5,7 +5,7 @@ use Rattle.em_model.specs.Stab.{NumberedInterval, holds_point, holders_of, stab_
 use Rattle.em_model.specs.declared.command.Command.{Command}
 use Rattle.em_model.specs.declared.command.Command.TheVariants.{Interval, Stab}
 use Rattle.em_plain.specs.Command.{commands_in}
-use Rattle.em_plain.specs.StabAnswers.{pair_record, stab_pairs}
+use Rattle.em_model.specs.StabAnswers.{pair_record, stab_pairs}
 
 -- the intervals of the commands that records stand for
 abbrev pub intervals_in : List Record → List NumberedInterval

@@ -217,7 +217,7 @@ impl Queue for ScanQueue {
 
     ghost rising = { tt };
 
-    ghost spends = { λ q s h. tt };
+    ghost spends = { λ q s h told. tt };
 
     ghost rising_room = { tt };
 

@@ -26,7 +26,7 @@ impl ScanStab {
     ghost use Rattle.em_plain.specs.CommandList.{AnsweredBy, BeginsList, Noted, held, list_len, unstored};
     ghost use Rattle.em_plain.specs.Room.{StaysWithin, plain_room};
     ghost use Rattle.em_plain.specs.ScanStab.{IsScanStab, StabHasFrame, blocks_of, commands_of};
-    ghost use Rattle.em_plain.specs.StabAnswers.{stab_pairs};
+    ghost use Rattle.em_model.specs.StabAnswers.{stab_pairs};
     ghost use Rattle.em_space.specs.Queue.{Pays};
 
     /// A list with no interval. It takes no block yet, and never gives up.

@@ -26,7 +26,7 @@ returns-clause-ends g c =
         rack = d.frames.rack ∙ f.gives.frames.rack;
         peak = let x = d.frames.peak in let y = f.gives.frames.peak in omega (arith, x, y);
       };
-      spent = tt;
+      spent = λ told. tt;
       most =
           let x = f.costs.only.same.most in let y = c.discard.ensures.frees.most in
           omega (arith, x, y);

@@ -11,7 +11,7 @@ use Rattle.em_model.specs.declared.command.Command.{Command}
 use Rattle.em_model.specs.declared.command.Command.TheVariants.{Put, Del, Get, Push, Pop, Interval, Stab}
 use Rattle.em_model.proofs.StabLaws.{AreNumbered, holders_ascend, numbered_step}
 use Rattle.em_model.specs.MapAnswers.{answer_record, answer_records, get_numbers, with_numbers}
-use Rattle.em_plain.specs.StabAnswers.{pair_record, pairs_from, stab_pairs}
+use Rattle.em_model.specs.StabAnswers.{pair_record, pairs_from, stab_pairs}
 
 -- a record isn't below one with a lesser word a, nor below one with the same and a lesser word b
 later_first : (x y : Record) → x.a < y.a → is_below y x ≡ false

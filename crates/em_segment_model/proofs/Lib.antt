@@ -1,0 +1,24 @@
+pub mod Calls
+pub mod Commands
+pub mod Cost
+pub mod Cuts
+pub mod Dealing
+pub mod Distinct
+pub mod Ends
+pub mod Fills
+pub mod Finish
+pub mod Leaf
+pub mod Levels
+pub mod Loads
+pub mod Nodes
+pub mod Once
+pub mod Order
+pub mod Places
+pub mod Reports
+pub mod Roots
+mod Rows
+pub mod Room
+pub mod Slabs
+pub mod Steps
+pub mod Sums
+pub mod Turned

@@ -1,0 +1,12 @@
+pub mod Alike
+pub mod Bounds
+pub mod Commands
+pub mod Lacking
+pub mod Loads
+pub mod Pieces
+pub mod Places
+pub mod Points
+pub mod Reports
+pub mod Sizes
+pub mod Slabs
+pub mod Spans
