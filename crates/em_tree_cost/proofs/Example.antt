@@ -64,7 +64,7 @@ pub visit_removes : {shape : ShapeNumbers} {c : TreeCounts} {h r : ℕ} {t : Sum
     → SumsTake g v v2 → SameRoot v v2 → IsCeil i (payload_of shape) g → m3 ≤ 2 * i
     → SumsRemove v2 v3 → SameRoot v2 v3 → m4 ≤ 4 + 4 * levels_of shape c.k
     → InCall shape (count_moves m4 (count_moves m3 (count_moves m2 (count_moves m1 c)))) 0 (h + g)
-    (r + 1) v3
+    1 v3
 visit_removes {shape = shape} {c = c} m1 m2 m3 m4 y g d e i u v v2 v3
     is b f1 r1 b1 k1 f2 s2 of_load few leaf_most k2 f3 s3 of_leaf k3 f4 s4 k4 =
     let w = wide_of shape in let B = shape.block in let P = payload_of shape in

@@ -22,7 +22,7 @@ call_begins b = record {
   books = b;
   taken = omega (arith, b.paid.fits.left_most);
   taken_since = omega arith;
-  removed_since = omega arith;
+  splits_since = omega arith;
 }
 
 -- Fewer moves than were paid for, or more that is owed.
@@ -42,7 +42,7 @@ call_less c m low next less o b = record {
   };
   taken = b.taken;
   taken_since = b.taken_since;
-  removed_since = b.removed_since;
+  splits_since = b.splits_since;
 }
 
 -- Few enough operations were pushed for 24 levels.
@@ -61,9 +61,9 @@ call_step : {shape : ShapeNumbers} {c : TreeCounts} {more h r : ℕ} {t : Sums}
     → cs.n ≡ b.books.counters.n → cs.k ≡ b.books.counters.k → cs.since ≡ b.books.counters.since
     → cs.z ≡ b.books.counters.z → cs.y ≡ b.books.counters.y → cs.left ≡ b.books.counters.left
     → cs.taken ≡ b.books.counters.taken → cs.taken_since ≡ b.books.counters.taken_since
-    → cs.removed_since ≡ b.books.counters.removed_since
+    → b.books.counters.splits_since ≤ cs.splits_since
     → PaidFor shape (c.spent + m) next cs u → InCall shape (count_moves m c) next h r u
-call_step b m next cs u n k since z y left taken taken_since removed_since p = record {
+call_step b m next cs u n k since z y left taken taken_since splits p = record {
   books = record {
     counters = cs;
     n = omega (arith, n, b.books.n);
@@ -76,7 +76,7 @@ call_step b m next cs u n k since z y left taken taken_since removed_since p = r
   };
   taken = omega (arith, b.taken, left, taken);
   taken_since = omega (arith, b.taken_since, taken_since);
-  removed_since = omega (arith, b.removed_since, removed_since);
+  splits_since = omega (arith, b.splits_since, splits);
 }
 
 module _ {shape : ShapeNumbers} {c : TreeCounts} {more h r : ℕ} {t : Sums} (m : ℕ) (u : Sums)
@@ -88,7 +88,7 @@ module _ {shape : ShapeNumbers} {c : TreeCounts} {more h r : ℕ} {t : Sums} (m 
       let a = b.books.paid in
       let p = paid_debt m u is a next f s o in
       call_step b m next b.books.counters u
-      refl refl refl refl refl refl refl refl refl p
+      refl refl refl refl refl refl refl refl (omega arith) p
 
   -- a full buffer of x operations in d blocks, other than the root's
   pub call_full : (x d : ℕ) → SumsLower x t u → SameRoot t u → IsCeil d (payload_of shape) x
@@ -100,7 +100,7 @@ module _ {shape : ShapeNumbers} {c : TreeCounts} {more h r : ℕ} {t : Sums} (m 
       let levels = same_levels b in
       let p = paid_full m u is a x d (call_few b) f s i big (rw levels k) in
       call_step b m more (after_lowering x b.books.counters) u
-      refl refl refl refl refl refl refl refl refl p
+      refl refl refl refl refl refl refl refl (omega arith) p
 
   -- the root's full buffer
   pub call_full_root : SumsLower t.root t u → u.root ≡ 0 → u.blocks ≡ 0
@@ -112,7 +112,7 @@ module _ {shape : ShapeNumbers} {c : TreeCounts} {more h r : ℕ} {t : Sums} (m 
       let levels = same_levels b in
       let p = paid_full_root m u is a (call_few b) f s bl big (rw levels k) in
       call_step b m more (after_lowering t.root b.books.counters) u
-      refl refl refl refl refl refl refl refl refl p
+      refl refl refl refl refl refl refl refl (omega arith) p
 
   -- a buffer of any length, other than the root's
   pub call_thin : (x d : ℕ) → SumsLower x t u → SameRoot t u → IsCeil d (payload_of shape) x
@@ -123,7 +123,7 @@ module _ {shape : ShapeNumbers} {c : TreeCounts} {more h r : ℕ} {t : Sums} (m 
       let p = paid_thin m u is a x d f s i k in
       call_step b m (more + shape.block * thin_debt (wide_of shape))
       (after_lowering x b.books.counters) u
-      refl refl refl refl refl refl refl refl refl p
+      refl refl refl refl refl refl refl refl (omega arith) p
 
   -- the root's buffer of any length, with e moves for the root and its children
   pub call_thin_root : (e : ℕ) → SumsLower t.root t u → u.root ≡ 0 → u.blocks ≡ 0
@@ -133,7 +133,7 @@ module _ {shape : ShapeNumbers} {c : TreeCounts} {more h r : ℕ} {t : Sums} (m 
       let a = b.books.paid in
       let p = paid_thin_root m u is a e f s bl k in
       call_step b m (more + shape.block * (e + 6)) (after_lowering t.root b.books.counters) u
-      refl refl refl refl refl refl refl refl refl p
+      refl refl refl refl refl refl refl refl (omega arith) p
 
   -- a full load, in d blocks, into a leaf of e blocks
   pub call_load : (d e : ℕ) → SumsLoad (wide_of shape * shape.block) t u → SameRoot t u
@@ -145,7 +145,7 @@ module _ {shape : ShapeNumbers} {c : TreeCounts} {more h r : ℕ} {t : Sums} (m 
       let levels = same_levels b in
       let p = paid_load m u is a d e (call_few b) f s i big (rw levels k) in
       call_step b m more (after_loading (wide_of shape * shape.block) b.books.counters) u
-      refl refl refl refl refl refl refl refl refl p
+      refl refl refl refl refl refl refl refl (omega arith) p
 
   -- a load of y operations that owes its moves but for 36 for each operation
   pub call_load_some : (y next : ℕ) → SumsLoad y t u → SameRoot t u
@@ -155,7 +155,7 @@ module _ {shape : ShapeNumbers} {c : TreeCounts} {more h r : ℕ} {t : Sums} (m 
       let a = b.books.paid in
       let p = paid_load_some m u is a y next f s o in
       call_step b m next (after_loading y b.books.counters) u
-      refl refl refl refl refl refl refl refl refl p
+      refl refl refl refl refl refl refl refl (omega arith) p
 
   -- a leaf's split, with all that follows
   pub call_split : (d : ℕ) → SumsSplit (wide_of shape) shape.block t u → SameRoot t u
@@ -167,7 +167,7 @@ module _ {shape : ShapeNumbers} {c : TreeCounts} {more h r : ℕ} {t : Sums} (m 
       let levels = same_levels b in
       let p = paid_split m u is a d (call_few b) f s (rw levels i) (rw levels k) in
       call_step b m more (after_splitting b.books.counters) u
-      refl refl refl refl refl refl refl refl refl p
+      refl refl refl refl refl refl refl refl (omega arith) p
 
   -- g records were handed out
   pub call_take : (g next : ℕ) → SumsTake g t u → SameRoot t u
@@ -185,28 +185,30 @@ module _ {shape : ShapeNumbers} {c : TreeCounts} {more h r : ℕ} {t : Sums} (m 
     };
     taken = omega (arith, b.taken);
     taken_since = omega (arith, b.taken_since);
-    removed_since = b.removed_since;
+    splits_since = b.splits_since;
   }
 
-  -- the end of a leaf's visit, after which the leaf is taken away
+  -- The end of a leaf's visit, after which the leaf is taken away: it was split from another.
   pub call_visit : SumsRemove t u → SameRoot t u
       → shape.block * m + more ≤ shape.block * visit_debt (wide_of shape) (levels_of shape c.k)
-      → InCall shape (count_moves m c) 0 h (r + 1) u
-  call_visit f s o = record {
-    books = record {
-      counters = after_removing b.books.counters;
-      n = b.books.n;
-      k = b.books.k;
-      since = b.books.since;
-      z = b.books.z;
-      y = b.books.y;
-      few = b.books.few;
-      paid = paid_visit m u is b.books.paid (call_few b) f s (rw (same_levels b) o);
-    };
-    taken = b.taken;
-    taken_since = b.taken_since;
-    removed_since = omega (arith, b.removed_since);
-  }
+      → InCall shape (count_moves m c) 0 h 1 u
+  call_visit f s o =
+      let a = b.books.paid.fits in
+      record {
+        books = record {
+          counters = after_removing b.books.counters;
+          n = b.books.n;
+          k = b.books.k;
+          since = b.books.since;
+          z = b.books.z;
+          y = b.books.y;
+          few = b.books.few;
+          paid = paid_visit m u is b.books.paid (call_few b) f s (rw (same_levels b) o);
+        };
+        taken = b.taken;
+        taken_since = b.taken_since;
+        splits_since = omega (arith, a.leaves_are, f.leaves, f.some);
+      }
 
   -- the end of a call that leaves some, with its last g records: it took half of an area or more
   pub call_leave : (g : ℕ) → wide_of shape * shape.block ≤ 2 * (h + g) → SumsTake g t u
@@ -257,13 +259,13 @@ module _ {shape : ShapeNumbers} {c : TreeCounts} {more h r : ℕ} {t : Sums}
     };
     taken = b.taken;
     taken_since = b.taken_since;
-    removed_since = b.removed_since;
+    splits_since = b.splits_since;
   }
 
   split_some : WasSplit r t → 1 ≤ b.books.counters.splits_since
   split_some split =
       let a = b.books.paid.fits in ⊎_elim
-      (λ (k : 1 ≤ r). omega (arith, k, b.removed_since, a.leaves_are, a.leaves_some))
+      (λ (k : 1 ≤ r). omega (arith, k, b.splits_since))
       (λ (k : (2 ≤ t.leaves) ⊎ (2 ≤ t.level)). ⊎_elim
       (λ (more_leaves : 2 ≤ t.leaves). omega (arith, more_leaves, a.leaves_are))
       (λ (high : 2 ≤ t.level). ⊎_elim
@@ -272,6 +274,15 @@ module _ {shape : ShapeNumbers} {c : TreeCounts} {more h r : ℕ} {t : Sums}
       a.level_split)
       k)
       split.some
+
+  -- A leaf was split: so much is known from then on.
+  pub call_known : WasSplit r t → InCall shape c more h 1 t
+  call_known split = record {
+    books = b.books;
+    taken = b.taken;
+    taken_since = b.taken_since;
+    splits_since = split_some split;
+  }
 
   -- The end of a call that leaves nothing, on a tree whose root's buffer is empty. If a leaf was
   -- split since the reset, it may owe a visit.

@@ -1,3 +1,4 @@
+pub mod Backing
 pub mod Books
 pub mod Buffers
 pub mod Ceilings
@@ -26,4 +27,6 @@ pub mod Rows
 pub mod Services
 pub mod Settling
 pub mod Total
+pub mod VisitRows
+pub mod Visits
 pub mod Wider

@@ -29,14 +29,14 @@ pub record KeepsBooks (shape : ShapeNumbers) (c : TreeCounts) (more : ℕ) (t : 
   pub few : c.n < 2 ^ 101
   pub paid : PaidFor shape c.spent more counters t
 
--- The same inside a call that has handed out h records and taken away r leaves so far.
+-- The same inside a call that has handed out h records so far. Since the reset r leaves were split, or more.
 pub record InCall (shape : ShapeNumbers) (c : TreeCounts) (more h r : ℕ) (t : Sums) : Type 0 where
   pub books : KeepsBooks shape c more t
   pub taken : books.counters.left + h ≤ books.counters.taken
   pub taken_since : h ≤ books.counters.taken_since
-  pub removed_since : r ≤ books.counters.removed_since
+  pub splits_since : r ≤ books.counters.splits_since
 
--- A leaf was split since the reset: the call took one away, or two are there, or two levels.
+-- A leaf was split since the reset: it is known, or two are there, or two levels.
 pub record WasSplit (r : ℕ) (t : Sums) : Type 0 where
   pub some : (1 ≤ r) ⊎ (2 ≤ t.leaves) ⊎ (2 ≤ t.level)
 

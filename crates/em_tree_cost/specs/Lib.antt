@@ -12,3 +12,4 @@ pub mod Parts
 pub mod Shares
 pub mod Sizes
 pub mod Spots
+pub mod Visits

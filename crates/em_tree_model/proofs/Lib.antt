@@ -16,3 +16,7 @@ pub mod Least
 pub mod Advances
 pub mod Buffers
 pub mod TreeRows
+pub mod Taking
+pub mod Removal
+pub mod TakingRows
+pub mod Losing

@@ -4,3 +4,4 @@ pub mod Places
 pub mod Pouring
 pub mod Owed
 pub mod Meaning
+pub mod Taking

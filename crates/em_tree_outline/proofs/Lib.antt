@@ -1,2 +1,3 @@
+pub mod FirstLeaves
 pub mod Outlines
 pub mod Pouring
