@@ -241,6 +241,7 @@ module _ {s a : RigState} {new : ℕ} (g : Goes [] s a) (given : Allocates s a n
           });
           frames = same_frames_then s.pool a.pool t.pool g.frames x.moves.goes.frames;
           pays = pays_then before after later;
+          loses = λ z. let taken = given.used in omega (arith, taken, same);
         };
         below = (let b = given.below in let e = g.touches.blocks in omega (arith, b, e));
         is = λ z w. record {

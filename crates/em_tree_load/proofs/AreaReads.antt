@@ -26,6 +26,8 @@ use Rattle.em_chain.proofs.Sessions.{took_then}
 use Rattle.em_chain.proofs.Views.{view_of}
 use Rattle.em_leaf.proofs.Passes.{consumes_none, consumes_one}
 use Rattle.em_tree_load.specs.AreaFills.{FilledArea, PutRead, ReadFirst, ReadsIntoArea, StopsTaken, TakesRead}
+use Rattle.em_tree_load.specs.Paid.{LosesNone}
+use Rattle.em_tree_load.proofs.Losses.{chain_length}
 
 -- One record was read,
 pub read_one : {s t : RigState} {r q : Reader} (x : Record) (o : Option Record) → r.taking ≡ true
@@ -130,7 +132,7 @@ module _ {s a t : RigState} {c : Chain} {r q : Reader} {old area : List Record} 
       let still = session_still (chain_blocks s c) l.sound l.touches (λ z. (is.told z).holds) in
       session_trans (session_as (chain_blocks a (rest_of r)) still o.blocks) h.read.runs.session
 
-  read_length : length (take n area) ≡ n
+  pub read_length : length (take n area) ≡ n
   read_length = let x = h.read.took.left_is in let y = h.left in omega (arith, x, y)
 
   opened_pays : Pays 0 0 s t
@@ -162,6 +164,17 @@ module _ {s a t : RigState} {c : Chain} {r q : Reader} {old area : List Record} 
       omega (arith, w))
       (cases_lt q.count 1)
 
+  -- as many blocks came to be free as the reader left behind
+  opened_loses : {u : RigState} → u.used ≡ t.used → u.device.told ≡ s.device.told
+      → IsChain u (rest_of q) → LosesNone (chain_blocks s c) (chain_blocks u (rest_of q)) s u
+  opened_loses {u} after told left z =
+      let lent = m.same.used in
+      let spent = h.read.runs.spends.used in
+      let words = ap (λ (d : Chain). d.blocks) o.words in
+      let first = chain_length is z in
+      let last = chain_length left (told ∙ z) in
+      omega (arith, after, lent, spent, words, first, last)
+
   -- The area was filled, and the reader ended.
   pub filled_area : {u : RigState} (rest : Chain) → GivesFrame [] t u → Unmoved t u → rest ≡ rest_of q
       → (IsChain t (rest_of q) → ChainStays t u (rest_of q)) → FilledArea s u c area n rest
@@ -185,6 +198,8 @@ module _ {s a t : RigState} {c : Chain} {r q : Reader} {old area : List Record} 
           frames = lent_given s.pool t.pool u.pool (lent_same 1 s.pool a.pool t.pool l.frames
               h.read.runs.frames) g.frames;
           pays = pays_then opened_pays after g.touches.moves;
+          loses = opened_loses {u = u} used (g.touches.told
+              ∙ (h.read.took.told ∙ l.touches.told)) st.is;
         };
         chain = st.is;
         count = omega (arith, k, count);

@@ -26,6 +26,7 @@ use Rattle.em_tree_load.specs.Leaves.{MovesLeaf, StopsLeaf, StoredLeaf}
 use Rattle.em_tree_load.specs.NodeLoads.{CanChange, ChangedLeaf, ChangesLeaf, StopsChanging}
 use Rattle.em_tree_load.specs.Paid.{RunsPaid, StopsPaid}
 use Rattle.em_tree_load.specs.declared.changing.Split.{Split}
+use Rattle.em_tree_load.proofs.Losses.{loses_still}
 use Rattle.em_tree_load.proofs.Payments.{paid_none, paid_part, paid_stops, still_stops, stops_paid_more}
 use Rattle.em_tree_load.proofs.FirstSettles.{tally_refl}
 use Rattle.em_tree_load.proofs.Regions.{SameTally}
@@ -45,6 +46,7 @@ block_moved {s} {t} {k} m u =
       };
       frames = m.goes.frames;
       pays = pays_kept 0 (omega (arith, used)) later;
+      loses = loses_still (k ∷ []) s t used;
     }
 
 -- or couldn't be.

@@ -30,6 +30,7 @@ use Rattle.em_leaf.specs.declared.change.LeafChange.{LeafChange}
 use Rattle.em_tree_load.specs.AreaFills.{FilledArea, StopsAreaFill}
 use Rattle.em_tree_load.specs.LeafSettles.{CanSettleOver, SettledFirst, SettlesOver, StopsSettling, load_count, settling_blocks, settling_moves}
 use Rattle.em_tree_load.specs.Paid.{RunsPaid, StopsPaid}
+use Rattle.em_tree_load.proofs.Losses.{loaded_length, loading_length, loses_runs}
 use Rattle.em_tree_load.proofs.Payments.{paid_none, paid_part, paid_same, paid_stops, stops_paid_more}
 use Rattle.em_tree_load.proofs.Regions.{SameTally, tally_append}
 
@@ -162,6 +163,8 @@ module _ {key : Record → Record} {s t : RigState} {stored buffer rest : Chain}
         session = runs.session;
         frames = runs.frames;
         pays = pays_more runs.spends.pays (omega arith);
+        loses = loses_runs runs (λ z. loading_length after_chain.is after_writer.is z)
+            (λ z. loaded_length leaves answers.wrote.is (runs.session.touches.told ∙ z));
       } in
       let all = paid_part (loading_blocks t stored w) (loaded_blocks u change v) (chain_blocks t rest)
       0 (omega arith) first filled_turn inner in
@@ -187,6 +190,7 @@ module _ {key : Record → Record} {s t : RigState} {stored buffer rest : Chain}
           session = done.session;
           frames = done.frames;
           pays = pays_more done.pays (omega arith);
+          loses = done.loses;
         };
         chain = st.is;
         leaves = leaves;

@@ -1,5 +1,5 @@
 -- A node that may be full, after splits below it: it has room, or is split.
-use Rattle.std.proofs.Common.{◌≡◌, ℕ, suc, ◌+◌, ◌*◌, ◌<◌, ◌≤◌, List, [], ◌∷◌, ◌++◌, drop, get_or, length, take, sym, ap, ◌∙◌, subst, arith, IsTrue, Result, Ok, Err}
+use Rattle.std.proofs.Common.{◌≡◌, ℕ, suc, ◌+◌, ◌*◌, ◌<◌, ◌≤◌, List, [], ◌∷◌, ◌++◌, drop, get_or, length, take, refl, sym, ap, ◌∙◌, subst, arith, IsTrue, Result, Ok, Err}
 use Rattle.std.specs.Prelude.{None, Option, Some}
 use Rattle.std.proofs.Math.Seq.{drop-cons}
 use Rattle.std.proofs.lemmas.List.{length-drop, length-take, take-append-drop}
@@ -196,7 +196,7 @@ stage_split {n} {m} {s} {c} {t} {l} {node} {key} {upper} g x few fewer =
     let back = λ (y : IsTrue c.device.told). (let z : IsTrue s.device.told = sym first.touches.told ∙ y in z) in
     let second : TakesUpTo 1 4 (node ∷ rows) (node ∷ new ∷ rows) c t =
     takes_beside [] (node ∷ []) (node ∷ new ∷ []) rows (λ y. first.holds (back y))
-    (runs_take {n = 1} runs) in
+    (runs_take {n = 1} runs refl refl) in
     let told_back = λ (y : IsTrue t.device.told). (let z : IsTrue s.device.told =
     back (sym runs.session.touches.told ∙ y) in z) in
     record {

@@ -2,6 +2,7 @@ pub mod LeafBlocks
 pub mod Turning
 pub mod AreaReads
 pub mod Regions
+pub mod Losses
 pub mod Payments
 pub mod FirstSettles
 pub mod SettlesAt
@@ -27,3 +28,12 @@ pub mod PathSteps
 pub mod Raised
 pub mod PathEnds
 pub mod SplitAnswers
+pub mod FirstGone
+pub mod GoneNodes
+pub mod FirstWays
+pub mod AreaFroms
+pub mod TakenLeaves
+pub mod InPlace
+pub mod LoweredWays
+pub mod GoneWays
+pub mod FirstTaken

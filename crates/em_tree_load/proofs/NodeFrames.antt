@@ -131,6 +131,7 @@ runs_back {s} {t} {held} {ks} free areas sound r =
       };
       frames = frames_back s t free areas r.frames;
       pays = record { is = r.pays.is };
+      loses = λ z. r.loses z;
     }
 
 cause_back : (s t : RigState) (e : EmFault) → Cause (both_lent s) t e → Cause s (both_given t) e

@@ -361,6 +361,7 @@ module _ {key : Record → Record} {s m t : RigState} {node i leaf : ℕ} {w v :
         session = all.session;
         frames = all.frames;
         pays = pays_more all.pays (omega arith);
+        loses = all.loses;
       }
 
   -- A leaf's block with its chain, as a tree asks it.

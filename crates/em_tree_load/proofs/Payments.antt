@@ -10,6 +10,7 @@ use Rattle.em_space.proofs.Sessions.{session_none, session_still, session_trans}
 use Rattle.em_space.proofs.Steps.{cause_after, same_frames, same_frames_then}
 use Rattle.em_space.proofs.Within.{goes_wider, goes_within, within_none}
 use Rattle.em_tree_load.specs.Paid.{RunsPaid, StopsPaid}
+use Rattle.em_tree_load.proofs.Losses.{loses_beside, loses_same, loses_still, loses_then, loses_whole}
 use Rattle.em_tree_load.proofs.Regions.{SameTally, goes_same, off_same, session_from, session_part, session_same}
 
 -- nothing was done
@@ -19,6 +20,7 @@ paid_none s ks n h v = record {
   session = session_none s ks h v;
   frames = same_frames s.pool;
   pays = pays_kept n (omega arith) (omega arith);
+  loses = loses_still ks s s refl;
 }
 
 pub paid_goes : {held ks : List ℕ} {m n : ℕ} {s t : RigState} → RunsPaid held ks m n s t
@@ -33,19 +35,21 @@ paid_goes h = record {
 pub paid_same : {held ks : List ℕ} {m n : ℕ} {s t : RigState} (js : List ℕ)
     → RunsPaid held ks m n s t → (IsTrue s.device.told → SameTally ks js)
     → RunsPaid held js m n s t
-paid_same js h e = record {
+paid_same {held} {ks} {s = s} {t = t} js h e = record {
   session = session_same js h.session e;
   frames = h.frames;
   pays = h.pays;
+  loses = loses_same held ks js s t h.loses e;
 }
 
 pub paid_from : {held ks : List ℕ} {m n : ℕ} {s t : RigState} (gs : List ℕ)
     → RunsPaid held ks m n s t → (IsTrue s.device.told → SameTally gs held)
     → RunsPaid gs ks m n s t
-paid_from gs h e = record {
+paid_from {held} {ks} {s = s} {t = t} gs h e = record {
   session = session_from gs h.session e;
   frames = h.frames;
   pays = h.pays;
+  loses = loses_whole held gs ks s t h.loses e;
 }
 
 -- A call on some of the blocks, of which a weren't stored before and b aren't after it,
@@ -53,12 +57,14 @@ pub paid_part : {held whole : List ℕ} {m n a b : ℕ} {s t u : RigState} (ks j
     (x : ℕ) → n ≡ a + x → RunsPaid held whole m n s t
     → (IsTrue s.device.told → SameTally whole (ks ++ rest)) → RunsPaid ks js a b t u
     → RunsPaid held (js ++ rest) m (b + x) s u
-paid_part {n = n} {a = a} {b = b} {s = s} {t = t} {u = u} ks js rest x few h e g = record {
+paid_part {held} {whole} {n = n} {a = a} {b = b} {s = s} {t = t} {u = u} ks js rest x few h e g = record {
   session = session_part ks js rest h.session e g.session;
   frames = same_frames_then s.pool t.pool u.pool h.frames g.frames;
   pays =
       let more : Pays n (b + x) t u = pays_more g.pays (omega (arith, few)) in
       pays_then h.pays more g.session.touches.moves;
+  loses = loses_then held (ks ++ rest) (js ++ rest) s t u h.session.touches.told
+      (loses_same held whole (ks ++ rest) s t h.loses e) (loses_beside [] ks js rest t u g.loses);
 }
 
 -- and one that gave up.
@@ -93,20 +99,23 @@ stops_paid_more {m = m} {n = n} gs p few h e = record {
 -- A call that changes no block,
 pub paid_still : {s r : RigState} (ks : List ℕ) (n : ℕ) → Goes [] s r → r.used ≡ s.used
     → (IsTrue s.device.told → Holds s ks) → RunsPaid ks ks n n s r
-paid_still ks n g used v = record {
+paid_still {s} {r} ks n g used v = record {
   session = session_still ks g.sound g.touches v;
   frames = g.frames;
   pays = let later = g.touches.moves in pays_kept n (omega (arith, used)) later;
+  loses = loses_still ks s r used;
 }
 
 -- and one on the same blocks after it.
 pub paid_then : {held ks js : List ℕ} {m n p : ℕ} {s t u : RigState} (gs : List ℕ)
     → RunsPaid held ks m n s t → (IsTrue s.device.told → SameTally ks gs)
     → RunsPaid gs js n p t u → RunsPaid held js m p s u
-paid_then {s = s} {t = t} {u = u} gs h e g = record {
+paid_then {held} {ks} {js} {s = s} {t = t} {u = u} gs h e g = record {
   session = session_trans (session_same gs h.session e) g.session;
   frames = same_frames_then s.pool t.pool u.pool h.frames g.frames;
   pays = pays_then h.pays g.pays g.session.touches.moves;
+  loses = loses_then held gs js s t u h.session.touches.told (loses_same held ks gs s t h.loses e)
+      g.loses;
 }
 
 pub paid_then_stops : {held ks : List ℕ} {m n p : ℕ} {s t u : RigState} {fault : EmFault}

@@ -29,6 +29,7 @@ use Rattle.em_tree_load.specs.NodeLoads.{LoadedHere}
 use Rattle.em_tree_load.specs.Paid.{RunsPaid, StopsPaid}
 use Rattle.em_tree_load.specs.declared.changing.Split.{Split}
 use Rattle.em_tree_load.proofs.AreaReads.{tight_most}
+use Rattle.em_tree_load.proofs.Losses.{frees_length, loses_same}
 use Rattle.em_tree_load.proofs.Kept.{NodeStands, node_entries, node_formed, node_stands}
 use Rattle.em_tree_load.proofs.Payments.{paid_part, paid_same, paid_stops}
 use Rattle.em_tree_load.proofs.PouredNodes.{PoursNode, beside_pour, over_leaves, node_poured, pour_apart, poured_last, pouring_first, reached_most}
@@ -45,6 +46,7 @@ loaded_whole x = record {
   session = x.runs.session;
   frames = x.runs.frames;
   pays = x.runs.pays;
+  loses = x.runs.loses;
   wrote = x.wrote;
   told = λ z. let o = x.told z in record {
     load = o.load;
@@ -150,16 +152,20 @@ module _ {key : Record → Record} {step : Option Record → Record → Step} {s
   pub loaded_cut : x.rest.count ≡ 0 → LoadedLeaf key step s t node i w v (Some x.low)
   loaded_cut none =
       let whole = loading_over t node v in
+      let alone : IsTrue s.device.told → SameTally (chain_blocks t x.rest ++ whole) whole =
+      λ z.
+      let b = none_left t x.rest (view_of t x.rest h.chain) (on_told z) none in
+      let e : chain_blocks t x.rest ≡ [] =
+      ap (λ (n : ℕ). linked_from n t.device.contents x.rest.head) b in
+      let P : List ℕ → Type 0 = λ ks. SameTally (ks ++ whole) whole in
+      subst P (sym e) (λ j. refl) in
       record {
         given = h.given;
-        session = session_same whole h.runs.session (λ z.
-            let b = none_left t x.rest (view_of t x.rest h.chain) (on_told z) none in
-            let e : chain_blocks t x.rest ≡ [] =
-            ap (λ (n : ℕ). linked_from n t.device.contents x.rest.head) b in
-            let P : List ℕ → Type 0 = λ ks. SameTally (ks ++ whole) whole in
-            subst P (sym e) (λ j. refl));
+        session = session_same whole h.runs.session alone;
         frames = h.runs.frames;
         pays = h.runs.pays;
+        loses = loses_same (loading_over s node w) (chain_blocks t x.rest ++ whole) whole s t
+            h.runs.loses alone;
         wrote = h.wrote;
         told = λ z.
             let o = h.told z in
@@ -224,6 +230,7 @@ module _ {key : Record → Record} {step : Option Record → Record → Step} {s
           session = done.session;
           frames = done.frames;
           pays = done.frees.pays;
+          loses = frees_length done h.chain (λ y. (over_here y).buffers);
         } in
         let all = paid_part given (node_blocks u node) (beside_pour t node v) (min v.blocks 1)
         (omega arith) h.runs (λ z. pouring_first t node x.rest v) inner in
@@ -234,6 +241,7 @@ module _ {key : Record → Record} {step : Option Record → Record → Step} {s
           session = same.session;
           frames = same.frames;
           pays = pays_more same.pays (omega arith);
+          loses = same.loses;
         }
 
     -- The rest was poured.
@@ -246,6 +254,7 @@ module _ {key : Record → Record} {step : Option Record → Record → Step} {s
           session = r.session;
           frames = r.frames;
           pays = r.pays;
+          loses = r.loses;
           wrote = subst W (append-nil h.given) (wrote_then h.given [] h.wrote
               (wrote_stays done.session.touches.told answers_kept));
           told = λ z.

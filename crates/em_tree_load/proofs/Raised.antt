@@ -194,7 +194,7 @@ raised {s} {c} {t} {l} {node} {new} {key} {upper} i most x g =
     new_root first.sound (on z) x.leads x.upper_leads d.formed d.upper_formed fresh g) in
     let blocks = tree_blocks (suc l) c node ++ tree_blocks (suc l) c up in
     let second : TakesUpTo 1 3 blocks (new ∷ blocks) c t =
-    takes_beside [] [] (new ∷ []) blocks (λ y. first.holds (back y)) (runs_take {n = 0} g.runs) in
+    takes_beside [] [] (new ∷ []) blocks (λ y. first.holds (back y)) (runs_take {n = 0} g.runs refl refl) in
     record {
       takes = takes_as (tree_blocks (suc (suc l)) t new)
           (takes_wider (suc l + 1) (7 * suc l + 4) (omega arith) (omega arith)

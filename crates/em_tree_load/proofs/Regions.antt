@@ -1,8 +1,9 @@
 -- Lists of block numbers, whatever their order.
-use Rattle.std.proofs.Common.{◌≡◌, ℕ, ◌+◌, ◌<◌, ◌≤◌, List, [], ◌∷◌, ◌++◌, refl, sym, ap, subst, arith, IsTrue, Bool, true, false, ⊎_elim}
+use Rattle.std.proofs.Common.{◌≡◌, ℕ, ◌+◌, ◌<◌, ◌≤◌, List, [], ◌∷◌, ◌++◌, length, refl, sym, ap, subst, arith, IsTrue, Bool, true, false, ⊎_elim}
 use Rattle.std.proofs.Math.Dec.{eqb}
 use Rattle.std.proofs.lemmas.Bool.{eq-eqb}
 use Rattle.std.proofs.lemmas.Bool.Decides.{eqb_tells}
+use Rattle.std.proofs.lemmas.List.{length-append}
 use Rattle.em_space.specs.Free.{AreDistinct, Off}
 use Rattle.em_space.specs.Held.{AllInUse, Holds}
 use Rattle.em_space.specs.Ledger.{Session}
@@ -28,6 +29,46 @@ SameTally xs ys = (j : ℕ) → tally j xs ≡ tally j ys
 pub tally_append : (j : ℕ) (xs ys : List ℕ) → tally j (xs ++ ys) ≡ tally j xs + tally j ys
 tally_append j [] ys = omega arith
 tally_append j (x ∷ xs) ys = let h = tally_append j xs ys in omega (arith, h)
+
+-- A number of a list, and what stands before and after it.
+record Cut (j : ℕ) (ys : List ℕ) : Type 0 where
+  pub front : List ℕ
+  pub back : List ℕ
+  pub is : ys ≡ front ++ (j ∷ back)
+
+tally_cut : (j : ℕ) (ys : List ℕ) → 0 < tally j ys → Cut j ys
+tally_cut j [] h = absurd (omega (arith, h))
+tally_cut j (y ∷ ys) h = ⊎_elim
+    (λ t. record { front = []; back = ys; is = ap (λ (k : ℕ). k ∷ ys) (sym t.1) })
+    (λ f.
+    let e = ap hit f.0 in
+    let c = tally_cut j ys (omega (arith, e, h)) in
+    record { front = y ∷ c.front; back = c.back; is = ap (λ (ks : List ℕ). y ∷ ks) c.is })
+    (eqb_tells j y)
+
+-- Lists of the same numbers have one length.
+pub tally_length : (xs ys : List ℕ) → SameTally xs ys → length xs ≡ length ys
+tally_length [] [] e = refl
+tally_length [] (y ∷ ys) e =
+    let a = e y in
+    let h = ap hit (eq-eqb y y refl) in
+    absurd (omega (arith, a, h))
+tally_length (x ∷ xs) ys e =
+    let a = e x in
+    let h = ap hit (eq-eqb x x refl) in
+    let c = tally_cut x ys (omega (arith, a, h)) in
+    let rest : SameTally xs (c.front ++ c.back) =
+    λ j.
+    let b = e j in
+    let w = ap (tally j) c.is in
+    let p = tally_append j c.front (x ∷ c.back) in
+    let q = tally_append j c.front c.back in
+    omega (arith, b, w, p, q) in
+    let n = tally_length xs (c.front ++ c.back) rest in
+    let m = ap (λ (ks : List ℕ). length ks) c.is in
+    let k = length-append c.front (x ∷ c.back) in
+    let l = length-append c.front c.back in
+    omega (arith, n, m, k, l)
 
 off_tally : (j : ℕ) (ks : List ℕ) → Off j ks → tally j ks ≡ 0
 off_tally j [] o = refl

@@ -1,5 +1,6 @@
 -- Calls that take a few blocks and store them: one after another, and beside other blocks.
-use Rattle.std.proofs.Common.{◌≡◌, ℕ, ◌+◌, ◌<◌, ◌≤◌, List, [], ◌∷◌, ◌++◌, sym, arith, IsTrue}
+use Rattle.std.proofs.Common.{◌≡◌, ℕ, ◌+◌, ◌<◌, ◌≤◌, List, [], ◌∷◌, ◌++◌, length, sym, arith, IsTrue}
+use Rattle.std.proofs.lemmas.List.{length-append}
 use Rattle.em_space.specs.Free.{AreDistinct, Off}
 use Rattle.em_space.specs.Held.{AllInUse, Holds}
 use Rattle.em_space.specs.Ledger.{Runs, Session, Stops}
@@ -14,6 +15,7 @@ use Rattle.em_space.proofs.Steps.{block_cause, cause_after, same_frames_then, to
 use Rattle.em_space.proofs.Within.{goes_wider, goes_within, within_same}
 use Rattle.em_balance.specs.Effects.{owing}
 use Rattle.em_tree_load.specs.SplitPaths.{StopsUpTo, TakesUpTo}
+use Rattle.em_tree_load.proofs.Losses.{loses_as, loses_beside, loses_from, loses_still, loses_then}
 use Rattle.em_tree_walk.specs.Reads.{ReadsOnly, StopsReading}
 use Rattle.em_tree_walk.specs.Taken.{StopsTaking, StoresNode}
 
@@ -34,31 +36,34 @@ takes_then {n} {m} {k} {j} {held} {ks} {js} {s} {t} {u} x y =
       most = omega arith;
       moves = omega arith;
       pays = pays_then x.pays y.pays y.session.touches.moves;
+      loses = loses_then held ks js s t u x.session.touches.told x.loses y.loses;
     }
 
 -- A call on one of several values.
 pub takes_beside : {n m : ℕ} {s t : RigState} (xs ks js ys : List ℕ)
     → (IsTrue s.device.told → Holds s (xs ++ (ks ++ ys))) → TakesUpTo n m ks js s t
     → TakesUpTo n m (xs ++ (ks ++ ys)) (xs ++ (js ++ ys)) s t
-takes_beside xs ks js ys h x = record {
+takes_beside {s = s} {t = t} xs ks js ys h x = record {
   session = session_beside xs ks js ys h x.session;
   frames = x.frames;
   used = x.used;
   most = x.most;
   moves = x.moves;
   pays = x.pays;
+  loses = loses_beside xs ks js ys s t x.loses;
 }
 
 -- the same blocks, if the device tells
 pub takes_as : {n m : ℕ} {held ks : List ℕ} {s t : RigState} (js : List ℕ)
     → TakesUpTo n m held ks s t → (IsTrue s.device.told → js ≡ ks) → TakesUpTo n m held js s t
-takes_as js x e = record {
+takes_as {held = held} {ks = ks} {s = s} {t = t} js x e = record {
   session = session_as js x.session e;
   frames = x.frames;
   used = x.used;
   most = x.most;
   moves = x.moves;
   pays = x.pays;
+  loses = loses_as held ks js s t x.loses e;
 }
 
 -- the same blocks before it
@@ -73,13 +78,14 @@ session_from {held} {ks} {s} {t} hs h e = record {
 
 pub takes_from : {n m : ℕ} {held ks : List ℕ} {s t : RigState} (hs : List ℕ)
     → TakesUpTo n m held ks s t → (IsTrue s.device.told → hs ≡ held) → TakesUpTo n m hs ks s t
-takes_from hs x e = record {
+takes_from {held = held} {ks = ks} {s = s} {t = t} hs x e = record {
   session = session_from hs x.session e;
   frames = x.frames;
   used = x.used;
   most = x.most;
   moves = x.moves;
   pays = x.pays;
+  loses = loses_from held hs ks s t x.loses e;
 }
 
 pub takes_wider : {n m : ℕ} {held ks : List ℕ} {s t : RigState} (k j : ℕ) → n ≤ k → m ≤ j
@@ -95,6 +101,7 @@ takes_wider {n} {m} {held} {ks} {s} {t} k j less lesser x =
       most = omega arith;
       moves = omega arith;
       pays = x.pays;
+      loses = x.loses;
     }
 
 -- a block at another place of the list
@@ -132,6 +139,11 @@ takes_moved {n} {m} {held} {s} {t} k xs ys x = record {
   most = x.most;
   moves = x.moves;
   pays = x.pays;
+  loses = λ z.
+      let a = x.loses z in
+      let n = length-append xs ys in
+      let m = length-append xs (k ∷ ys) in
+      omega (arith, a, n, m);
 }
 
 -- The last call gave up.
@@ -217,6 +229,7 @@ reads_take {n} {s} {t} ks h r =
       most = omega arith;
       moves = r.moves;
       pays = pays_kept 0 (omega arith) later;
+      loses = loses_still ks s t used;
     }
 
 -- or couldn't be,
@@ -260,6 +273,7 @@ store_takes {s} {t} {k} u x =
       most = omega arith;
       moves = x.moves;
       pays = pays_kept 0 (omega arith) later;
+      loses = loses_still (k ∷ []) s t used;
     }
 
 -- or couldn't be.
@@ -281,8 +295,9 @@ store_stops {s} {t} {k} {e} x =
 
 -- A block more was taken, as a ledger says it,
 pub runs_take : {n m : ℕ} {held ks : List ℕ} {s t : RigState}
-    → Runs (n + 1) held ks (owing n m) (owing (n + 1) 0) s t → TakesUpTo 1 m held ks s t
-runs_take {n} {m} {held} {ks} {s} {t} r =
+    → Runs (n + 1) held ks (owing n m) (owing (n + 1) 0) s t → length held ≡ n → length ks ≡ n + 1
+    → TakesUpTo 1 m held ks s t
+runs_take {n} {m} {held} {ks} {s} {t} r before after =
     let used = r.spends.used in
     let most = r.spends.most in
     let moves = r.spends.moves in
@@ -293,6 +308,7 @@ runs_take {n} {m} {held} {ks} {s} {t} r =
       most = omega arith;
       moves = omega arith;
       pays = r.spends.pays;
+      loses = λ z. omega (arith, used, before, after);
     }
 
 room_by : (n : ℕ) (s t : RigState) (e : EmFault) → t.blocks ≡ s.blocks → Cause s t e

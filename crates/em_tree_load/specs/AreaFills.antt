@@ -1,8 +1,8 @@
 -- The first records of a buffer, read into an area.
-use Rattle.std.specs.Prelude.{◌≡◌, true, ℕ, ◌+◌, ◌*◌, ◌≤◌, List, [], ◌∷◌, ◌++◌, length, set, take, IsTrue, Result, Ok, Err}
+use Rattle.std.specs.Prelude.{◌≡◌, true, ℕ, ◌+◌, ◌*◌, ◌<◌, ◌≤◌, List, [], ◌∷◌, ◌++◌, drop, length, set, take, IsTrue, Result, Ok, Err}
 use Rattle.em_record.specs.declared.record.Record.{Record}
 use Rattle.em_space.specs.Ledger.{Runs, Stops}
-use Rattle.em_space.specs.Rig.{RigState}
+use Rattle.em_space.specs.Rig.{BlockCause, RigState}
 use Rattle.em_space.specs.declared.fault.EmFault.{EmFault}
 use Rattle.em_chain.specs.Chain.{IsChain, IsTight, chain_blocks, chain_items, payload_in}
 use Rattle.em_chain.specs.Counts.{ceiling}
@@ -69,3 +69,25 @@ pub record StopsAreaFill (s t : RigState) (buffer : Chain) (fault : EmFault) : T
 abbrev pub FillsArea : RigState → RigState → Chain → List Record → ℕ → Result Chain EmFault → Type 0
 FillsArea s t buffer area n (Ok rest) = FilledArea s t buffer area n rest
 FillsArea s t buffer area n (Err fault) = StopsAreaFill s t buffer fault
+
+-- The same in an area from a place on: what stood before it stays. Each block that was left over was
+-- released, by two moves at most for each that the chain had.
+pub record FilledFrom (s t : RigState) (buffer : Chain) (old new : List Record) (from n : ℕ)
+    (rest : Chain) : Type 0 where
+  pub filled : FilledArea s t buffer (drop from new) n rest
+  pub kept : take from new ≡ take from old
+  pub used : t.used + buffer.blocks ≡ s.used + rest.blocks
+  pub place : IsTrue s.device.told → IsTight s buffer → 0 < rest.count
+      → rest.skip + payload_in s * buffer.blocks ≡ buffer.skip + n + payload_in s * rest.blocks
+  pub most : t.moves ≤ s.moves + 2 * buffer.blocks
+
+-- They couldn't be read. No block was needed.
+pub record StopsFillFrom (s t : RigState) (buffer : Chain) (fault : EmFault) : Type 0 where
+  pub fill : StopsAreaFill s t buffer fault
+  pub cause : BlockCause s t fault
+
+-- what that did, by its result
+abbrev pub FillsFrom : RigState → RigState → Chain → List Record → List Record → ℕ → ℕ
+    → Result Chain EmFault → Type 0
+FillsFrom s t buffer old new from n (Ok rest) = FilledFrom s t buffer old new from n rest
+FillsFrom s t buffer old new from n (Err fault) = StopsFillFrom s t buffer fault

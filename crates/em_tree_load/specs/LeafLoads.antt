@@ -30,6 +30,7 @@ use Rattle.em_tree_blocks.specs.Node.{buffer_of, linked_block}
 use Rattle.em_tree_blocks.specs.Reading.{entries_at, leaf_items, stored_chain, tree_at, tree_blocks}
 use Rattle.em_tree_walk.specs.Stands.{StandsAt}
 use Rattle.em_tree_load.specs.Forms.{AreFormed}
+use Rattle.em_tree_load.specs.Paid.{LosesNone}
 use Rattle.em_tree_walk.specs.Lows.{LowsKeep}
 
 -- the entry at a place of the node in a block
@@ -152,6 +153,7 @@ pub record LoadedLeaf (key : Record → Record) (step : Option Record → Record
   pub session : Session (loading_over s node w) s t (loading_over t node v)
   pub frames : SameFrames s.pool t.pool
   pub pays : Pays (min w.blocks 1) (min v.blocks 1) s t
+  pub loses : LosesNone (loading_over s node w) (loading_over t node v) s t
   pub wrote : Wrote s t w v given
   pub told : IsTrue s.device.told → SettlesLoad key step s t node i new given
 

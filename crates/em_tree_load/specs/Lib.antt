@@ -10,3 +10,7 @@ pub mod Turns
 pub mod SplitPaths
 pub mod Releases
 pub mod NodeLoads
+pub mod FirstLeaves
+pub mod LeafTakes
+pub mod Removals
+pub mod RemovalSteps

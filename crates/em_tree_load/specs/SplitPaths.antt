@@ -20,6 +20,7 @@ use Rattle.em_tree_blocks.specs.Reading.{entries_at, tree_at, tree_blocks}
 use Rattle.em_balance.specs.Effects.{GrownOver, SplitAt, StopsSplit}
 use Rattle.em_balance.specs.Node.{CanGrowUp, CanSplit, IsFreshEntry}
 use Rattle.em_tree_load.specs.Forms.{AreFormed}
+use Rattle.em_tree_load.specs.Paid.{LosesNone}
 use Rattle.em_tree_load.specs.PathSplit.{PathSplit, row_length}
 use Rattle.em_tree_load.specs.declared.splitting.Root.{Root}
 use Rattle.em_tree_walk.specs.Stands.{LeadsToTree}
@@ -77,6 +78,7 @@ pub record TakesUpTo (n m : ℕ) (held ks : List ℕ) (s t : RigState) : Type 0 
   pub most : t.most ≤ max s.most (s.used + n)
   pub moves : t.moves ≤ s.moves + m
   pub pays : Pays 0 0 s t
+  pub loses : LosesNone held ks s t
 
 -- Such calls, of which the last one gave up: one block at most isn't stored. They were full only if
 -- fewer than n blocks were free.

@@ -1,11 +1,11 @@
 //! The first records of a buffer, read into an area; the rest stays a chain.
 
-ghost use Rattle.std.specs.Prelude.{◌≡◌, ◌<◌, ◌≤◌, length, set, true};
+ghost use Rattle.std.specs.Prelude.{◌≡◌, ◌+◌, ◌<◌, ◌≤◌, drop, length, set, take, true};
 ghost use Rattle.em_space.specs.Rig.{Sound};
 ghost use Rattle.em_space.specs.Seen.{seen};
 ghost use Rattle.em_chain.specs.Chain.{IsChain};
 ghost use Rattle.em_chain.specs.Reader.{IsReader, ReaderHasFrame};
-ghost use Rattle.em_tree_load.specs.AreaFills.{FillsArea, PutsRead, ReadsIntoArea};
+ghost use Rattle.em_tree_load.specs.AreaFills.{FillsArea, FillsFrom, PutsRead, ReadsIntoArea};
 
 use em_chain::{Chain, Reader};
 use em_frames::{Area, Device};
@@ -28,8 +28,28 @@ pub(crate) fn fill_area<D: Device>(
     ensures fills { FillsArea (seen D.state rig.old) (seen D.state rig.new) buffer area.new count
         result }
 {
+    fill_from(rig, buffer, area, 0, count)
+}
+
+/// The same from a place of the area on. What stands before that place stays.
+pub(crate) fn fill_from<D: Device>(
+    rig: &mut Rig<'_, D>,
+    buffer: Chain,
+    area: &mut Area,
+    from: usize,
+    count: usize,
+) -> Result<Chain, EmFault>
+    requires sound { Sound (seen D.state rig.old) }
+    requires chain { IsChain (seen D.state rig.old) buffer }
+    requires few { count ≤ buffer.count }
+    requires room { from + count ≤ length area.old }
+    requires free { 1 < (seen D.state rig.old).pool.free }
+    ensures len { length area.new ≡ length area.old }
+    ensures fills { FillsFrom (seen D.state rig.old) (seen D.state rig.new) buffer area.old area.new
+        from count result }
+{
     let mut reader = Reader::taking(rig, buffer);
-    match read_into(rig, &mut reader, area, count) {
+    match read_into(rig, &mut reader, area, from, count) {
         Ok(()) => Ok(reader.end(rig)),
         Err(fault) => {
             reader.abandon(rig);
@@ -43,54 +63,59 @@ fn read_into<D: Device>(
     rig: &mut Rig<'_, D>,
     reader: &mut Reader,
     area: &mut Area,
+    from: usize,
     count: usize,
 ) -> Result<(), EmFault>
     requires sound { Sound (seen D.state rig.old) }
     requires is { IsReader (seen D.state rig.old) reader.old }
     requires taking { reader.old.taking ≡ true }
     requires few { count ≤ reader.old.count }
-    requires room { count ≤ length area.old }
+    requires room { from + count ≤ length area.old }
     requires free { 0 < (seen D.state rig.old).pool.free }
     ensures frame { ReaderHasFrame (seen D.state rig.new) reader.new }
     ensures len { length area.new ≡ length area.old }
+    ensures kept { take from area.new ≡ take from area.old }
     ensures reads { ReadsIntoArea (seen D.state rig.old) (seen D.state rig.new) reader.old reader.new
-        area.old area.new count result }
+        (drop from area.old) (drop from area.new) count result }
 {
     for place in 0..count {
-        read_to(rig, reader, area, place)?;
+        read_to(rig, reader, area, from, place)?;
     }
     Ok(())
 }
 
-/// Reads the next record to a place of an area.
+/// Reads the next record to a place of an area, counted from another place on.
 fn read_to<D: Device>(
     rig: &mut Rig<'_, D>,
     reader: &mut Reader,
     area: &mut Area,
+    from: usize,
     place: usize,
 ) -> Result<(), EmFault>
     requires sound { Sound (seen D.state rig.old) }
     requires is { IsReader (seen D.state rig.old) reader.old }
     requires taking { reader.old.taking ≡ true }
     requires some { 0 < reader.old.count }
-    requires room { place < length area.old }
+    requires room { from + place < length area.old }
     requires free { 0 < (seen D.state rig.old).pool.free }
     ensures frame { ReaderHasFrame (seen D.state rig.new) reader.new }
     ensures len { length area.new ≡ length area.old }
+    ensures kept { take from area.new ≡ take from area.old }
     ensures puts { PutsRead (seen D.state rig.old) (seen D.state rig.new) reader.old reader.new
-        area.old area.new place result }
+        (drop from area.old) (drop from area.new) place result }
 {
     let Some(item) = reader.next(rig)? else {
         unreachable!()
     };
-    put_item(area, place, item);
+    put_item(area, from, place, item);
     Ok(())
 }
 
-/// Puts a record to a place of an area.
-fn put_item(area: &mut Area, place: usize, item: Record)
-    requires { place < length area.old }
-    ensures { area.new ≡ set area.old place item }
+/// Puts a record to a place of an area, counted from another place on.
+fn put_item(area: &mut Area, from: usize, place: usize, item: Record)
+    requires { from + place < length area.old }
+    ensures { area.new ≡ set area.old (from + place) item }
 {
-    area.records_mut()[place] = item;
+    let at = from.min(area.records().len()) + place;
+    area.records_mut()[at] = item;
 }

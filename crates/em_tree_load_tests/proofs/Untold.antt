@@ -6,7 +6,12 @@ use Rattle.em_space.specs.Rig.{RigState, InUse, Touches}
 use Rattle.em_space.proofs.Held.{in_use_kept}
 use Rattle.em_chain.specs.Writer.{IsWriter}
 use Rattle.em_chain.specs.declared.writer.Writer.{Writer}
+use Rattle.em_chain.specs.declared.chain.Chain.{Chain}
+use Rattle.em_leaf.specs.Leaf.{IsLeafChain}
+use Rattle.em_tree_load.specs.FirstLeaves.{CanFindFirst}
 use Rattle.em_tree_load.specs.LeafLoads.{CanLoadLeaf}
+use Rattle.em_tree_load.specs.LeafTakes.{CanTakeLeaf}
+use Rattle.em_tree_load.specs.Removals.{CanRemoveFirst}
 use Rattle.em_tree_load.specs.Releases.{CanRelease}
 use Rattle.em_tree_load.specs.SplitPaths.{CanSplitUp}
 use Rattle.em_tree_load.specs.declared.splitting.Root.{Root}
@@ -52,3 +57,15 @@ can_release_untold {s} level k e u = record {
 pub can_load_untold : {key : Record → Record} {s : RigState} (node i : ℕ) (w : Writer)
     → s.device.told ≡ false → InUse s node → IsWriter s w → CanLoadLeaf key s node i w
 can_load_untold {key} {s} node i w e u is = record { in_use = u; writer = is; told = never e }
+
+pub can_find_untold : {s : RigState} (level k : ℕ) → s.device.told ≡ false → InUse s k
+    → CanFindFirst s level k
+can_find_untold {s} level k e u = record { leads = leads_untold level k e u; few = never e }
+
+pub can_take_untold : {s : RigState} (leaf : ℕ) (stored : Chain) → s.device.told ≡ false
+    → InUse s leaf → IsLeafChain s stored → CanTakeLeaf s leaf stored
+can_take_untold {s} leaf stored e u is = record { in_use = u; chain = is; told = never e }
+
+pub can_remove_untold : {s : RigState} (level k : ℕ) → s.device.told ≡ false → InUse s k
+    → CanRemoveFirst s level k
+can_remove_untold {s} level k e u = record { leads = leads_untold level k e u; told = never e }

@@ -2,6 +2,8 @@
 #![tactic(auto)]
 
 #[cfg(test)]
+mod firsts;
+#[cfg(test)]
 mod loads;
 #[cfg(test)]
 mod releases;

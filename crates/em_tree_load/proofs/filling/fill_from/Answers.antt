@@ -1,0 +1,16 @@
+use Rattle.em_tree_load.proofs.AreaFroms.{filled_from, stops_fill}
+use Rattle.em_tree_load.proofs.filling.fill_from.Goals as goal
+
+pub returns-in-Ok-clause-fills : goal.returns-in-Ok-clause-fills
+returns-in-Ok-clause-fills g c =
+    let o = c.taking-reader.ensures in
+    let e = c.end.ensures in
+    let r = c.in-Ok.ensures in
+    filled_from c.args.from c.args.count c.end.result c.requires.sound c.requires.chain o.lends
+    o.unmoved o.opens r.reads r.kept e.gives e.unmoved e.words e.stays
+
+pub returns-in-Err-clause-fills : goal.returns-in-Err-clause-fills
+returns-in-Err-clause-fills g c =
+    let o = c.taking-reader.ensures in
+    let e = c.abandon.ensures in
+    stops_fill c.requires.chain o.lends o.unmoved o.opens c.in-Err.ensures.reads e.gives e.unmoved
