@@ -91,6 +91,7 @@ is_new {s = s} {t = t} b e n =
         pushed = ap (λ (c : TreeCounts). c.n) n.counts ∙ sym e;
         few = omega (arith, e);
         unsettled = ap (λ (c : TreeCounts). c.y) n.counts;
+        unreset = ap (λ (c : TreeCounts). c.z) n.counts;
         waits = λ told. subst (λ k. WaitsUpTo k model) (sym e)
             (no_numbers model (is told) (n.stored (back told)) (n.waiting (back told)));
       };
@@ -112,6 +113,9 @@ module _ {s t : RigState} (b d : Batch) (is : IsBatch s b)
   none_settled : (trunk_of d).settled ≡ 0
   none_settled = ap (λ (z : TreeCounts). z.y) c.counts ∙ is.unsettled
 
+  none_reset : (trunk_of d).resets ≡ 0
+  none_reset = ap (λ (z : TreeCounts). z.z) c.counts ∙ is.unreset
+
   longest_more : (trunk_of d).longest ≤ (trunk_of b).pushed + 1
   longest_more =
       let e : (trunk_of d).longest ≡ max (trunk_of b).longest ((trunk_of b).since + 1) =
@@ -126,9 +130,10 @@ module _ {s t : RigState} (b d : Batch) (is : IsBatch s b)
         calls = e;
         tree = c;
         share = λ told. subst (λ n. (trunk_of d).spent ≤ batch_share s.pool.shape n) now
-            (within_batch s.pool.shape (trunk_of d).pushed (trunk_of d).longest (trunk_of d).settled
-            (trunk_of d).spent sound.shape (omega (arith, longest_more, pushed_more))
-            (omega (arith, none_settled)) (c.share told).within);
+            (within_batch s.pool.shape (trunk_of d).pushed (trunk_of d).longest (trunk_of d).resets
+            (trunk_of d).settled (trunk_of d).spent sound.shape
+            (omega (arith, longest_more, pushed_more)) none_reset (omega (arith, none_settled))
+            (c.share told).within);
       }
 
   -- What such a call did.
@@ -147,6 +152,7 @@ module _ {s t : RigState} (b d : Batch) (is : IsBatch s b)
           pushed = omega (arith, pushed_more, is.pushed, e);
           few = omega (arith, few, e);
           unsettled = none_settled;
+          unreset = none_reset;
           waits = λ told. subst (λ n. WaitsUpTo n new) (sym e)
               (waits_next b.calls op number old new
               (p.meaning (back told)).advances (is.waits (back told)));
@@ -194,7 +200,7 @@ batch_costs {s = s} {t = t} b sound is f =
       later = f.later;
       share = λ told. subst (λ k. (trunk_of b).spent + (t.moves - s.moves) ≤ batch_share s.pool.shape k)
           is.pushed
-          (within_batch s.pool.shape (trunk_of b).pushed (trunk_of b).longest ((trunk_of b).settled + 1)
-          ((trunk_of b).spent + (t.moves - s.moves)) sound.shape n.longest_most
-          (omega (arith, is.unsettled)) (f.share told).within);
+          (within_batch s.pool.shape (trunk_of b).pushed (trunk_of b).longest (trunk_of b).resets
+          ((trunk_of b).settled + 1) ((trunk_of b).spent + (t.moves - s.moves)) sound.shape
+          n.longest_most is.unreset (omega (arith, is.unsettled)) (f.share told).within);
     }

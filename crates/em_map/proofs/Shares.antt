@@ -1,5 +1,5 @@
 -- The moves of a tree that was finished at most once are within a batch's share.
-use Rattle.std.proofs.Common.{ℕ, zero, suc, ◌+◌, ◌*◌, ◌≤◌, arith}
+use Rattle.std.proofs.Common.{◌≡◌, ℕ, zero, suc, ◌+◌, ◌*◌, ◌≤◌, subst, arith}
 use Rattle.std.proofs.Math.Nat.{mul-le-mul}
 use Rattle.em_record.specs.Cost.{blocks_of}
 use Rattle.em_record.specs.Shape.{IsShape, ShapeNumbers}
@@ -18,9 +18,11 @@ one_settling shape n k (suc zero) h = omega arith
 one_settling shape n k (suc (suc y)) h = absurd (omega (arith, h))
 
 -- A batch of n commands is within its share.
-pub within_batch : (shape : ShapeNumbers) (n k y spent : ℕ) → IsShape shape → k ≤ n → y ≤ 1
-    → spent ≤ tree_share shape n k 0 y → spent ≤ batch_share shape n
-within_batch shape n k y spent is h few s =
+pub within_batch : (shape : ShapeNumbers) (n k z y spent : ℕ) → IsShape shape → k ≤ n → z ≡ 0
+    → y ≤ 1 → spent ≤ tree_share shape n k z y → spent ≤ batch_share shape n
+within_batch shape n k z y spent is h none few share =
+    let S : ℕ → Type 0 = λ x. spent ≤ tree_share shape n k x y in
+    let s = subst S none share in
     let most = one_settling shape n k y few in
     let all = batch_within shape n k spent 0 is h (omega (arith, s, most)) (omega arith) in
     omega (arith, all)

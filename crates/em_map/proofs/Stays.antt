@@ -31,6 +31,7 @@ module _ (s t : RigState) (b : Batch) (same : t.device.told ≡ s.device.told)
     pushed = i.pushed;
     few = i.few;
     unsettled = i.unsettled;
+    unreset = i.unreset;
     waits = λ told. subst (λ x. WaitsUpTo b.calls x) (sym (model (back told))) (i.waits (back told));
   }
 

@@ -12,7 +12,7 @@ ghost use Rattle.em_model.specs.declared.command.Command as commands;
 ghost use Rattle.em_model.specs.declared.command.Command.TheVariants as command;
 ghost use Rattle.em_record.specs.declared.record.Record as records;
 ghost use Rattle.em_space.specs.Queue.{CanServe};
-ghost use Rattle.em_space.specs.Rig.{Sound};
+ghost use Rattle.em_space.specs.Rig.{IfFull, Sound};
 ghost use Rattle.em_space.specs.Seen.{seen};
 
 use em_chain::Chain;
@@ -40,9 +40,11 @@ pub struct Batch {
 }
 
 impl Batch {
-    ghost use Rattle.em_map.specs.Batch.{BatchCosts, BatchHasFrames, CountsCommand, FinishesBatch, IsBatch, IsNewBatch, TakesTo};
+    ghost use Rattle.em_map.specs.Batch.{BatchCosts, BatchHasFrames, CountsCommand, FinishesBatch, IsBatch, IsNewBatch, TakesTo, trunk_of};
     ghost use Rattle.em_map.specs.Commands.{map_op};
     ghost use Rattle.em_tree.specs.Calls.{LeavesTrunk, StopsNewTrunk};
+    ghost use Rattle.em_tree.specs.Finishing.{FullIfUsed};
+    ghost use Rattle.em_tree.specs.Pushing.{NeedsMore};
 
     /// A batch with no command. At most four blocks are moved.
     pub fn new<D: Device>(rig: &mut Rig<'_, D>) -> Result<Batch, EmFault>
@@ -70,6 +72,8 @@ impl Batch {
             (seen D.state rig.new) self.old self.new result }
         ensures counts { CountsCommand (seen D.state rig.old) (seen D.state rig.new)
             self.old self.new }
+        ensures needs { IfErr result (λ fault. IfFull fault (λ _. NeedsMore (seen D.state rig.old)
+            (trunk_of self.old))) }
     {
         self.push(rig, key, PUT, value)
     }
@@ -84,6 +88,8 @@ impl Batch {
             (seen D.state rig.new) self.old self.new result }
         ensures counts { CountsCommand (seen D.state rig.old) (seen D.state rig.new)
             self.old self.new }
+        ensures needs { IfErr result (λ fault. IfFull fault (λ _. NeedsMore (seen D.state rig.old)
+            (trunk_of self.old))) }
     {
         self.push(rig, key, DEL, 0)
     }
@@ -98,6 +104,8 @@ impl Batch {
             (seen D.state rig.new) self.old self.new result }
         ensures counts { CountsCommand (seen D.state rig.old) (seen D.state rig.new)
             self.old self.new }
+        ensures needs { IfErr result (λ fault. IfFull fault (λ _. NeedsMore (seen D.state rig.old)
+            (trunk_of self.old))) }
     {
         self.push(rig, key, GET, 0)
     }
@@ -116,6 +124,7 @@ impl Batch {
         requires is { IsBatch (seen D.state rig.old) self }
         requires free { CanServe (seen D.state rig.old).pool }
         ensures finishes { FinishesBatch (seen D.state rig.old) (seen D.state rig.new) self result }
+        ensures full { FullIfUsed (trunk_of self) result }
         ensures costs { BatchCosts (seen D.state rig.old) (seen D.state rig.new) self }
     {
         let Batch { tree, calls: _ } = self;
@@ -150,6 +159,8 @@ impl Batch {
             → TakesTo given (seen D.state rig.old) (seen D.state rig.new) self.old self.new result }
         ensures counts { CountsCommand (seen D.state rig.old) (seen D.state rig.new)
             self.old self.new }
+        ensures needs { IfErr result (λ fault. IfFull fault (λ _. NeedsMore (seen D.state rig.old)
+            (trunk_of self.old))) }
     {
         self.calls += 1;
         self.tree.push(

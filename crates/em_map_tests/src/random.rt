@@ -56,6 +56,21 @@ fn drawn_all(alloc: Global, count: u64, keys: u64) -> Result<Vec<Command>, Alloc
     Ok(commands)
 }
 
+/// A put of each number from 1 to a count under itself, and then a get of each.
+fn puts_and_gets(alloc: Global, count: u64) -> Result<Vec<Command>, AllocError> {
+    let mut commands = Vec::new(alloc);
+    for i in 0..count {
+        commands.push(Command::Put {
+            key: i + 1,
+            value: i + 1,
+        })?;
+    }
+    for i in 0..count {
+        commands.push(Command::Get { key: i + 1 })?;
+    }
+    Ok(commands)
+}
+
 /// The plain program's answers, each with the number of its get.
 fn expected(alloc: Global, commands: &[Command]) -> Result<Vec<Record>, AllocError> {
     let values = map_answers_of(alloc, commands)?;
@@ -198,6 +213,16 @@ fn drawn_commands_are_answered_as_by_the_plain_program(rt: HostRuntime) -> Resul
 fn twenty_thousand_commands_are_answered_within_the_share(rt: HostRuntime) -> Result<(), Fail> {
     let shape = Shape::new(128, 64)?;
     let commands = drawn_all(rt.alloc(), 20_000, 20_000)?;
+    let (same, moves) = agrees(rt.alloc(), shape, commands.as_slice())?;
+    assert!(rt; same && moves <= 248 * 158 * 3, "moves {moves}");
+    Ok(())
+}
+
+/// Ten thousand puts and a get of each key, 20,000 commands as well.
+#[test]
+fn puts_and_a_get_of_each_are_answered_within_the_share(rt: HostRuntime) -> Result<(), Fail> {
+    let shape = Shape::new(128, 64)?;
+    let commands = puts_and_gets(rt.alloc(), 10_000)?;
     let (same, moves) = agrees(rt.alloc(), shape, commands.as_slice())?;
     assert!(rt; same && moves <= 248 * 158 * 3, "moves {moves}");
     Ok(())

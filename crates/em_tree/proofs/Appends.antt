@@ -23,6 +23,8 @@ use Rattle.em_tree_model.specs.Tree.Tree.{end, entry}
 use Rattle.em_tree_blocks.specs.Reading.{tree_blocks}
 use Rattle.em_tree_blocks.proofs.Frames.{TreeStays, tree_stays}
 use Rattle.em_tree_outline.specs.Outline.{outline_of}
+use Rattle.em_tree_load.specs.Paid.{LosesNone}
+use Rattle.em_tree_load.proofs.Losses.{loses_as, loses_beside, writer_length}
 use Rattle.em_tree_walk.specs.Lows.{LowsKeep}
 use Rattle.em_tree.specs.Buffers.{IsBounded}
 use Rattle.em_tree.specs.Emptying.{EachRead}
@@ -93,6 +95,14 @@ module _ (key : Record → Record) (IsOp IsKept : Record → Type 0) (op : Recor
       writer_stays (writer_blocks s v.buffer) s m v.answers goes.touches (λ z. lists_apart z)
       (record { len_is = f.answers; out = omega (arith, f.out) }) i.answers
 
+  blocks_are : IsTrue s.device.told → trunk_blocks m with_op
+      ≡ tree_blocks v.level s v.root ++ (writer_blocks m b ++ writer_blocks s v.answers)
+  blocks_are z =
+      let tree = tree_blocks v.level s v.root in
+      let n = writer_blocks m b in
+      ap (λ ks. ks ++ (n ++ writer_blocks m v.answers)) (tree_kept z).blocks
+      ∙ ap (λ ks. tree ++ (n ++ ks)) (answers_stay.blocks z)
+
   session : Session (trunk_blocks s v) s m (trunk_blocks m with_op)
   session =
       let tree = tree_blocks v.level s v.root in
@@ -106,8 +116,22 @@ module _ (key : Record → Record) (IsOp IsKept : Record → Type 0) (op : Recor
         holds = λ z. (appends.is.told (goes.touches.told ∙ z)).holds;
       } in
       session_as (trunk_blocks m with_op) (session_beside tree x n y (λ z. (i.stands z).holds) own)
-      (λ z. ap (λ ks. ks ++ (n ++ writer_blocks m v.answers)) (tree_kept z).blocks
-      ∙ ap (λ ks. tree ++ (n ++ ks)) (answers_stay.blocks z))
+      blocks_are
+
+  loses : LosesNone (trunk_blocks s v) (trunk_blocks m with_op) s m
+  loses =
+      let tree = tree_blocks v.level s v.root in
+      let x = writer_blocks s v.buffer in
+      let y = writer_blocks s v.answers in
+      let n = writer_blocks m b in
+      let own : LosesNone x n s m =
+      λ z.
+      let used = costs.used in
+      let before = writer_length i.buffer z in
+      let after = writer_length appends.is (goes.touches.told ∙ z) in
+      omega (arith, used, before, after) in
+      loses_as (trunk_blocks s v) (tree ++ (n ++ y)) (trunk_blocks m with_op) s m
+      (loses_beside tree x n y s m own) blocks_are
 
   numbers : AreTrunkNumbers m with_op
   numbers =
@@ -120,6 +144,7 @@ module _ (key : Record → Record) (IsOp IsKept : Record → Type 0) (op : Recor
         longest_most = n.longest_most;
         pushed_most = n.pushed_most;
         settled_most = n.settled_most;
+        resets_most = n.resets_most;
         spent_most = omega (arith, n.spent_most, later);
         root_below = rw (goes.touches.blocks) n.root_below;
       }
@@ -136,6 +161,7 @@ module _ (key : Record → Record) (IsOp IsKept : Record → Type 0) (op : Recor
         session = session;
         frames = goes.frames;
         pays = pays_more first (omega arith);
+        loses = loses;
         moves = moves;
         count = appends.count_is;
         more = used;

@@ -1,5 +1,6 @@
 -- The same by the level of the entry's node.
-use Rattle.std.proofs.Common.{◌≡◌, ℕ, zero, suc, ◌-◌, ◌<◌, ◌≤◌, subst, sym, arith}
+use Rattle.std.proofs.Common.{◌≡◌, Bool, ℕ, zero, suc, ◌-◌, ◌<◌, ◌≤◌, subst, sym, arith, IsTrue}
+use Rattle.std.specs.Option.{is_some}
 use Rattle.std.specs.Prelude.{IsErrAnd, List, Option, Result, Ok, Err, length}
 use Rattle.em_record.specs.declared.record.Record.{Record}
 use Rattle.em_settle.specs.Laws.{IsSettle}
@@ -13,10 +14,10 @@ use Rattle.em_empty.specs.Node.{CanEmpty, given_blocks}
 use Rattle.em_tree_blocks.specs.Reading.{entries_at}
 use Rattle.em_tree_walk.specs.Stands.{LeadsToTree}
 use Rattle.em_tree_walk.specs.Taken.{HasPlace, StopsTaking, TookBuffer}
-use Rattle.em_tree.specs.Emptying.{CanEmptyEntry, CanWork, LowersTo}
+use Rattle.em_tree.specs.Emptying.{CanEmptyEntry, CanWork, LowersTo, TellsFull}
 use Rattle.em_tree.specs.declared.trunk.Trunk.{Trunk}
 use Rattle.em_tree.proofs.EntryStops.{entry_can, entry_not_poured, entry_not_taken}
-use Rattle.em_tree.proofs.EntryWorks.{entry_works}
+use Rattle.em_tree.proofs.EntryWorks.{entry_tells, entry_works}
 
 abbrev pub ok_of : {T : Type 0} → T → Result T EmFault
 ok_of x = Ok x
@@ -78,6 +79,22 @@ module _ (key : Record → Record) (step : Option Record → Record → Step) (I
       → LowersTo key step IsOp IsKept n at s t v v h.spot.path (ok_of x) in
       subst P (sym (down_one l))
       (λ h. entry_works key step IsOp IsKept laws l node at child s a t v buffer least can h took done) spot
+
+  -- whether a buffer of the child is full then,
+  pub lowers_tells : (level : ℕ) → IsSettle key step IsOp IsKept → 2 ≤ level
+      → (spot : CanEmptyEntry (level - 1) node at s v) (a t : RigState) (child : ℕ) (buffer : Chain)
+      (least : Option ℕ) (full : Bool) → full ≡ is_some least → TookBuffer s a level node at child buffer
+      → EmptiedAt key a t child buffer least → IsTrue s.device.told
+      → TellsFull key (level - 1) at s v spot.spot.path full
+  lowers_tells zero laws two spot a t child buffer least full e took done told = absurd (omega (arith, two))
+  lowers_tells (suc zero) laws two spot a t child buffer least full e took done told =
+      absurd (omega (arith, two))
+  lowers_tells (suc (suc l)) laws two spot a t child buffer least full e took done told =
+      let P : ℕ → Type 0 = λ n. (h : CanEmptyEntry n node at s v) → TellsFull key n at s v h.spot.path full in
+      let F : (h : CanEmptyEntry (suc l) node at s v) → Bool → Type 0 = λ h b.
+      TellsFull key (suc l) at s v h.spot.path b in
+      subst P (sym (down_one l)) (λ h. subst (F h) (sym e) (entry_tells key step IsOp IsKept laws l node at
+      child s a t v buffer least can h took done told)) spot
 
   -- it wasn't taken out,
   pub lowers_err : (T : Type 0) (level : ℕ) → 2 ≤ level → (spot : CanEmptyEntry (level - 1) node at s v)

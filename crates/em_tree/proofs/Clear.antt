@@ -1,5 +1,5 @@
 -- What is empty over a level, over the emptying of one of its buffers.
-use Rattle.std.specs.Prelude.{◌≡◌, true, false, ℕ, ◌-◌, ◌≤◌, List, [], Option, Some}
+use Rattle.std.specs.Prelude.{◌≡◌, ℕ, ◌-◌, ◌≤◌, List, [], Option, Some}
 use Rattle.std.proofs.Common.{refl, sym, ◌∙◌, arith}
 use Rattle.std.proofs.lemmas.Bool.{false≢true}
 use Rattle.em_record.specs.declared.record.Record.{Record}
@@ -100,10 +100,62 @@ first_apart key level lo hi c r n i =
     (λ l k top x h q y z. no_both lo hi r q n (h q z) y) level lo (next_low hi r) c
     (each_within key level lo (next_low hi r) c i)
 
--- the buffers of a level that a key of a range meets are empty
+-- the buffers of a level that a key of a range meets have R
+abbrev pub OwnAt : (List Record → Type 0) → ℕ → Record → Option Record → ℕ → Record → Option Record
+    → List Record → Type 0
+OwnAt R at from until l k top b =
+    l ≡ at → (q : Record) → InRange from until q → InRange k top q → R b
+
+-- they are empty
 abbrev pub ClearAt : ℕ → Record → Option Record → ℕ → Record → Option Record → List Record → Type 0
-ClearAt at from until l k top b =
-    l ≡ at → (q : Record) → InRange from until q → InRange k top q → b ≡ []
+ClearAt at from until l k top b = OwnAt (λ x. x ≡ []) at from until l k top b
+
+-- An entry is the only one of its level that its keys meet: what its buffer has, each such one has.
+pub own_at : (key : Record → Record) (R : List Record → Type 0) (p : Place) (low : Record)
+    (own : List Record) (c r : Tree) (level : ℕ) (lo : Record) (hi : Option Record) → R own
+    → 1 ≤ place_level p level → (i : IsTree key (put_at p (entry low own c r)) lo hi)
+    → (let at = placed key p (entry low own c r) lo hi i in
+    EachEntry (OwnAt R (place_level p level) at.low (next_low at.high r)) level lo hi
+    (put_at p (entry low own c r)))
+own_at key R here low own c r level lo hi mine some i =
+    let top = next_low hi r in
+    let A : ℕ → Record → Option Record → List Record → Type 0 = OwnAt R level lo top in (
+      λ e q x y. mine,
+      each_map (λ l k z b. l ≤ level - 1) A (λ l k z b h e q x y. absurd (omega (arith, h, e, some)))
+          (level - 1) lo top c (each_level (level - 1) lo top c),
+      each_map (λ l k z b. (q : Record) → InRange lo top q → InRange k z q → ⊥) A
+          (λ l k z b h e q x y. absurd (h q x y)) level (low_of lo r) hi r
+          (rest_apart key level lo hi r i.4),
+    )
+own_at key R (under first b rest p) low own c r level lo hi mine some i =
+    let t = entry low own c r in
+    let down = place_level p (level - 1) in
+    let at = placed key p t lo (next_low hi rest) i.2 in
+    let A : ℕ → Record → Option Record → List Record → Type 0 =
+    OwnAt R down at.low (next_low at.high r) in
+    let most = place_level_most p (level - 1) in (
+      λ e q x y. absurd (omega (arith, e, most, some)),
+      own_at key R p low own c r (level - 1) lo (next_low hi rest) mine some i.2,
+      each_map (λ l k z x. (q : Record) → InRange lo (next_low hi rest) q → InRange k z q → ⊥) A
+          (λ l k z x h e q y w. absurd (h q (within_placed key p t lo (next_low hi rest) i.2 q
+          (in_first at.low at.high r q at.is.3 y)) w))
+          level (low_of lo rest) hi rest (rest_apart key level lo hi rest i.4),
+    )
+own_at key R (past first b before p) low own c r level lo hi mine some i =
+    let t = entry low own c r in
+    let x = put_at p t in
+    let has = has_put p t tt in
+    let at = placed key p t (low_of lo x) hi i.4 in
+    let A : ℕ → Record → Option Record → List Record → Type 0 =
+    OwnAt R (place_level p level) at.low (next_low at.high r) in
+    let inside = λ (q : Record) (y : InRange at.low (next_low at.high r) q).
+    within_placed key p t (low_of lo x) hi i.4 q (in_first at.low at.high r q at.is.3 y) in (
+      λ e q y w. absurd (no_both lo hi x q has w (inside q y)),
+      each_map (λ l k z u. (q : Record) → InRange (low_of lo x) hi q → InRange k z q → ⊥) A
+          (λ l k z u h e q y w. absurd (h q (inside q y) w)) (level - 1) lo (next_low hi x) before
+          (first_apart key (level - 1) lo hi before x has i.2),
+      own_at key R p low own c r level (low_of lo x) hi mine some i.4,
+    )
 
 -- An entry whose buffer is empty is the only one of its level that its keys meet.
 pub clear_own : (key : Record → Record) (p : Place) (low : Record) (c r : Tree) (level : ℕ)
@@ -112,45 +164,8 @@ pub clear_own : (key : Record → Record) (p : Place) (low : Record) (c r : Tree
     → (let at = placed key p (entry low [] c r) lo hi i in
     EachEntry (ClearAt (place_level p level) at.low (next_low at.high r)) level lo hi
     (put_at p (entry low [] c r)))
-clear_own key here low c r level lo hi some i =
-    let top = next_low hi r in
-    let A : ℕ → Record → Option Record → List Record → Type 0 = ClearAt level lo top in (
-      λ e q x y. refl,
-      each_map (λ l k z b. l ≤ level - 1) A (λ l k z b h e q x y. absurd (omega (arith, h, e, some)))
-          (level - 1) lo top c (each_level (level - 1) lo top c),
-      each_map (λ l k z b. (q : Record) → InRange lo top q → InRange k z q → ⊥) A
-          (λ l k z b h e q x y. absurd (h q x y)) level (low_of lo r) hi r
-          (rest_apart key level lo hi r i.4),
-    )
-clear_own key (under first b rest p) low c r level lo hi some i =
-    let t = entry low [] c r in
-    let down = place_level p (level - 1) in
-    let at = placed key p t lo (next_low hi rest) i.2 in
-    let A : ℕ → Record → Option Record → List Record → Type 0 =
-    ClearAt down at.low (next_low at.high r) in
-    let most = place_level_most p (level - 1) in (
-      λ e q x y. absurd (omega (arith, e, most, some)),
-      clear_own key p low c r (level - 1) lo (next_low hi rest) some i.2,
-      each_map (λ l k z x. (q : Record) → InRange lo (next_low hi rest) q → InRange k z q → ⊥) A
-          (λ l k z x h e q y w. absurd (h q (within_placed key p t lo (next_low hi rest) i.2 q
-          (in_first at.low at.high r q at.is.3 y)) w))
-          level (low_of lo rest) hi rest (rest_apart key level lo hi rest i.4),
-    )
-clear_own key (past first b before p) low c r level lo hi some i =
-    let t = entry low [] c r in
-    let x = put_at p t in
-    let has = has_put p t tt in
-    let at = placed key p t (low_of lo x) hi i.4 in
-    let A : ℕ → Record → Option Record → List Record → Type 0 =
-    ClearAt (place_level p level) at.low (next_low at.high r) in
-    let inside = λ (q : Record) (y : InRange at.low (next_low at.high r) q).
-    within_placed key p t (low_of lo x) hi i.4 q (in_first at.low at.high r q at.is.3 y) in (
-      λ e q y w. absurd (no_both lo hi x q has w (inside q y)),
-      each_map (λ l k z u. (q : Record) → InRange (low_of lo x) hi q → InRange k z q → ⊥) A
-          (λ l k z u h e q y w. absurd (h q (inside q y) w)) (level - 1) lo (next_low hi x) before
-          (first_apart key (level - 1) lo hi before x has i.2),
-      clear_own key p low c r level (low_of lo x) hi some i.4,
-    )
+clear_own key p low c r level lo hi some i =
+    own_at key (λ x. x ≡ []) p low [] c r level lo hi refl some i
 
 -- What is empty over a level stays so over the emptying of a buffer of that level or below it.
 pub clear_emptied : (key : Record → Record) (at : ℕ) (from : Record) (until : Option Record)

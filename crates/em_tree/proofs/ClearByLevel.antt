@@ -88,7 +88,8 @@ module _ (key : Record → Record) (step : Option Record → Record → Step)
               left.until inner s v q.0.path (can.running.stands told) q.0 told (q.1 told) (c.clear told));
           empty = λ zero_is. c.drained.empty;
           unwritten = λ zero_is. c.drained.unwritten;
-          last = λ told zero_is. level_last can.sound.shape (c.steps told).few (c.steps told).books;
+          last = λ told zero_is. level_last can.sound.shape (c.steps told).few
+              (c.steps told).books.books;
         },
         q.1,
       ) in

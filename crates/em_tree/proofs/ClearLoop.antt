@@ -1,5 +1,5 @@
 -- The loop over full buffers, from its first step to its end.
-use Rattle.std.proofs.Common.{◌≡◌, ℕ, ◌+◌, ◌-◌, ◌*◌, ◌<◌, refl, sym, ap, ◌∙◌, subst, arith, IsTrue}
+use Rattle.std.proofs.Common.{◌≡◌, ℕ, ◌+◌, ◌*◌, ◌<◌, refl, sym, ap, ◌∙◌, subst, arith, IsTrue}
 use Rattle.std.specs.Prelude.{Option, Some, None, Ok}
 use Rattle.em_record.specs.declared.record.Record.{Record}
 use Rattle.em_space.specs.Rig.{RigState}
@@ -8,8 +8,8 @@ use Rattle.em_settle.specs.declared.step.Step.{Step}
 use Rattle.em_tree_walk.specs.declared.searching.Range.{Range}
 use Rattle.em_tree.specs.Buffers.{Due}
 use Rattle.em_tree.specs.Emptying.{CanClear, CanWork, deepest, unstored_most}
-use Rattle.em_tree.specs.Loops.{CanClearFull, Cleared, Clearing, ClearsNext, ClearsTo, HasSteps, due_of, leaf_pay, searches_left}
-use Rattle.em_tree.specs.Trunk.{full_limit, sums_in}
+use Rattle.em_tree.specs.Loops.{CanClearFull, Cleared, Clearing, ClearsNext, ClearsTo, HasSteps, clear_pay, due_of, searches_left}
+use Rattle.em_tree.specs.Trunk.{full_limit}
 use Rattle.em_tree.specs.Works.{StopsWorking}
 use Rattle.em_tree.specs.declared.trunk.Trunk.{Trunk}
 use Rattle.em_tree.proofs.ClearByLevel.{err_of, ok_of}
@@ -42,7 +42,7 @@ module _ (key : Record → Record) (step : Option Record → Record → Step)
         let c = so_far.done in
         let L = deepest s v in
         let S = searches_left d (Some left.from) t w in
-        let pay = leaf_pay d s v * ((sums_in t w).leaves - (sums_in s v).leaves) in
+        let pay = clear_pay d c.found s t v w in
         let first = (c.works 0).session.touches in
         let back : IsTrue t.device.told → IsTrue s.device.told = λ told. sym first.told ∙ told in
         let same : deepest t w ≡ L = deepest_same (c.works 0) in

@@ -13,7 +13,7 @@ use Rattle.em_tree_model.proofs.Ranges.{low_less}
 use Rattle.em_tree.specs.Buffers.{Due, IsDue, OnlyFull}
 use Rattle.em_tree.specs.Emptying.{EachRead, deepest, unstored_most}
 use Rattle.em_tree.specs.Events.{Charges}
-use Rattle.em_tree.specs.Loops.{Cleared, ClearsUpTo, Grows, due_left, leaf_pay, searches_left}
+use Rattle.em_tree.specs.Loops.{Cleared, ClearsUpTo, Grows, clear_pay, due_left, leaf_pay, searches_left}
 use Rattle.em_tree.specs.Trunk.{full_limit, sums_in}
 use Rattle.em_tree.specs.Works.{StopsWorking, Works}
 use Rattle.em_tree.specs.declared.trunk.Trunk.{Trunk}
@@ -42,10 +42,12 @@ works_fit {d = d} {n = n} {s = s} {t = t} p q p2 q2 shape f a = record {
   session = a.session;
   frames = a.frames;
   pays = a.pays;
+  loses = a.loses;
   numbers = a.numbers;
   steps = a.steps;
   running = a.running;
   continues = a.continues;
+  still = a.still;
   charges = λ told. charges_known shape (λ l. charges_fit p (t.moves - s.moves) q d p2 q2 (f told l)
       (a.charges told));
   paces = λ told. charges_known shape (λ l. charges_fit p n q d p2 q2 (f told l) (a.paces told));
@@ -60,6 +62,7 @@ stops_fit {d = d} {s = s} {t = t} p p2 shape f a = record {
   numbers = a.numbers;
   pays = a.pays;
   cause = a.cause;
+  needs = a.needs;
   charges = λ told.
       let c = a.charges told in
       record {
@@ -154,26 +157,35 @@ module _ {key : Record → Record} {step : Option Record → Record → Step}
       let S2 = searches_left d left u x in
       let other = searches_left (record { level = d.level; from = from; until = d.until }) left u x in
       let pay = leaf_pay d s v in
+      let f1 = a.found in
+      let f2 = b.found in
       let d1 = (sums_in t w).leaves - (sums_in s v).leaves in
       let d2 = (sums_in u x).leaves - (sums_in t w).leaves in
       let d3 = (sums_in u x).leaves - (sums_in s v).leaves in
       let F : ShapeNumbers → Type 0 =
       λ h. ClearsUpTo (full_limit h) (record { level = d.level; from = from; until = d.until }) left t u w x in
+      let came = pay * d1 + L * f1 in
       record {
-        works = λ p. works_then (a.works p) (works_fit (p + pay * d1 + L2 * S1)
-            (p + pay * d1 + L2 * other + leaf_pay d t w * d2) (p + L * S1 + pay * d1)
-            (p + L * S2 + pay * d3) next_shape
+        found = f1 + f2;
+        works = λ p. works_then (a.works p) (works_fit (p + came + L2 * S1)
+            (p + came + L2 * other + (leaf_pay d t w * d2 + L2 * f2)) (p + L * S1 + came)
+            (p + L * S2 + (pay * d3 + L * (f1 + f2))) next_shape
             (λ told deep. (let g = (a.clears (back told)).grows in
             let h = (b.clears told).grows in
-            credit_then p (L2 * S1) (L * S1) (L2 * other) (L * S2) (pay * d1) (leaf_pay d t w * d2)
-            (pay * d2) (pay * d3) (ap (λ (z : ℕ). z * S1) same)
+            let leaves = paid_both pay d1 d2 ∙ ap (λ (z : ℕ). pay * z) (leaves_both (sums_in s v).leaves
+            (sums_in t w).leaves (sums_in u x).leaves g.leaves h.leaves) in
+            let full = paid_both L f1 f2 in
+            credit_then p (L2 * S1) (L * S1) (L2 * other) (L * S2) came (leaf_pay d t w * d2 + L2 * f2)
+            (pay * d2 + L * f2) (pay * d3 + L * (f1 + f2)) (ap (λ (z : ℕ). z * S1) same)
             (ap (λ (z : ℕ). z * other) same ∙ ap (λ (z : ℕ). L * z) (searches_same d from left u x))
-            (ap (λ (z : ℕ). (z - d.level) * z * d2) same)
-            (paid_both pay d1 d2 ∙ ap (λ (z : ℕ). pay * z) (leaves_both (sums_in s v).leaves
-            (sums_in t w).leaves (sums_in u x).leaves g.leaves h.leaves))))
-            (b.works (p + pay * d1)));
+            (ap (λ (z : ℕ). (z - d.level) * z * d2 + z * f2) same) (omega (arith, leaves, full))))
+            (b.works (p + came)));
         clears = λ told. clears_then (full_limit s.pool.shape) d from left (a.clears told)
             (subst F first.shape (b.clears (first.told ∙ told)));
+        same = λ told none.
+            let x = a.same told (omega (arith, none)) in
+            let y = b.same (first.told ∙ told) (omega (arith, none)) in
+            record { root = y.root ∙ x.root; level = y.level ∙ x.level };
         drained = b.drained;
         level = omega (arith, a.level, b.level);
       }
@@ -185,7 +197,7 @@ module _ {key : Record → Record} {step : Option Record → Record → Step}
       → StopsWorking (p + deepest s v * searches_left d (Some d.from) s v) 0 (unstored_most s) s u v x fault
   cleared_stops {u = u} {x = x} {fault = fault} b p =
       let S1 = searches_left d (Some from) t w in
-      let pay = leaf_pay d s v * ((sums_in t w).leaves - (sums_in s v).leaves) in
+      let pay = clear_pay d a.found s t v w in
       let same : deepest t w ≡ deepest s v = deepest_same (a.works 0) in
       let N : ShapeNumbers → Type 0 = λ h. StopsWorking (p + deepest s v * S1 + pay) 0 (2 * fan_of h + 3)
       t u w x fault in

@@ -1,9 +1,9 @@
 -- A load that splits a leaf, and the splits of nodes after it, as the loops over buffers see them.
 use Rattle.std.proofs.Common.{◌≡◌, false, ℕ, ◌+◌, ◌-◌, ◌*◌, ◌≤◌, List, ◌++◌, length, refl, sym, ap, ◌∙◌, subst, IsTrue, arith, ⊎_elim}
-use Rattle.std.specs.Prelude.{None, Option, Some}
-use Rattle.std.proofs.Math.Nat.{min-eq_left}
+use Rattle.std.specs.Prelude.{[], min, None, Option, Some}
+use Rattle.std.proofs.Math.Nat.{min-eq_left, min-le_left}
 use Rattle.std.proofs.lemmas.List.{length-append}
-use Rattle.em_record.specs.Shape.{IsShape, fan_of}
+use Rattle.em_record.specs.Shape.{IsShape, fan_of, wide_of}
 use Rattle.em_record.specs.declared.record.Record.{Record}
 use Rattle.em_record.specs.Order.{is_below}
 use Rattle.em_space.specs.Rig.{RigState}
@@ -11,6 +11,7 @@ use Rattle.em_chain.specs.declared.writer.Writer.{Writer}
 use Rattle.em_settle.proofs.Keys.{below_itself}
 use Rattle.em_settle.specs.Laws.{IsSettle}
 use Rattle.em_settle.specs.declared.step.Step.{Step}
+use Rattle.em_tree_model.specs.Places.{put_at}
 use Rattle.em_tree_model.specs.Ranges.{InRange, IsTree, Under, least_record, next_low}
 use Rattle.em_tree_model.specs.Tree.{Tree}
 use Rattle.em_tree_model.specs.Tree.Tree.{entry, leaf}
@@ -20,9 +21,9 @@ use Rattle.em_tree_blocks.specs.Reading.{leaf_items, tree_at}
 use Rattle.em_tree_load.specs.LeafLoads.{LoadedLeaf}
 use Rattle.em_tree_load.specs.SplitPaths.{KeepsRoot, RaisesRoot, SplitUp}
 use Rattle.em_tree_load.specs.declared.splitting.Root.{Root}
-use Rattle.em_tree.specs.Buffers.{ClearOver, IsDue, OnOneSide, OnlyFull}
-use Rattle.em_tree.specs.Emptying.{IsSpot, LoadedEntry, LoadsEntry, LoadsOwing, deepest, leaf_debt, spot_high, spot_low, spot_ops}
-use Rattle.em_tree.specs.Entries.{EachEntry}
+use Rattle.em_tree.specs.Buffers.{ClearOver, IsDue, OnOneSide, OnlyFull, IsThin}
+use Rattle.em_tree.specs.Emptying.{IsSpot, LoadedEntry, LoadsEntry, LoadsOwing, deepest, leaf_debt, spot_high, spot_low, spot_ops, LeavesRest}
+use Rattle.em_tree.specs.Entries.{EachEntry, place_level}
 use Rattle.em_tree.specs.Events.{Charges}
 use Rattle.em_tree.specs.Owing.{load_part, loads_owing}
 use Rattle.em_tree.specs.Starts.{starts_of}
@@ -39,6 +40,9 @@ use Rattle.em_tree.proofs.OwingPaths.{grown_loads, path_loads}
 use Rattle.em_tree.proofs.OwingTrees.{cut_all, cut_some}
 use Rattle.em_tree.proofs.PathStarts.{starts_cut}
 use Rattle.em_tree.proofs.Spots.{placed_high, placed_low, spot_end, spot_level, spot_start}
+use Rattle.em_tree.proofs.Clear.{OwnAt, own_at}
+use Rattle.em_tree.proofs.Entries.{each_map}
+use Rattle.em_tree.proofs.Faces.{own_start}
 
 module _ (key : Record → Record) (step : Option Record → Record → Step)
     (IsOp IsKept : Record → Type 0) (laws : IsSettle key step IsOp IsKept) {s t u : RigState} {v : Trunk}
@@ -150,6 +154,62 @@ module _ (key : Record → Record) (step : Option Record → Record → Step)
             omega (arith, n, before, between, f, g);
       }
 
+  -- what is left of its buffer
+  cut_rests : IsTrue s.device.told → LeavesRest i s u v after_cut path
+  cut_rests told =
+      let st = run.stands told in
+      let d = cut_here key step IsOp IsKept laws shape run spot loaded told in
+      let c = cut key step IsOp IsKept laws shape run spot loaded told in
+      let a = (spot told).on in
+      let e = spot_entry s v path i in
+      let p = spot_place s v path i in
+      let xs = leaf_items s e in
+      let r = spot_rest s v path i in
+      let ops = d.load ++ d.rest in
+      let size = length-append d.load d.rest in
+      let all = ap length c.waiting ∙ size in
+      let T : Tree → Type 0 = λ z. IsTree key z least_record None in
+      let is = subst T c.old st.is.2 in
+      let after = subst T c.new c.is in
+      let rest = entry low c.second (leaf c.zs) r in
+      let X = entry e.low c.first (leaf c.xs) rest in
+      let x = placed key p X least_record None after in
+      let at = spot_level v.level s v.root path 0 i a in
+      let low_is : x.low ≡ spot_low i s v path = placed_low key p X least_record None after
+      ∙ spot_start v.level s v.root path 0 i least_record c.first (leaf c.xs) rest a in
+      let taken = d.taken in
+      let sum = c.sum in
+      let R : List Record → Type 0 = λ ys. length ys
+      + min (length (spot_ops i s v path)) (wide_of s.pool.shape * s.pool.shape.block)
+      ≤ length (spot_ops i s v path) in
+      let L : Record → Type 0 = λ k. InRange x.low (next_low x.high rest) k in
+      let own = subst L low_is (own_start key p e.low c.first (leaf c.xs) rest least_record None after tt) in
+      let nothing : R [] = (let few = min-le_left (length (spot_ops i s v path))
+      (wide_of s.pool.shape * s.pool.shape.block) in omega (arith, few)) in
+      record {
+        thin = λ limit some h.
+            let P : ℕ → Record → Option Record → List Record → Type 0 = IsThin limit in
+            let E : Tree → Type 0 = EachEntry P v.level least_record None in
+            regrown_each key step IsOp IsKept laws shape run spot loaded up none no_block told P
+            (λ l k top. some)
+            (subst E (sym c.new) (each_cut key p e.low ops xs r P low c.first c.second c.xs c.zs v.level
+            least_record None is (λ g. (omega (arith, g, size, sum), omega (arith, g, size, sum)))
+            (subst E c.old h)));
+        left =
+            let P : ℕ → Record → Option Record → List Record → Type 0 = λ level lo hi ys. level ≡ 1
+            → InRange lo hi (spot_low i s v path) → R ys in
+            let E : Tree → Type 0 = EachEntry P v.level least_record None in
+            let O : ℕ → Record → Option Record → List Record → Type 0 =
+            OwnAt R (place_level p v.level) x.low (next_low x.high rest) in
+            regrown_each key step IsOp IsKept laws shape run spot loaded up none no_block told P
+            (λ l k top same q. nothing)
+            (subst E (sym c.new) (each_map O P (λ l k top ys h same q. h (omega (arith, same, at))
+            (spot_low i s v path) own q) v.level least_record None (put_at p X)
+            (own_at key R p e.low c.first (leaf c.xs) rest v.level least_record None
+            (omega (arith, all, taken, sum)) (omega (arith, at)) after)));
+        level = λ few. absurd (let more = cut_leaf_more told in omega (arith, few, more));
+      }
+
   -- what entries over leaves may owe, over the splits of nodes
   regrown_loads : IsTrue s.device.told → (B L : ℕ) → loads_owing B L (root_of u after_cut)
       ≤ loads_owing B L (root_of t (after_load v b))
@@ -225,7 +285,11 @@ module _ (key : Record → Record) (step : Option Record → Record → Step)
             subst C (sym (one z)) (charges_within p m (p + 2 * L + L * L) (B * x) m (p + 2 * L + L * L * 1)
             (B * leaf_debt i s v path) (omega arith) (omega arith)
             (cut_owed key step IsOp IsKept laws shape run spot loaded up none no_block p z))));
+        one = λ p same. cut_steps key step IsOp IsKept laws shape run spot loaded up none no_block p p
+            (6 * (sums_in u after_cut).stored + B * 30) (λ z. absurd (let k = cut_leaf_more z in
+            let e = same z in omega (arith, k, e)));
         owing = cut_left;
         loads = cut_facts;
+        rests = cut_rests;
         keeps = record { buffer = refl; level = up.rises };
       }

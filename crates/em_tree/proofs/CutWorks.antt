@@ -1,5 +1,5 @@
 -- A load that splits a leaf, and the splits of nodes after it, as one step of a call.
-use Rattle.std.proofs.Common.{◌≡◌, Bool, true, false, ℕ, ◌+◌, ◌-◌, ◌*◌, ◌<◌, ◌≤◌, min, List, [], ◌++◌, length, refl, sym, ap, ◌∙◌, subst, IsTrue, arith, ⊎_elim}
+use Rattle.std.proofs.Common.{◌≡◌, Bool, true, false, ℕ, ◌+◌, ◌-◌, ◌*◌, ◌<◌, ◌≤◌, min, List, [], ◌++◌, length, refl, sym, ap, ◌∙◌, subst, IsTrue, arith, ⊎_elim, inr}
 use Rattle.std.specs.Prelude.{None, Option, Some}
 use Rattle.std.proofs.Math.Nat.{min-eq_right, min-le_right, mul-le-mul_left}
 use Rattle.std.proofs.lemmas.List.{length-append}
@@ -45,11 +45,13 @@ use Rattle.em_tree_outline.specs.Outline.{outline_of}
 use Rattle.em_tree_outline.proofs.Outlines.{outline_level}
 use Rattle.em_tree_load.specs.Forms.{AreFormed}
 use Rattle.em_tree_load.specs.LeafLoads.{LoadedLeaf, leaf_load_moves, leaf_split_moves}
+use Rattle.em_tree_load.specs.Paid.{LosesNone}
+use Rattle.em_tree_load.proofs.Losses.{loses_as, loses_beside, loses_then}
 use Rattle.em_tree_load.specs.SplitPaths.{KeepsRoot, RaisesRoot, SplitUp, StopsUpTo}
 use Rattle.em_tree_load.specs.declared.splitting.Root.{Root}
 use Rattle.em_tree_walk.specs.Lows.{LowsKeep}
 use Rattle.em_tree.specs.Buffers.{IsBounded}
-use Rattle.em_tree.specs.Emptying.{IsSpot, StopsEntry, deepest, unstored_most, spot_high, spot_low, stop_debt}
+use Rattle.em_tree.specs.Emptying.{IsSpot, StopsEntry, StopsHeld, deepest, unstored_most, spot_high, spot_low, stop_debt, spot_ops}
 use Rattle.em_tree.specs.Starts.{starts_of}
 use Rattle.em_tree.specs.Entries.{EachEntry, place_level}
 use Rattle.em_tree.specs.Events.{Charges, ChargesUpTo, Continues}
@@ -64,13 +66,14 @@ use Rattle.em_tree.proofs.CutLeaves.{CutLeaf, cut_here, cut_leaf, spot_rest}
 use Rattle.em_tree.proofs.Cuts.{each_cut, fat_cut, leaves_cut, lows_cut}
 use Rattle.em_tree.proofs.Entries.{each_both, each_level, each_map, under_first}
 use Rattle.em_tree.proofs.LeafSizes.{ceil_few}
-use Rattle.em_tree.proofs.LeafWorks.{after_load, buffer_kept, leaf_blocks, leaf_small, load_debt, load_pays, load_session, spot_entry, spot_place}
+use Rattle.em_tree.proofs.LeafWorks.{after_load, buffer_kept, leaf_blocks, leaf_small, load_debt, load_loses, load_pays, load_session, spot_entry, spot_place}
 use Rattle.em_tree.proofs.Meaning.{represents_itself}
 use Rattle.em_tree.proofs.PathSplits.{path_each}
 use Rattle.em_tree.proofs.Places.{level_entry}
 use Rattle.em_tree.proofs.PathStarts.{grown_starts, path_starts}
 use Rattle.em_tree.proofs.Spots.{placed_high, placed_low, spot_end, spot_start}
 use Rattle.em_tree.proofs.Regrown.{Regrows, each_above, fan_twice, regrows_above, regrows_below}
+use Rattle.em_tree.proofs.Waits.{none_on, spot_waits, waits_some}
 
 module _ (key : Record → Record) (step : Option Record → Record → Step)
     (IsOp IsKept : Record → Type 0) (laws : IsSettle key step IsOp IsKept) {s t : RigState} {v : Trunk}
@@ -294,10 +297,10 @@ module _ (key : Record → Record) (step : Option Record → Record → Step)
         }) stopped.goes
         (λ z j k o. off_left j tree lists (first_session.within.off z j k o))
 
-    split_stops : (p d : ℕ) → (IsTrue s.device.told
+    split_stops : (p d : ℕ) → (IsTrue s.device.told → 1 ≤ length (spot_ops i s v path)) → (IsTrue s.device.told
         → ChargesUpTo s.pool.shape v.longest p (u.moves - s.moves) d (sums_in s v))
         → StopsWorking p d (unstored_most s) s u v (after_load v b) fault
-    split_stops p d c =
+    split_stops p d some c =
         let f = same_frames_then s.pool t.pool u.pool loaded.frames stopped.goes.frames in
         let most = min-le_right v.buffer.blocks 1 in
         let last = min-le_right b.blocks 1 in
@@ -308,12 +311,33 @@ module _ (key : Record → Record) (step : Option Record → Record → Step)
             answers = loaded.wrote.is.frame.len_is ∙ ap (λ p. p.block) (sym stopped.goes.frames.shape);
             out = rw (f.shape, f.free) (run.frames.out);
           };
-          numbers = record { pushed = refl; longest = refl; since = refl; settled = refl; spent = refl };
+          numbers = record { pushed = refl; longest = refl; since = refl; settled = refl; resets = refl; spent = refl };
           pays = pays_then (load_pays key step IsOp IsKept laws shape run spot loaded)
               (pays_more stopped.pays (omega (arith, most, last))) stopped.goes.touches.moves;
           cause = cause_after (trunk_blocks s v) s t u fault first_session.touches stopped.cause;
+          needs = waits_some s v fault (λ told. spot_waits (spot told) (some told));
           charges = c;
         }
+
+    -- the sums after the cut
+    abbrev sums_cut : Sums
+    sums_cut = sums_of (2 * wide_of s.pool.shape * s.pool.shape.block) v.level
+        (outline_of (root_of t (after_load v b))) v.buffer.count v.buffer.blocks
+
+    split_charges : (p x : ℕ) → (told : IsTrue s.device.told)
+        → (let d = cut_here key step IsOp IsKept laws shape run spot loaded told in
+        Charges s.pool.shape v.longest p 0 (p + load_moves (deepest s v)
+        (ceiling (length d.load) (payload_of s.pool.shape)) (leaf_blocks s v path i)) x (sums_in s v)
+        (sums_of (2 * wide_of s.pool.shape * s.pool.shape.block) v.level (outline_of (cut told).middle)
+        v.buffer.count v.buffer.blocks))
+        → Charges s.pool.shape v.longest p (u.moves - s.moves) 0 x (sums_in s v) sums_cut
+    split_charges p x told first =
+        let now = sums_of (2 * wide_of s.pool.shape * s.pool.shape.block) v.level
+        (outline_of (root_of t (after_load v b))) v.buffer.count v.buffer.blocks in
+        let m = u.moves - s.moves in
+        let moved = load_moved told in
+        cut_paid p x m 0 told (omega (arith, moved, stopped.moves)) (omega arith) now
+        (λ r fits. charges_prepaid r m 0 now fits) first
 
     split_charged : (p x : ℕ) → (told : IsTrue s.device.told)
         → (let d = cut_here key step IsOp IsKept laws shape run spot loaded told in
@@ -322,15 +346,37 @@ module _ (key : Record → Record) (step : Option Record → Record → Step)
         (sums_of (2 * wide_of s.pool.shape * s.pool.shape.block) v.level (outline_of (cut told).middle)
         v.buffer.count v.buffer.blocks))
         → ChargesUpTo s.pool.shape v.longest p (u.moves - s.moves) x (sums_in s v)
-    split_charged p x told first =
-        let now = sums_of (2 * wide_of s.pool.shape * s.pool.shape.block) v.level
-        (outline_of (root_of t (after_load v b))) v.buffer.count v.buffer.blocks in
-        let m = u.moves - s.moves in
-        let moved = load_moved told in
+    split_charged p x told first = record { sums = sums_cut; charges = split_charges p x told first }
+
+    -- what the load owes, with a leaf more
+    split_owes : (p : ℕ) → (told : IsTrue s.device.told)
+        → (let d = cut_here key step IsOp IsKept laws shape run spot loaded told in
+        Charges s.pool.shape v.longest p 0 (p + load_moves (deepest s v)
+        (ceiling (length d.load) (payload_of s.pool.shape)) (leaf_blocks s v path i))
+        (s.pool.shape.block * stop_debt i s v path) (sums_in s v)
+        (sums_of (2 * wide_of s.pool.shape * s.pool.shape.block) v.level (outline_of (cut told).middle)
+        v.buffer.count v.buffer.blocks))
+    split_owes p told =
+        let B = s.pool.shape.block in
+        let L = deepest s v in
+        let x = 5 * leaf_blocks s v path i + 24 + 2 * L in
+        let few : x ≤ stop_debt i s v path = omega arith in
+        let paid = p + load_moves L (ceiling (length (cut_here key step IsOp IsKept laws shape run spot loaded
+        told).load) (payload_of s.pool.shape)) (leaf_blocks s v path i) in
+        charges_within p 0 paid (B * x) 0 paid (B * stop_debt i s v path) (omega arith)
+        (mul-le-mul_left B few) (load_owing p told)
+
+    pub split_held : IsTrue s.device.told → StopsHeld i s u v path
+    split_held told =
+        let c = cut told in
+        let one = c.loads.leaves in
+        let two = c.splits.leaves in
         record {
-          sums = now;
-          charges = cut_paid p x m 0 told (omega (arith, moved, stopped.moves)) (omega arith) now
-              (λ r fits. charges_prepaid r m 0 now fits) first;
+          sums = sums_cut;
+          either = inr (
+            omega (arith, one, two),
+            split_charges 0 (s.pool.shape.block * stop_debt i s v path) told (split_owes 0 told),
+          );
         }
 
     pub split_stopped : StopsEntry (full_limit s.pool.shape)
@@ -339,20 +385,14 @@ module _ (key : Record → Record) (step : Option Record → Record → Step)
         let B = s.pool.shape.block in
         let L = deepest s v in
         record {
-          stops = λ p big. split_stops p 0 (λ z. (
+          stops = λ p big. split_stops p 0 (λ z. (let limit = limit_some shape in let n = big z in
+              omega (arith, limit, n))) (λ z. (
               let enough = big z in
               let limit : full_limit s.pool.shape ≡ 2 * (wide_of s.pool.shape * B) =
               ap (λ f. f * B) (fan_twice shape) ∙ omega arith in
               split_charged p 0 z (load_full p z (omega (arith, enough, limit)))));
-          owes = λ p. split_stops p (B * stop_debt i s v path) (λ z. (
-              let x = 5 * leaf_blocks s v path i + 24 + 2 * L in
-              let few : x ≤ stop_debt i s v path = omega arith in
-              split_charged p (B * stop_debt i s v path) z
-              (charges_within p 0 (p + load_moves L (ceiling (length (cut_here key step IsOp IsKept laws
-              shape run spot loaded z).load) (payload_of s.pool.shape)) (leaf_blocks s v path i)) (B * x) 0
-              (p + load_moves L (ceiling (length (cut_here key step IsOp IsKept laws
-              shape run spot loaded z).load) (payload_of s.pool.shape)) (leaf_blocks s v path i))
-              (B * stop_debt i s v path) (omega arith) (mul-le-mul_left B few) (load_owing p z))));
+          owes = λ p some. split_stops p (B * stop_debt i s v path) some
+              (λ z. split_charged p (B * stop_debt i s v path) z (split_owes p z));
         }
 
   -- After such a load the splits went well.
@@ -395,15 +435,30 @@ module _ (key : Record → Record) (step : Option Record → Record → Step)
           out = rw (f.shape, f.free) (omega (arith, loaded.wrote.is.frame.out));
         }) loaded.wrote.is
 
+    cut_blocks : IsTrue t.device.told → trunk_blocks u after_cut
+        ≡ tree_blocks new.level u new.block ++ (writer_blocks t v.buffer ++ writer_blocks t b)
+    cut_blocks z =
+        ap (λ ks. tree_blocks new.level u new.block ++ (ks ++ writer_blocks u b)) (buffer_stays.blocks z)
+        ∙ ap (λ ks. tree_blocks new.level u new.block ++ (writer_blocks t v.buffer ++ ks))
+        (answers_stay.blocks z)
+
     cut_session : Session (trunk_blocks s v) s u (trunk_blocks u after_cut)
     cut_session =
         let lists = writer_blocks t v.buffer ++ writer_blocks t b in
         let s2 = session_beside [] (tree_blocks v.level t v.root) (tree_blocks new.level u new.block) lists
         (λ z. first_session.holds (told_first z)) up.takes.session in
-        session_trans first_session (session_as (trunk_blocks u after_cut) s2
-        (λ z. ap (λ ks. tree_blocks new.level u new.block ++ (ks ++ writer_blocks u b)) (buffer_stays.blocks z)
-        ∙ ap (λ ks. tree_blocks new.level u new.block ++ (writer_blocks t v.buffer ++ ks))
-        (answers_stay.blocks z)))
+        session_trans first_session (session_as (trunk_blocks u after_cut) s2 cut_blocks)
+
+    cut_loses : LosesNone (trunk_blocks s v) (trunk_blocks u after_cut) s u
+    cut_loses =
+        let lists = writer_blocks t v.buffer ++ writer_blocks t b in
+        let mid = trunk_blocks t (after_load v b) in
+        let tree = tree_blocks new.level u new.block in
+        let whole = trunk_blocks u after_cut in
+        loses_then (trunk_blocks s v) mid whole s t u loaded.session.touches.told
+        (load_loses key step IsOp IsKept laws shape run spot loaded)
+        (loses_as mid (tree ++ lists) whole t u
+        (loses_beside [] (tree_blocks v.level t v.root) tree lists t u up.takes.loses) cut_blocks)
 
     cut_pays : Pays (trunk_unstored v) (trunk_unstored after_cut) s u
     cut_pays = pays_then (load_pays key step IsOp IsKept laws shape run spot loaded)
@@ -606,6 +661,7 @@ module _ (key : Record → Record) (step : Option Record → Record → Step)
             longest_most = n.longest_most;
             pushed_most = n.pushed_most;
             settled_most = n.settled_most;
+            resets_most = n.resets_most;
             spent_most = omega (arith, n.spent_most, h.moves, k.moves);
             root_below = in_use_below u new.block up.takes.session.sound up.leads.in_use;
           };
@@ -685,10 +741,12 @@ module _ (key : Record → Record) (step : Option Record → Record → Step)
       session = cut_session;
       frames = same_frames_then s.pool t.pool u.pool loaded.frames up.takes.frames;
       pays = cut_pays;
-      numbers = record { pushed = refl; longest = refl; since = refl; settled = refl; spent = refl };
+      loses = cut_loses;
+      numbers = record { pushed = refl; longest = refl; since = refl; settled = refl; resets = refl; spent = refl };
       steps = omega arith;
       running = cut_runs;
       continues = cut_continues;
+      still = λ told. none_on key step IsOp IsKept (run.stands told).is (run.stands told).turn (cut_continues told);
       charges = c;
       paces = λ z. charges_within p (u.moves - s.moves) q x 0 q x (omega arith) (omega arith) (c z);
     }

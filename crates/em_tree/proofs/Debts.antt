@@ -14,14 +14,15 @@ use Rattle.em_tree_cost.specs.Books.{KeepsBooks, count_moves}
 use Rattle.em_tree_cost.specs.Shares.{floors_of, levels_of}
 use Rattle.em_tree_cost.proofs.Ceilings.{blocks_ceil}
 use Rattle.em_tree_cost.proofs.Paid.{levels_within}
+use Rattle.em_tree_load.proofs.Losses.{loses_still}
 use Rattle.em_tree.specs.Counting.{counted_settling}
 use Rattle.em_tree.specs.Debts.{KeepsOwing, MayOwe, owing_all, owing_to, settling_moves, settling_toll}
 use Rattle.em_tree.specs.Emptying.{CanWork, deepest}
 use Rattle.em_tree.specs.Events.{Charges, step_allowance}
-use Rattle.em_tree.specs.Trunk.{IsTrunk, counts_of, sums_in, trunk_unstored}
+use Rattle.em_tree.specs.Trunk.{IsTrunk, counts_of, sums_in, trunk_blocks, trunk_unstored}
 use Rattle.em_tree.specs.Works.{Works}
 use Rattle.em_tree.specs.declared.trunk.Trunk.{Trunk}
-use Rattle.em_tree.proofs.Charges.{books_less, charges_debt, charges_within, level_most}
+use Rattle.em_tree.proofs.Charges.{books_less, charges_books, charges_debt, charges_within, level_most}
 use Rattle.em_tree.proofs.PathSplits.{sums_same}
 use Rattle.em_tree.proofs.SettleDebt.{settling_most, settling_steps}
 use Rattle.em_tree.proofs.StepWorks.{still_continues, still_running, still_session}
@@ -91,7 +92,7 @@ may_then {s = s} {t = t} {v = v} {w = w} p q d n more next told m a k =
     let B = s.pool.shape.block in
     let shape = a.session.touches.shape in
     let longest = a.numbers.longest in
-    let after = (a.paces told).books c (B * m.debt) m.longest m.books in
+    let after = charges_books (a.paces told) c (B * m.debt) m.longest m.books in
     let K : ShapeNumbers → Type 0 = λ x. KeepsBooks x (count_moves q (count_moves n c))
     (x.block * (m.debt + d)) (sums_in t w) in
     let S : ShapeNumbers → Type 0 = λ x. w.steps + (c.spent + n) ≡ step_allowance x c.n c.k in
@@ -137,10 +138,12 @@ owing_bought {step = step} {s = s} {v = v} n can =
       session = still_session i g;
       frames = g.frames;
       pays = pays_kept (trunk_unstored v) (omega arith) g.touches.moves;
-      numbers = record { pushed = refl; longest = refl; since = refl; settled = refl; spent = refl };
+      loses = loses_still (trunk_blocks s v) s s refl;
+      numbers = record { pushed = refl; longest = refl; since = refl; settled = refl; resets = refl; spent = refl };
       steps = omega arith;
       running = still_running i g;
       continues = still_continues i g step;
+      still = λ told none. none;
       charges = λ told. C (s.moves - s.moves) (nothing_moved s.moves);
       paces = λ told. C 0 refl;
     }

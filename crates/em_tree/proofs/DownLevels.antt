@@ -18,6 +18,7 @@ use Rattle.em_tree.specs.Settling.{CanSettleDown, SettledAll, SettlesAllTo, Stop
 use Rattle.em_tree.specs.Trunk.{IsRunning, full_limit, given_by, model_of, root_of, sums_in, trunk_blocks, trunk_unstored}
 use Rattle.em_tree.specs.Works.{Works}
 use Rattle.em_tree.specs.declared.trunk.Trunk.{Trunk}
+use Rattle.em_tree_load.proofs.Losses.{loses_still}
 use Rattle.em_tree.proofs.Charges.{charges_prepaid}
 use Rattle.em_tree.proofs.Continues.{continues_same}
 use Rattle.em_tree.proofs.Debts.{may_then}
@@ -37,10 +38,12 @@ module _ (key : Record → Record) (step : Option Record → Record → Step) (I
       session = session_none s (trunk_blocks s v) sound (λ z. (i.stands z).holds);
       frames = (goes_nothing s sound).frames;
       pays = pays_kept (trunk_unstored v) (omega arith) (omega arith);
-      numbers = record { pushed = refl; longest = refl; since = refl; settled = refl; spent = refl };
+      loses = loses_still (trunk_blocks s v) s s refl;
+      numbers = record { pushed = refl; longest = refl; since = refl; settled = refl; resets = refl; spent = refl };
       steps = omega arith;
       running = i;
       continues = λ told. continues_same key step IsOp IsKept (given_by s v) (model_of s v);
+      still = λ told none. none;
       charges = λ told. charges_prepaid p (s.moves - s.moves) p (sums_in s v) (omega arith);
       paces = λ told. charges_prepaid p 0 p (sums_in s v) (omega arith);
     }

@@ -1,5 +1,5 @@
 -- The buffers of a level are empty up to a key: after one more was emptied.
-use Rattle.std.proofs.Common.{◌≡◌, ◌⊎◌, true, false, ℕ, suc, ◌<◌, ◌≤◌, List, [], ◌∷◌, refl, sym, ◌∙◌, subst, arith, inr, ⊎_elim, IsTrue}
+use Rattle.std.proofs.Common.{◌≡◌, true, false, ℕ, suc, ◌<◌, ◌≤◌, List, [], ◌∷◌, refl, sym, ◌∙◌, subst, arith, inr, ⊎_elim, IsTrue}
 use Rattle.std.specs.Prelude.{Option, Some, None}
 use Rattle.std.proofs.lemmas.Bool.{cases_Bool, false≢true}
 use Rattle.em_record.specs.Order.{is_below}

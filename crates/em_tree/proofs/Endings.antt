@@ -1,22 +1,59 @@
 -- The end of a tree: it is settled, if anything was pushed, and its blocks are released.
-use Rattle.std.proofs.Common.{◌≡◌, ℕ, ◌*◌, ◌<◌, ◌≤◌, sym, ◌∙◌, subst, arith, inl, inr, IsTrue, IsErrAnd, Result, Ok, Err}
+use Rattle.std.proofs.Common.{◌≡◌, ℕ, ◌+◌, ◌*◌, ◌<◌, ◌≤◌, length, sym, ◌∙◌, subst, arith, inl, inr, IsTrue, IsErrAnd, IfErr, Result, Ok, Err}
 use Rattle.std.specs.Prelude.{Option}
 use Rattle.em_record.specs.Shape.{wide_of}
 use Rattle.em_record.specs.declared.record.Record.{Record}
 use Rattle.em_settle.specs.declared.step.Step.{Step}
 use Rattle.em_space.specs.Rig.{RigState}
 use Rattle.em_space.specs.declared.fault.EmFault.{EmFault}
+use Rattle.em_space.proofs.Ledgers.{full_never}
+use Rattle.em_tree_blocks.specs.Reading.{tree_blocks}
 use Rattle.em_tree_load.specs.Releases.{CanRelease, ReleasesTree}
 use Rattle.em_tree.specs.Emptying.{CanWork}
-use Rattle.em_tree.specs.Finishing.{CanFinish, FinishesBlocks}
+use Rattle.em_tree.specs.Finishing.{CanFinish, FinishesBlocks, FullIfUsed, ReleasesUnused}
 use Rattle.em_tree.specs.Debts.{owing_all}
 use Rattle.em_tree.specs.Settling.{SettledAll, StopsSettling}
 use Rattle.em_tree.specs.Works.{Works}
 use Rattle.em_tree.specs.declared.trunk.Trunk.{Trunk}
 use Rattle.em_tree.proofs.DownLevels.{owing_none, works_none}
 use Rattle.em_tree.proofs.Finished.{trunk_left, trunk_released}
+use Rattle.em_tree.proofs.PushStops.{if_full}
 use Rattle.em_tree.proofs.Regrown.{fan_twice}
 use Rattle.em_tree.proofs.Unbuffered.{can_release}
+
+-- what holds at every fault of a call
+pub if_err : {T : Type 0} (r : Result T EmFault) (P : Type 0) → P → IfErr r (λ _. P)
+if_err (Ok x) P p = tt
+if_err (Err fault) P p = p
+
+-- Settling gave up, of a tree that was used,
+pub settling_full : {T : Type 0} (v : Trunk) (r : Result T EmFault) (fault : EmFault)
+    → IsErrAnd r (λ f. f ≡ fault) → (v.pushed ≡ 0 → ⊥) → FullIfUsed v r
+settling_full v (Ok x) fault e h = tt
+settling_full v (Err f) fault e h = if_full f (v.pushed ≡ 0 → ⊥) h
+
+-- or the release did, which needs no block.
+pub release_full : {T : Type 0} (s t : RigState) (level root : ℕ) (v : Trunk) (r : Result T EmFault)
+    → ReleasesTree s t level root r → FullIfUsed v r
+release_full s t level root v (Ok x) h = tt
+release_full s t level root v (Err fault) h = full_never s t fault (v.pushed ≡ 0 → ⊥) h.cause
+
+-- the moves of a release, at each exit
+release_moves : {T : Type 0} (m t : RigState) (level root : ℕ) (r : Result T EmFault)
+    → ReleasesTree m t level root r → IsTrue m.device.told
+    → t.moves ≤ m.moves + 2 * length (tree_blocks level m root)
+release_moves m t level root (Ok x) h = h.frees.moves
+release_moves m t level root (Err fault) h = h.frees.moves
+
+-- A tree to which nothing was pushed was only released.
+pub release_unused : {T : Type 0} (s m t : RigState) (v w : Trunk) (r : Result T EmFault) → m ≡ s → w ≡ v
+    → ReleasesTree m t w.level w.root r → ReleasesUnused s t v w
+release_unused s m t v w r at_first same h =
+    let M : RigState → Type 0 = λ z. IsTrue z.device.told
+    → t.moves ≤ z.moves + 2 * length (tree_blocks w.level z w.root) in
+    let W : Trunk → Type 0 = λ z. IsTrue s.device.told
+    → t.moves ≤ s.moves + 2 * length (tree_blocks z.level s z.root) in
+    record { same = same; moves = subst W same (subst M at_first (release_moves m t w.level w.root r h)) }
 
 module _ (key : Record → Record) (step : Option Record → Record → Step) (IsOp IsKept : Record → Type 0)
   where

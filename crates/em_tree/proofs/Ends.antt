@@ -10,7 +10,7 @@ use Rattle.em_tree_cost.specs.Shares.{tree_share}
 use Rattle.em_tree_cost.proofs.Books.{books_refused_push, books_share}
 use Rattle.em_tree_cost.proofs.InCall.{call_begins, call_refused, call_settle}
 use Rattle.em_tree.specs.Events.{Charges, ChargesUpTo}
-use Rattle.em_tree.proofs.Charges.{books_less}
+use Rattle.em_tree.proofs.Charges.{books_less, charges_books}
 
 -- sums that stay
 pub sums_stay : (t : Sums) → SumsFall t t
@@ -35,7 +35,7 @@ module _ {shape : ShapeNumbers} {t u : Sums} (c e : TreeCounts) (m1 m2 q : ℕ) 
       let start = books_less d (count_moves 0 d) 0 0 refl refl refl refl refl (omega arith)
       (omega arith) b in
       books_less (count_moves (m2 + q) d) e (0 + 0) 0 n k since z y (omega (arith, spent))
-      (omega arith) (h.books d 0 refl start)
+      (omega arith) (charges_books h d 0 refl start)
 
   -- A settling that went well, which owes d moves that no operation, load or split pays for.
   pub settled_books : (d : ℕ) → IsShape shape → KeepsBooks shape c 0 t
@@ -45,7 +45,7 @@ module _ {shape : ShapeNumbers} {t u : Sums} (c e : TreeCounts) (m1 m2 q : ℕ) 
   settled_books d is b h most n k since z y spent =
       let start = books_less c (count_moves 0 c) 0 0 refl refl refl refl refl (omega arith)
       (omega arith) b in
-      let all = h.books c 0 refl start in
+      let all = charges_books h c 0 refl start in
       let end_is = call_settle 0 u is (call_begins all) d (record { root = refl; blocks = refl })
       (sums_stay u) (omega arith) most in
       books_less (count_settle 0 (count_moves (m2 + q) c)) e 0 0 n k since z y (omega (arith, spent))
@@ -59,7 +59,7 @@ module _ {shape : ShapeNumbers} {t : Sums} (c : TreeCounts) (more m d : ℕ) (is
   stopped_share h owed =
       let start = books_less c (count_moves 0 c) more more refl refl refl refl refl (omega arith)
       (omega arith) b in
-      let all = h.charges.books c more refl start in
+      let all = charges_books h.charges c more refl start in
       let r = call_refused (call_begins all) is (inl (omega (arith, owed))) in
       omega (arith, r)
 

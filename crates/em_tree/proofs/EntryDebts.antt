@@ -120,7 +120,7 @@ module _ (key : Record → Record) (step : Option Record → Record → Step)
       let B = s.pool.shape.block in
       record {
         debt = stop_debt at s v path;
-        stops = h.owes;
+        stops = λ p. h.owes p some;
         owes = λ told.
             let e = entry_on v.level s v.root path at in
             let p = entry_at_place v.level s v.root path 0 at in
@@ -218,7 +218,7 @@ module _ (key : Record → Record) (step : Option Record → Record → Step)
       let B = s.pool.shape.block in
       record {
         debt = lower_debt at s v path;
-        stops = h.owes;
+        stops = λ p. h.owes p some;
         owes = λ told.
             let e = entry_on v.level s v.root path at in
             let p = entry_at_place v.level s v.root path (suc l) at in

@@ -35,6 +35,8 @@ use Rattle.em_tree.proofs.EntryBefore.{buffer_blocks_are, child_few, full_charge
 use Rattle.em_tree.proofs.EntryWorks.{few_moves, reached_told}
 use Rattle.em_tree.proofs.Lowered.{child_entries, given_apart, given_same, is_over}
 use Rattle.em_tree.proofs.StepWorks.{frames_same}
+use Rattle.em_tree.proofs.Bounded.{limit_some}
+use Rattle.em_tree.proofs.Waits.{spot_waits, waits_some}
 
 -- as many buffers get a record as a node may have entries
 pub reached_any : (a : RigState) (k : ℕ) (c : Chain) (n : ℕ) (b : Bool) → a.device.told ≡ b
@@ -67,9 +69,11 @@ module _ (key : Record → Record) (IsOp IsKept : Record → Type 0) (l node at 
         stops = λ p big. record {
           goes = g;
           frames = frames_same g.frames can.running.frames;
-          numbers = record { pushed = refl; longest = refl; since = refl; settled = refl; spent = refl };
+          numbers = record { pushed = refl; longest = refl; since = refl; settled = refl; resets = refl; spent = refl };
           pays = pays;
           cause = cause;
+          needs = waits_some s v fault (λ told. spot_waits (spot.spot.told told)
+              (let limit = limit_some can.sound.shape in let n = big told in omega (arith, limit, n)));
           charges = λ told. record {
             sums = (sums_after key IsOp IsKept l node at s v can spot told);
             charges = charges_within p (t.moves - s.moves) (p + 18 + 3 * deepest s v) 0
@@ -78,12 +82,13 @@ module _ (key : Record → Record) (IsOp IsKept : Record → Type 0) (l node at 
                 (let h = few told in omega (arith, h)) (big told));
           };
         };
-        owes = λ p. record {
+        owes = λ p any. record {
           goes = g;
           frames = frames_same g.frames can.running.frames;
-          numbers = record { pushed = refl; longest = refl; since = refl; settled = refl; spent = refl };
+          numbers = record { pushed = refl; longest = refl; since = refl; settled = refl; resets = refl; spent = refl };
           pays = pays;
           cause = cause;
+          needs = waits_some s v fault (λ told. spot_waits (spot.spot.told told) (any told));
           charges = λ told. record {
             sums = (sums_after key IsOp IsKept l node at s v can spot told);
             charges = charges_within p (t.moves - s.moves) (p + deepest s v) debt (t.moves - s.moves) 0 debt

@@ -1,5 +1,6 @@
 -- The buffer of an entry over a node is emptied: a step of a call.
 use Rattle.std.proofs.Common.{◌≡◌, Bool, true, false, ℕ, suc, ◌+◌, ◌-◌, ◌*◌, ◌≤◌, List, [], length, get_or, refl, sym, ap, ◌∙◌, subst, arith, IsTrue}
+use Rattle.std.specs.Option.{is_some}
 use Rattle.std.specs.Prelude.{Option, None}
 use Rattle.std.proofs.lemmas.Bool.{false≢true}
 use Rattle.em_record.specs.Shape.{ShapeNumbers, payload_of, wide_of}
@@ -21,6 +22,7 @@ use Rattle.em_tree_model.specs.Meaning.{tree_answers, tree_contents}
 use Rattle.em_tree_model.specs.Places.{put_at}
 use Rattle.em_tree_model.specs.Pouring.{pour}
 use Rattle.em_tree_model.specs.Ranges.{least_record}
+use Rattle.em_tree_model.specs.Tree.{Tree}
 use Rattle.em_tree_model.specs.Tree.Tree.{end, entry}
 use Rattle.em_tree_model.proofs.RowPlaces.{put_in}
 use Rattle.em_empty.specs.Effects.{EmptiedAt, reached}
@@ -34,8 +36,9 @@ use Rattle.em_tree_outline.specs.Outline.{outline_of}
 use Rattle.em_tree_walk.specs.Taken.{TakenAt, TookBuffer}
 use Rattle.em_tree.specs.Buffers.{IsBounded}
 use Rattle.em_tree.specs.Events.{Charges, Continues}
-use Rattle.em_tree.specs.Emptying.{CanEmptyEntry, CanWork, EachRead, EmptiedEntry, deepest, lower_debt}
+use Rattle.em_tree.specs.Emptying.{CanEmptyEntry, CanWork, EachRead, EmptiedEntry, RowThin, TellsFull, deepest, lower_debt}
 use Rattle.em_tree_load.specs.Forms.{AreFormed}
+use Rattle.em_tree_load.specs.Paid.{LosesNone}
 use Rattle.em_tree.specs.Sized.{IsSized}
 use Rattle.em_tree.specs.Trunk.{IsRunning, IsStanding, full_limit, given_by, model_of, root_of, sums_in, trunk_unstored}
 use Rattle.em_tree.specs.Works.{Works}
@@ -47,7 +50,10 @@ use Rattle.em_tree.proofs.Lowered.{NodeLowered, child_entries, node_lowered}
 use Rattle.em_tree.proofs.LoweredTree.{bounded_lowered, lows_lowered, sized_lowered}
 use Rattle.em_tree.proofs.Meaning.{represents_itself}
 use Rattle.em_tree.proofs.Spots.{spot_level}
+use Rattle.em_empty.specs.FirstFull.{IsFirstFull}
+use Rattle.em_tree.proofs.Tells.{none_full, some_full}
 use Rattle.em_tree.proofs.TrunkLists.{ListsStay, lists_stay_by, touches_told}
+use Rattle.em_tree.proofs.Waits.{none_on}
 
 -- the moves of both calls, by those of each
 pub few_moves : (s a t b x d r n m : ℕ) → a ≤ s + 2 → t ≤ a + (2 * b + 2 * x + 4 * r + 2) → r ≤ n
@@ -86,16 +92,17 @@ module _ (key : Record → Record) (step : Option Record → Record → Step)
     lowered : NodeLowered key l s t (node_on spot.spot.path v.level s v.root) at
     lowered = node_lowered key l s a t (node_on spot.spot.path v.level s v.root) at least told
         (node_stored key IsOp IsKept l node at s v can spot told) ((sp key IsOp IsKept l node at s v can spot told)).on.one (node_held key IsOp IsKept l node at s v can spot told) took_here.stores.goes.touches took_here.stores.goes.sound
-        taken.node_is taken.entries done_here
+        taken.node_is taken.entries done_here took_here.stores.same.used
 
     worked : TreeWorked s t spot.spot.path v.level v.root
     worked =
         let j = node_on spot.spot.path v.level s v.root in
         let P : ℕ → Type 0 = λ n. Session (tree_blocks n s j) s t (tree_blocks n t j) in
+        let R : ℕ → Type 0 = λ n. LosesNone (tree_blocks n s j) (tree_blocks n t j) s t in
         let Q : ℕ → Type 0 = λ n. IsTreeAt n t j in
         let level = ((sp key IsOp IsKept l node at s v can spot told)).on.level in
         tree_worked s t spot.spot.path v.level v.root told ((sp key IsOp IsKept l node at s v can spot told)).on.on_path ((st key IsOp IsKept l node at s v can spot told)).stored (tree_held key IsOp IsKept l node at s v can spot told)
-        (subst P (sym level) lowered.session) (subst Q (sym level) lowered.is)
+        (subst P (sym level) lowered.session) (subst R (sym level) lowered.loses) (subst Q (sym level) lowered.is)
 
     -- what is read
     new_is : (let path = spot.spot.path in let e = entry_on v.level s v.root path at in
@@ -139,6 +146,7 @@ module _ (key : Record → Record) (step : Option Record → Record → Step)
 
   lists : ListsStay s t v
   lists = lists_stay_by can.running done.session.sound same_pool base (λ z. (worked z).session)
+      (λ z. (worked z).loses z)
 
   continued : IsTrue s.device.told → Continues key step IsOp IsKept (given_by s v) (model_of s v)
       (given_by t v) (model_of t v)
@@ -232,18 +240,44 @@ module _ (key : Record → Record) (step : Option Record → Record → Step)
         session = lists.session;
         frames = same_pool;
         pays = pays;
+        loses = lists.loses;
         numbers = record {
           pushed = refl;
           longest = refl;
           since = refl;
           settled = refl;
+          resets = refl;
           spent = refl;
         };
         steps = omega arith;
         running = running;
         continues = continued;
+        still = λ told. none_on key step IsOp IsKept (can.running.stands told).is (can.running.stands told).turn
+            (continued told);
         charges = λ told. C told (t.moves - s.moves) (let h = moves_few told in omega (arith, h));
         paces = λ told. C told 0 (omega arith);
+      }
+
+  -- whether a buffer of the child is full
+  pub entry_tells : IsTrue s.device.told
+      → TellsFull key (suc l) at s v spot.spot.path (is_some least)
+  entry_tells told =
+      let es = entries_at s (node_on spot.spot.path v.level s v.root) in
+      let k = child_at at es in
+      let touches = (took_here told).stores.goes.touches in
+      let e = (done_here told).emptied (touches.told ∙ told) in
+      let later : IsTrue t.device.told = done.session.touches.told ∙ (touches.told ∙ told) in
+      let limit = full_limit s.pool.shape in
+      let F : ShapeNumbers → Type 0 = λ z. IsFirstFull (full_limit z) (entries_at t k) least in
+      let first = subst F touches.shape e.first_is in
+      let T : Tree → Type 0 = λ x. is_some least ≡ false → RowThin limit x in
+      let S : Tree → Type 0 = λ x. is_some least ≡ true → RowThin limit x → ⊥ in
+      let same = (lowered told).child in
+      record {
+        thin = subst T same (none_full (tree_at l t) t later limit (entries_at t k) least
+            e.receives.buffers first);
+        some = subst S same (some_full (tree_at l t) t later limit (entries_at t k) least
+            e.receives.buffers first);
       }
 
   pub entry_works : EmptiedEntry key step IsOp IsKept (suc l) at s t v v spot.spot.path

@@ -1,7 +1,7 @@
 -- What `finish` leaves: the answers of a tree as a chain, or its two frames alone.
 use Rattle.std.proofs.Common.{◌≡◌, ℕ, ◌+◌, ◌-◌, ◌*◌, ◌^◌, ◌<◌, ◌≤◌, min, length, inl, inr, refl, sym, ap, ◌∙◌, subst, arith, IsTrue, Result, Ok, Err}
 use Rattle.std.specs.Prelude.{Option}
-use Rattle.std.proofs.Math.Nat.{min-le_right, mul-le-mul_left}
+use Rattle.std.proofs.Math.Nat.{min-le_left, min-le_right, mul-le-mul_left}
 use Rattle.em_record.specs.Shape.{IsShape, ShapeNumbers}
 use Rattle.em_record.specs.declared.record.Record.{Record}
 use Rattle.em_frames.specs.Pool.{GivenFrames, PoolCounts, SameFrames}
@@ -11,6 +11,7 @@ use Rattle.em_space.specs.Queue.{Pays}
 use Rattle.em_space.specs.Rig.{Cause, Goes, RigState, Sound}
 use Rattle.em_space.specs.declared.fault.EmFault.{EmFault}
 use Rattle.em_space.specs.declared.fault.EmFault.TheVariants.{Damaged, DeviceFault, Full}
+use Rattle.em_space.proofs.Ledgers.{full_by}
 use Rattle.em_space.proofs.Paying.{pays_kept, pays_more, pays_then}
 use Rattle.em_space.proofs.Sessions.{session_trans}
 use Rattle.em_space.proofs.Steps.{cause_after, goes_trans, same_frames_then, touches_then, touches_trans}
@@ -27,15 +28,16 @@ use Rattle.em_tree.specs.Calls.{FinishCosts, FinishesTrunk, LeavesTrunk, StopsFi
 use Rattle.em_tree.specs.Counting.{counted_settling}
 use Rattle.em_tree.specs.Debts.{owing_all}
 use Rattle.em_tree.specs.Events.{Charges}
-use Rattle.em_tree.specs.Finishing.{FinishedBlocks, FinishesBlocks, GivesAnswers, StopsAfterSettling, StopsAnswers}
+use Rattle.em_tree.specs.Finishing.{FinishedBlocks, FinishesBlocks, FullIfUsed, GivesAnswers, ReleasesUnused, StopsAfterSettling, StopsAnswers}
 use Rattle.em_tree.specs.Settling.{SettledAll, StopsSettling}
 use Rattle.em_tree.specs.Trunk.{IsTrunk, counts_of, trunk_blocks, trunk_unstored}
 use Rattle.em_tree.specs.declared.trunk.Trunk.{Trunk}
-use Rattle.em_tree.proofs.Charges.{books_less}
+use Rattle.em_tree.proofs.Charges.{books_less, charges_books}
 use Rattle.em_tree.proofs.Ends.{stopped_settling, sums_stay}
 use Rattle.em_tree.proofs.Settled.{trunk_finished}
 use Rattle.em_tree.proofs.SettlingBegins.{running_counted}
 use Rattle.em_tree.proofs.SettlingTolls.{released_toll, stopped_toll}
+use Rattle.em_tree.proofs.Unused.{none_written, unused_blocks}
 
 -- frames that stayed, and two that came back
 given_after : (a b c : PoolCounts) → SameFrames a b → GivenFrames 2 b c → GivenFrames 2 a c
@@ -70,6 +72,17 @@ stops_left {s = s} {t = t} {u = u} {v = v} n fault g p c l most =
       cause = subst C (sym l.same) (cause_pool s t u.pool fault c);
     }
 
+-- the moves of giving the answers, at each exit
+given_moves : (t u : RigState) (w : Trunk) (r : Result Chain EmFault) → GivesAnswers t u w r
+    → u.moves ≤ t.moves + min w.answers.blocks 1
+given_moves t u w (Ok c) h = h.moves
+given_moves t u w (Err fault) h = h.moves
+
+given_later : (t u : RigState) (w : Trunk) (r : Result Chain EmFault) → GivesAnswers t u w r
+    → t.moves ≤ u.moves
+given_later t u w (Ok c) h = h.session.touches.moves
+given_later t u w (Err fault) h = h.touches.moves
+
 -- Moves after a settling are paid for: but for 64 of them, by what the settling is charged.
 released_share : {shape : ShapeNumbers} {t u : Sums} (c : TreeCounts) (m r d : ℕ) → IsShape shape
     → KeepsBooks shape c 0 t → Charges shape c.k 0 m 0 (shape.block * d) t u
@@ -81,7 +94,7 @@ released_share {shape = shape} {t = t} {u = u} c m r d is b h most =
     let few : rest ≤ 64 = min-le_right r 64 in
     let same : SameRoot u u = record { root = refl; blocks = refl } in
     let start = books_less c (count_moves 0 c) 0 0 refl refl refl refl refl (omega arith) (omega arith) b in
-    let all = h.books c 0 refl start in
+    let all = charges_books h c 0 refl start in
     let sum : B * more + B * d ≤ B * (d + more) = omega arith in
     let e = call_settle more u is (call_begins all) (d + more) same (sums_stay u) (omega (arith, sum)) most in
     let f = call_debt rest u is (call_begins e) (B * rest) (sums_stay u) same (omega arith) in
@@ -161,17 +174,38 @@ module _ (key : Record → Record) (step : Option Record → Record → Step)
         session = all.session;
         frames = all.frames;
         pays = all.pays;
+        loses = all.loses;
         answers = all.answers;
       }
   finish_given (Err fault) x h = answers_left fault x h
+
+  -- A tree to which nothing was pushed releases two blocks,
+  unused_left : (v.pushed ≡ 0 → ReleasesUnused s t (counted_settling s.pool.shape v) w)
+      → IsTrue s.device.told → v.pushed ≡ 0 → t.moves ≤ s.moves + 4
+  unused_left h told e =
+      let m = (h e).moves told in
+      let n = unused_blocks key step IsOp IsKept is told e sound.shape in
+      omega (arith, m, n)
+
+  -- and has no answer to store.
+  unused_given : (v.pushed ≡ 0 → ReleasesUnused s t (counted_settling s.pool.shape v) w)
+      → (r : Result Chain EmFault) → GivesAnswers t u w r
+      → IsTrue s.device.told → v.pushed ≡ 0 → u.moves ≤ s.moves + 4
+  unused_given h r g told e =
+      let first = unused_left h told e in
+      let none = none_written s v.answers is.running.answers told (is.silent told e) in
+      let same : w.answers.blocks ≡ v.answers.blocks = ap (λ (z : Trunk). z.answers.blocks) (h e).same in
+      let few = min-le_left w.answers.blocks 1 in
+      let last = given_moves t u w r g in
+      omega (arith, first, none, same, few, last)
 
   -- The moves after a settling that went well are paid for.
   settled_costs : (m : RigState) → SettledAll key step IsOp IsKept (owing_all s (counted_settling s.pool.shape v)) s m
       (counted_settling s.pool.shape v) w
       → m.moves ≤ u.moves
       → (IsTrue m.device.told → u.moves ≤ m.moves + 2 * length (tree_blocks w.level m w.root) + 1)
-      → FinishCosts s u v
-  settled_costs m x later most =
+      → (IsTrue s.device.told → v.pushed ≡ 0 → u.moves ≤ s.moves + 4) → FinishCosts s u v
+  settled_costs m x later most none =
       let first = x.works.session.touches in
       record {
         later = omega (arith, first.moves, later);
@@ -183,13 +217,15 @@ module _ (key : Record → Record) (step : Option Record → Record → Step)
             let all = released_share (counts_of v) (m.moves - s.moves) (u.moves - m.moves) x.debt
             sound.shape (is.books told) (x.works.charges told) fits in
             record { within = omega (arith, all, up, later) };
+        unused = none;
       }
 
   -- The moves, at each exit: the buffers weren't emptied,
   unsettled_costs : (fault : EmFault) → StopsSettling (owing_all s (counted_settling s.pool.shape v)) s t
       (counted_settling s.pool.shape v) w fault
-      → u.moves ≡ t.moves → FinishCosts s u v
-  unsettled_costs fault x same =
+      → u.moves ≡ t.moves → (IsTrue s.device.told → v.pushed ≡ 0 → u.moves ≤ s.moves + 4)
+      → FinishCosts s u v
+  unsettled_costs fault x same none =
       let up = x.stops.goes.touches.moves in
       record {
         later = omega (arith, up, same);
@@ -197,35 +233,42 @@ module _ (key : Record → Record) (step : Option Record → Record → Step)
             let all = stopped_settling (counts_of v) (t.moves - s.moves) x.debt sound.shape (is.books told)
             (x.stops.charges told) (stopped_toll key step IsOp IsKept s t v w sound is x told) in
             record { within = omega (arith, all, up, same) };
+        unused = none;
       }
 
   -- the blocks weren't released,
   left_costs : (fault : EmFault)
       → FinishesBlocks {T = Unit {0}} key step IsOp IsKept s t (counted_settling s.pool.shape v) w (Err fault)
-      → LeavesTrunk t u → FinishCosts s u v
-  left_costs fault (inl x) l = unsettled_costs fault x (ap (λ (z : RigState). z.moves) l.same)
-  left_costs fault (inr x) l =
+      → LeavesTrunk t u → (v.pushed ≡ 0 → ReleasesUnused s t (counted_settling s.pool.shape v) w)
+      → FinishCosts s u v
+  left_costs fault (inl x) l h =
+      let same : u.moves ≡ t.moves = ap (λ (z : RigState). z.moves) l.same in
+      unsettled_costs fault x same (λ told e. (let few = unused_left h told e in omega (arith, few, same)))
+  left_costs fault (inr x) l h =
       let same : u.moves ≡ t.moves = ap (λ (z : RigState). z.moves) l.same in
       let up = x.stops.goes.touches.moves in
       settled_costs x.mid x.settled (omega (arith, up, same))
       (λ z. (let most = x.stops.moves z in omega (arith, most, same)))
+      (λ told e. (let few = unused_left h told e in omega (arith, few, same)))
 
   -- or they were.
   given_costs : (r : Result Chain EmFault)
       → FinishedBlocks key step IsOp IsKept s t (counted_settling s.pool.shape v) w
-      → GivesAnswers t u w r → FinishCosts s u v
-  given_costs (Ok c) x h =
+      → GivesAnswers t u w r → (v.pushed ≡ 0 → ReleasesUnused s t (counted_settling s.pool.shape v) w)
+      → FinishCosts s u v
+  given_costs r x g h =
       let up = x.released.session.touches.moves in
-      let on = h.session.touches.moves in
-      let one = h.moves in
+      let on = given_later t u w r g in
+      let last = given_moves t u w r g in
+      let one = min-le_right w.answers.blocks 1 in
       settled_costs x.mid x.settled (omega (arith, up, on))
-      (λ z. (let most = x.released.moves z in omega (arith, most, one)))
-  given_costs (Err fault) x h =
-      let up = x.released.session.touches.moves in
-      let on = h.touches.moves in
-      let one = h.moves in
-      settled_costs x.mid x.settled (omega (arith, up, on))
-      (λ z. (let most = x.released.moves z in omega (arith, most, one)))
+      (λ z. (let most = x.released.moves z in omega (arith, most, last, one))) (unused_given h r g)
+
+-- Giving the answers never needs a block.
+answers_never : (t u : RigState) (w v : Trunk) (r : Result Chain EmFault) → GivesAnswers t u w r
+    → FullIfUsed v r
+answers_never t u w v (Ok c) h = tt
+answers_never t u w v (Err fault) h = full_by fault ⊥ (v.pushed ≡ 0 → ⊥) (λ x. absurd x) h.full
 
 -- The whole call, by its parts.
 module _ (key : Record → Record) (step : Option Record → Record → Step)
@@ -243,11 +286,18 @@ module _ (key : Record → Record) (step : Option Record → Record → Step)
         let P : Trunk → Type 0 = λ z. FinishesBlocks {T = Unit {0}} key step IsOp IsKept s t z w (Err fault) in
         subst P begun_as h
 
+    pub call_left_full : FullIfUsed {T = Unit {0}} x (Err fault) → FullIfUsed {T = Chain} v (Err fault)
+    call_left_full h =
+        let pushed : x.pushed ≡ v.pushed = ap (λ (y : Trunk). y.pushed) begun_as in
+        full_by fault (x.pushed ≡ 0 → ⊥) (v.pushed ≡ 0 → ⊥) (λ f e. f (pushed ∙ e)) h
+
     pub call_left : StopsFinishing s u v fault
     call_left = finish_left key step IsOp IsKept s t u v w sound few is fault stopped l
 
-    pub call_left_costs : FinishCosts s u v
-    call_left_costs = left_costs key step IsOp IsKept s t u v w sound few is fault stopped l
+    pub call_left_costs : (x.pushed ≡ 0 → ReleasesUnused s t x w) → FinishCosts s u v
+    call_left_costs unused =
+        let P : Trunk → Type 0 = λ z. z.pushed ≡ 0 → ReleasesUnused s t z w in
+        left_costs key step IsOp IsKept s t u v w sound few is fault stopped l (subst P begun_as unused)
 
   module _ (r : Result Chain EmFault) (h : FinishedBlocks key step IsOp IsKept s t x w)
       (g : GivesAnswers t u w r) where
@@ -256,8 +306,13 @@ module _ (key : Record → Record) (step : Option Record → Record → Step)
         let P : Trunk → Type 0 = λ z. FinishedBlocks key step IsOp IsKept s t z w in
         subst P begun_as h
 
+    pub call_given_full : FullIfUsed v r
+    call_given_full = answers_never t u w v r g
+
     pub call_given : FinishesTrunk key step s u v r
     call_given = finish_given key step IsOp IsKept s t u v w sound few is r finished g
 
-    pub call_given_costs : FinishCosts s u v
-    call_given_costs = given_costs key step IsOp IsKept s t u v w sound few is r finished g
+    pub call_given_costs : (x.pushed ≡ 0 → ReleasesUnused s t x w) → FinishCosts s u v
+    call_given_costs unused =
+        let P : Trunk → Type 0 = λ z. z.pushed ≡ 0 → ReleasesUnused s t z w in
+        given_costs key step IsOp IsKept s t u v w sound few is r finished g (subst P begun_as unused)

@@ -11,10 +11,11 @@ use Rattle.em_space.specs.Rig.{Cause, DeviceCause, RigState, Touches}
 use Rattle.em_space.specs.declared.fault.EmFault.{EmFault}
 use Rattle.em_space.proofs.Apart.{off_left}
 use Rattle.em_space.proofs.Held.{apart_none}
+use Rattle.em_space.proofs.Ledgers.{full_never}
 use Rattle.em_space.proofs.Lists.{apart_sym, distinct_apart}
 use Rattle.em_space.proofs.Paying.{pays_kept, pays_more, pays_then}
 use Rattle.em_space.proofs.Sessions.{session_as, session_beside}
-use Rattle.em_space.proofs.Steps.{block_cause, cause_after, touches_trans, touches_wider}
+use Rattle.em_space.proofs.Steps.{block_cause, cause_after, device_block_cause, touches_trans, touches_wider}
 use Rattle.em_space.proofs.Within.{within_kept, within_same}
 use Rattle.em_chain.specs.Effects.{GivesFrame, Unmoved}
 use Rattle.em_chain.specs.Chain.{chain_blocks}
@@ -103,7 +104,7 @@ module _ {s m t : RigState} {v : Trunk} (frames : TrunkHasFrames s v) (answers :
             (omega (arith, still.moves)))
             spends.pays (omega (arith, spends.later));
         used = costs.only.same.used ∙ still.same.used;
-        moves = omega (arith, costs.only.moves, still.moves, few);
+        moves = omega (arith, costs.only.moves, still.moves);
       }
 
   -- They weren't stored.
@@ -118,8 +119,9 @@ module _ {s m t : RigState} {v : Trunk} (frames : TrunkHasFrames s v) (answers :
         pays = pays_more (pays_kept 1 (omega (arith, costs.only.same.used, still.same.used))
             (answers_touch.moves)) (omega (arith, few));
         used = costs.only.same.used ∙ still.same.used;
-        moves = omega (arith, costs.only.moves, still.moves, few);
+        moves = omega (arith, costs.only.moves, still.moves);
         cause = cause_after [] s m t fault first.touches (device_cause m t fault cause);
+        full = full_never m t fault ⊥ (device_block_cause m t fault cause);
       }
 
 -- by the result

@@ -1,5 +1,5 @@
 -- What a search found among full buffers that are due, and that its entry can be emptied.
-use Rattle.std.proofs.Common.{◌≡◌, ◌⊎◌, true, false, ℕ, suc, ◌-◌, ◌*◌, ◌^◌, ◌<◌, ◌≤◌, List, ◌∷◌, length, refl, sym, ◌∙◌, subst, arith, ⊎_elim, IsTrue}
+use Rattle.std.proofs.Common.{◌≡◌, true, false, ℕ, suc, ◌*◌, ◌^◌, ◌<◌, ◌≤◌, List, ◌∷◌, length, refl, sym, ◌∙◌, subst, arith, ⊎_elim, IsTrue}
 use Rattle.std.specs.Prelude.{Option, Some, None}
 use Rattle.std.proofs.Math.Nat.{mul-le-mul_right, pow-le-pow_left, pow-le-pow_right}
 use Rattle.std.proofs.lemmas.Bool.{cases_Bool, cases_lt}

@@ -73,7 +73,7 @@ spot_lowers key {l = l} {at = at} {s = s} {v = v} path sp h =
 
 module _ (key : Record → Record) {n : ℕ} {low : Record} {high : Option Record} {level : ℕ}
     {t u : Tree} (h : Lowers key n low high level t u) (i : IsTree key t least_record None) where
-  old_tree : IsTree key (put_at h.place (entry h.first h.ops h.child h.rest)) least_record None
+  pub old_tree : IsTree key (put_at h.place (entry h.first h.ops h.child h.rest)) least_record None
   old_tree = let T : Tree → Type 0 = λ x. IsTree key x least_record None in subst T h.old i
 
   -- Its child's buffers may be full then.

@@ -16,7 +16,7 @@ use Rattle.em_tree_walk.specs.declared.searching.Range.{Range}
 use Rattle.em_tree.specs.Buffers.{Due}
 use Rattle.em_tree.specs.Emptying.{CanClear, CanWork, EmptiedEntry, HasSpot, KeepsTop, LoadedEntry, deepest, spot_low, spot_ops, unstored_most}
 use Rattle.em_tree.specs.Findings.{FoundSpot}
-use Rattle.em_tree.specs.Loops.{CanClearFull, Cleared, ClearedEntry, ClearsUpTo, Grows, HasSteps, IsDrained, leaf_pay, nodes_inside, searches_left}
+use Rattle.em_tree.specs.Loops.{CanClearFull, Cleared, ClearedEntry, ClearsUpTo, Grows, HasSteps, IsDrained, clear_pay, leaf_pay, nodes_inside, searches_left}
 use Rattle.em_tree.specs.Starts.{is_inside, starts_of}
 use Rattle.em_tree.specs.Trunk.{full_limit, root_of, sums_in}
 use Rattle.em_tree.specs.Works.{StopsWorking, Works}
@@ -40,7 +40,7 @@ last_zero : (m : ℕ) → is_lt (nat_cmp m 0) ≡ false
 last_zero zero = refl
 last_zero (suc m) = ap is_lt (sym (nat_cmp_is (suc m) 0 Greater (omega arith)))
 
-least_of_all : (k : Record) → is_below k least_record ≡ false
+pub least_of_all : (k : Record) → is_below k least_record ≡ false
 least_of_all k = at_zero k.a _ (at_zero k.b _ (at_zero k.c _ (last_zero k.d)))
 
 -- the buffer of a root that stays
@@ -96,11 +96,12 @@ module _ (key : Record → Record) (step : Option Record → Record → Step)
       let wide : wide_of s.pool.shape * B ≤ full_limit s.pool.shape = mul-le-mul_right B
       (let f = can.sound.shape.frames_multiple in omega (arith, f)) in
       let C : ℕ → ℕ → Type 0 = λ p z. (p + L * K ≤ p + L * K)
-      × (p + L * (1 + J) + (L - z) * L * x + (p + L * K) ≤ p + L * K + 2 * L + L * L * x + (p + L * K)) in
+      × (p + L * (1 + J) + ((L - z) * L * x + L * 1) + (p + L * K)
+      ≤ p + L * K + 2 * L + L * L * x + (p + L * K)) in
       let one : 1 ≡ suc l = ap suc (sym e) in
       record {
         works = λ p. works_fit (p + L * K) (p + L * K + 2 * L + L * L * x) (p + L * K)
-            (p + L * (1 + J) + leaf_pay d s v * x) can.sound.shape
+            (p + L * (1 + J) + clear_pay d 1 s t v w) can.sound.shape
             (λ told deep. subst (C p) one (credit_loaded p L K J x
             (nodes_after d inner.from s t v w (later_from told) (omega arith) (clears told).grows)
             (omega (arith, deep, down))))
@@ -234,8 +235,9 @@ module _ (key : Record → Record) (step : Option Record → Record → Step)
       (b.clears (goes_on told))))))) in
       record {
         works = λ p. works_then (h.works (credit p) (λ q. full_of q))
-            (works_fit (after p + deepest t w * (1 + N)) (after p + deepest t w * 0 + leaf_pay below t w * y)
-            (credit p + 18 + 3 * L) (p + L * (1 + J) + leaf_pay outer s v * z)
+            (works_fit (after p + deepest t w * (1 + N))
+            (after p + deepest t w * 0 + clear_pay below b.found t u w x) (credit p + 18 + 3 * L)
+            (p + L * (1 + J) + clear_pay outer 1 s u v x)
             (subst IsShape (sym a.session.touches.shape) can.sound.shape)
             (λ told2 deep2. (let told = sym a.session.touches.told ∙ told2 in
             let e = (h.lowers told).leaves in
@@ -243,10 +245,11 @@ module _ (key : Record → Record) (step : Option Record → Record → Step)
             let few = nodes_after outer inner.from s u v x (found told).from_after (omega arith)
             (clears told).grows in
             let C : ℕ → Type 0 = λ k. (after p + deepest t w * (1 + N) ≤ credit p + 18 + 3 * L)
-            × (p + L * (1 + J) + leaf_pay outer s v * z + (after p + deepest t w * (1 + N))
-            ≤ after p + deepest t w * 0 + leaf_pay below t w * k + (credit p + 18 + 3 * L)) in
+            × (p + L * (1 + J) + (leaf_pay outer s v * z + L * 1) + (after p + deepest t w * (1 + N))
+            ≤ after p + deepest t w * 0 + (leaf_pay below t w * k + deepest t w * b.found)
+            + (credit p + 18 + 3 * L)) in
             let k : z ≡ y = ap (λ (q : ℕ). (sums_in u x).leaves - q) (sym e) in
-            subst C k (credit_lowered p L (deepest t w) K N J m z same (none_inside told) few
+            subst C k (credit_lowered p L (deepest t w) K N J m z b.found same (none_inside told) few
             (omega (arith, same, deep2, lv, down)))))
             (b.works (after p)));
         clears = clears;

@@ -17,6 +17,7 @@ use Rattle.em_frames.specs.Pool.{singles_of}
 use Rattle.em_tree_blocks.specs.Reading.{tree_blocks}
 use Rattle.em_tree_blocks.proofs.Frames.{tree_stays}
 use Rattle.em_tree_cost.specs.Books.{count_moves, no_counts}
+use Rattle.em_tree_load.proofs.Losses.{loses_as}
 use Rattle.em_tree.specs.Planting.{IsFreshTrunk, MakesFresh, Planted, StopsPlanting}
 use Rattle.em_tree.specs.Trunk.{trunk_blocks}
 use Rattle.em_tree.specs.declared.trunk.Trunk.{Trunk}
@@ -33,6 +34,7 @@ fresh_trunk root buffer answers spent = record {
   longest = 0;
   since = 0;
   settled = 0;
+  resets = 0;
   spent = spent;
   steps = 0;
 }
@@ -72,6 +74,7 @@ module _ {s m a t : RigState} {root : ℕ} {buffer answers : Writer} (p : Plante
       (record { len_is = b.is.frame.len_is ∙ ap (λ q. q.block) (sym g.shape); out = omega (arith, out) })
       b.is in
       let moves : t.moves ≡ m.moves = y.moves ∙ x.moves in
+      let used : t.used ≡ m.used = y.same.used ∙ x.same.used in
       let later = p.session.touches.moves in
       let all = λ (z : IsTrue s.device.told). (
       let told = l.touches.told ∙ (p.session.touches.told ∙ z) in
@@ -99,7 +102,10 @@ module _ {s m a t : RigState} {root : ℕ} {buffer answers : Writer} (p : Plante
           peak = omega (arith, f.peak, g.peak, e.peak);
         };
         within = out;
-        pays = fresh_pays s m t p.pays moves (y.same.used ∙ x.same.used);
+        pays = fresh_pays s m t p.pays moves used;
+        used = used ∙ p.used;
+        loses = loses_as [] ks (trunk_blocks t (fresh_trunk root buffer answers (m.moves - s.moves))) s t
+            (λ z. (let e = p.loses z in omega (arith, e, used))) (λ z. all z);
         counts = fresh_counts (m.moves - s.moves);
         spent = omega (arith, moves, later);
         moves = omega (arith, moves, p.moves);

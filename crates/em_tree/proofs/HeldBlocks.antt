@@ -58,10 +58,25 @@ held_node B a b c x h =
     omega (arith, p, q, h)
 
 -- a row is a node's
-row_node : (child : ℕ → Tree) (s : RigState) (es : List Entry)
+pub row_node : (child : ℕ → Tree) (s : RigState) (es : List Entry)
     → node_of (outline_of (row_of child s es)) ≡ 1
 row_node child s [] = refl
 row_node child s (e ∷ es) = refl
+
+-- a leaf's chain has as many blocks as its records fill
+pub leaf_packed : (s : RigState) (k : ℕ) → IsShape s.pool.shape → IsTrue s.device.told → IsTreeAt 0 s k
+    → IsCeil (length (chain_blocks s (stored_chain s k))) (payload_of s.pool.shape)
+    (length (chain_items s (stored_chain s k)))
+leaf_packed s k is told i =
+    let P = payload_of s.pool.shape in
+    let c = stored_chain s k in
+    let low = is.block_low in
+    let items = length_items s c i.stored told in
+    let blocks = (i.stored.told told).list.blocks_is in
+    let C : ℕ → Type 0 = λ n. IsCeil n P (length (chain_items s c)) in
+    let D : ℕ → Type 0 = λ n. IsCeil (ceiling c.count P) P n in
+    subst C (sym (blocks ∙ packed_blocks s c low i.stored told (i.packed told)))
+    (subst D (sym items) (ceiling_is c.count P (omega (arith, low))))
 
 -- What a tree holds, in records. Of a leaf:
 leaf_held : (s : RigState) (k : ℕ) → IsShape s.pool.shape → IsTrue s.device.told → IsTreeAt 0 s k
@@ -72,13 +87,7 @@ leaf_held s k is told i =
     let P = payload_of s.pool.shape in
     let c = stored_chain s k in
     let low = is.block_low in
-    let items = length_items s c i.stored told in
-    let blocks = (i.stored.told told).list.blocks_is in
-    let C : ℕ → Type 0 = λ n. IsCeil n P (length (chain_items s c)) in
-    let D : ℕ → Type 0 = λ n. IsCeil (ceiling c.count P) P n in
-    let full : IsCeil (length (chain_blocks s c)) P (length (chain_items s c)) =
-    subst C (sym (blocks ∙ packed_blocks s c low i.stored told (i.packed told)))
-    (subst D (sym items) (ceiling_is c.count P (omega (arith, low)))) in
+    let full = leaf_packed s k is told i in
     packed_few B P (length (chain_blocks s c)) (length (chain_items s c)) (omega (arith, low))
     (omega (arith, low)) full
 

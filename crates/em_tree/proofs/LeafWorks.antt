@@ -1,8 +1,9 @@
 -- A load that splits no leaf, as a step of a call.
 use Rattle.std.proofs.Common.{◌≡◌, ℕ, suc, ◌+◌, ◌-◌, ◌*◌, ◌<◌, ◌≤◌, List, ◌++◌, length, refl, sym, ap, ◌∙◌, subst, IsTrue, arith}
-use Rattle.std.specs.Prelude.{Option, None}
+use Rattle.std.specs.Prelude.{Option, None, min}
 use Rattle.std.proofs.Math.Nat.{min-eq_left, min-eq_right}
 use Rattle.std.proofs.lemmas.List.{length-append}
+use Rattle.std.proofs.lemmas.List.Sorted.{length_permutation}
 use Rattle.em_record.specs.Shape.{IsShape, ShapeNumbers, fan_of, payload_of, wide_of}
 use Rattle.em_record.specs.declared.record.Record.{Record}
 use Rattle.em_space.specs.Free.{Off}
@@ -23,7 +24,7 @@ use Rattle.em_settle.specs.declared.step.Step.{Step}
 use Rattle.em_tree_model.specs.Meaning.{tree_answers, tree_contents}
 use Rattle.em_tree_model.specs.Places.{Place, put_at}
 use Rattle.em_tree_model.specs.Places.Place.{here, past, under}
-use Rattle.em_tree_model.specs.Ranges.{IsTree, least_record, next_low}
+use Rattle.em_tree_model.specs.Ranges.{IsTree, least_record, next_low, InRange}
 use Rattle.em_tree_model.specs.Tree.{Tree}
 use Rattle.em_tree_model.specs.Tree.Tree.{end, entry, leaf}
 use Rattle.em_tree_model.proofs.Events.{placed}
@@ -35,16 +36,20 @@ use Rattle.em_tree_blocks.specs.Reading.{IsTreeAt, leaf_items, tree_at, tree_blo
 use Rattle.em_tree_blocks.proofs.Whole.{entry_reads}
 use Rattle.em_tree_cost.specs.Effects.{SameRoot, SumsLoad}
 use Rattle.em_tree_cost.specs.Fat.{LeftFat}
-use Rattle.em_tree_cost.specs.Outline.{sums_of}
+use Rattle.em_tree_cost.specs.Outline.{stored_of, sums_of}
 use Rattle.em_tree_cost.specs.Parts.{load_moves}
 use Rattle.em_tree_cost.specs.Sizes.{IsCeil}
 use Rattle.em_tree_cost.proofs.Ceilings.{ceil_most, ceiling_is}
+use Rattle.em_tree_cost.proofs.Levels.{size_is}
+use Rattle.em_tree_cost.proofs.OneLeaf.{load_into_one}
+use Rattle.em_tree.proofs.Losing.{list_loses}
 use Rattle.em_tree_outline.specs.Outline.{outline_of}
 use Rattle.em_tree_load.specs.Forms.{AreFormed}
 use Rattle.em_tree_load.specs.LeafLoads.{LoadedLeaf, LoadsOne, SettlesLoad, leaf_size, loading_over}
+use Rattle.em_tree_load.specs.Paid.{LosesNone}
 use Rattle.em_tree_walk.specs.Lows.{LowsKeep}
-use Rattle.em_tree.specs.Buffers.{ClearOver, IsBounded, IsDue, OnOneSide, OnlyFull}
-use Rattle.em_tree.specs.Emptying.{IsSpot, LoadedEntry, LoadsEntry, LoadsOwing, deepest, leaf_debt, spot_high, spot_low, spot_ops}
+use Rattle.em_tree.specs.Buffers.{ClearOver, IsBounded, IsDue, OnOneSide, OnlyFull, IsThin}
+use Rattle.em_tree.specs.Emptying.{IsSpot, LoadedEntry, LoadsEntry, LoadsOwing, deepest, leaf_debt, spot_high, spot_low, spot_ops, LeavesRest}
 use Rattle.em_tree.specs.Owing.{load_part, loads_owing}
 use Rattle.em_tree.specs.Starts.{starts_of}
 use Rattle.em_tree.specs.Entries.{EachEntry, place_level}
@@ -63,7 +68,11 @@ use Rattle.em_tree.proofs.NodeWorks.{NodeWorked, node_worked, root_buffer_stays,
 use Rattle.em_tree.proofs.Buffers.{full_loaded}
 use Rattle.em_tree.proofs.PathStarts.{starts_loaded}
 use Rattle.em_tree.proofs.Places.{level_entry}
-use Rattle.em_tree.proofs.Spots.{spot_level}
+use Rattle.em_tree.proofs.Spots.{spot_level, placed_low, spot_start}
+use Rattle.em_tree.proofs.Clear.{OwnAt, own_at}
+use Rattle.em_tree.proofs.Entries.{each_map}
+use Rattle.em_tree.proofs.Faces.{own_start}
+use Rattle.em_tree.proofs.Waits.{none_on}
 
 -- the moves of a load, less the fee of its operations
 load_debt_of : (P y c e L : ℕ) → c * P < y + P → c ≤ y
@@ -86,6 +95,13 @@ pub leaf_under : (n : ℕ) (p : Place) (low : Record) (ops xs : List Record) (r 
 leaf_under n here low ops xs r h = h.0
 leaf_under n (under low2 b2 r2 p) low ops xs r h = leaf_under n p low ops xs r h.0
 leaf_under n (past low2 b2 c2 p) low ops xs r h = leaf_under n p low ops xs r h.1
+
+-- a leaf's records are among all
+pub stored_here : (p : Place) (low : Record) (b xs : List Record) (r : Tree)
+    → length xs ≤ stored_of (outline_of (put_at p (entry low b (leaf xs) r)))
+stored_here here low b xs r = omega arith
+stored_here (under low2 b2 r2 p) low b xs r = let h = stored_here p low b xs r in omega (arith, h)
+stored_here (past low2 b2 c2 p) low b xs r = let h = stored_here p low b xs r in omega (arith, h)
 
 -- a leaf's blocks
 leaf_fits : (w P x : ℕ) → 4 * w ≤ P → x ≤ 4 * (w * (P + 1)) → x ≤ (4 * w + 1) * P
@@ -158,6 +174,18 @@ module _ (key : Record → Record) (step : Option Record → Record → Step)
           (tree_blocks l t (spot_node s v path) ++ writer_blocks t b) in
           subst Q (sym a.on.level) (subst P (sym a.node_is) loaded.session)
 
+      loses_here : IsTrue s.device.told
+          → LosesNone (tree_blocks (level_on path v.level) s (spot_node s v path) ++ writer_blocks s v.answers)
+          (tree_blocks (level_on path v.level) t (spot_node s v path) ++ writer_blocks t b) s t
+      loses_here told =
+          let a = spot told in
+          let P : ℕ → Type 0 = λ n. LosesNone (tree_blocks 1 s n ++ writer_blocks s v.answers)
+          (tree_blocks 1 t n ++ writer_blocks t b) s t in
+          let Q : ℕ → Type 0 = λ l. LosesNone
+          (tree_blocks l s (spot_node s v path) ++ writer_blocks s v.answers)
+          (tree_blocks l t (spot_node s v path) ++ writer_blocks t b) s t in
+          subst Q (sym a.on.level) (subst P (sym a.node_is) loaded.loses)
+
       pub held_here : (told : IsTrue s.device.told) → loading_over s node v.answers
           ≡ tree_blocks (level_on path v.level) s (spot_node s v path) ++ writer_blocks s v.answers
       held_here told =
@@ -171,12 +199,15 @@ module _ (key : Record → Record) (step : Option Record → Record → Step)
 
       pub worked : (told : IsTrue s.device.told) → NodeWorked s t v (after_load v b) path
       worked told = node_worked key IsOp IsKept s t v b (run.stands told) told path
-          (spot told).on.on_path (session_here told) buffer_kept
+          (spot told).on.on_path (session_here told) (loses_here told) buffer_kept
 
       pub load_session : Session (trunk_blocks s v) s t (trunk_blocks t (after_load v b))
       load_session = session_if loaded.session
           (λ z k o. (let P : List ℕ → Type 0 = Off k in subst P (sym (held_here z)) ((worked z).off k o)))
           (λ z. (worked z).session)
+
+      pub load_loses : LosesNone (trunk_blocks s v) (trunk_blocks t (after_load v b)) s t
+      load_loses told = (worked told).loses told
 
       pub load_pays : Pays (trunk_unstored v) (trunk_unstored (after_load v b)) s t
       load_pays = pays_more loaded.pays (omega arith)
@@ -318,6 +349,7 @@ module _ (key : Record → Record) (step : Option Record → Record → Step)
               longest_most = n.longest_most;
               pushed_most = n.pushed_most;
               settled_most = n.settled_most;
+              resets_most = n.resets_most;
               spent_most = omega (arith, n.spent_most, h.moves);
               root_below = rw (h.blocks) (n.root_below);
             };
@@ -394,6 +426,35 @@ module _ (key : Record → Record) (step : Option Record → Record → Step)
           charges_load_some p (t.moves - s.moves) (p + 2 * L) pay (sums_in s v) (sums_in t (after_load v b)) shape
           (omega (arith, moved)) y (B * (5 * (leaf_blocks s v path i) + 24 + 2 * L)) (load_sums told) same_root debt
 
+      -- One into a leaf that isn't split owes by what is stored then: each operation took one record away at most.
+      load_few : (p : ℕ) → (told : IsTrue s.device.told)
+          → Charges s.pool.shape v.longest p (t.moves - s.moves) p
+          (6 * (sums_in t (after_load v b)).stored + s.pool.shape.block * 30) (sums_in s v)
+          (sums_in t (after_load v b))
+      load_few p told =
+          let d = load_here loaded told in
+          let P = payload_of s.pool.shape in
+          let w = wide_of s.pool.shape in
+          let B = s.pool.shape.block in
+          let xs = leaf_items s (spot_entry s v path i) in
+          let ys = list_with_ops key step xs d.sorted in
+          let y = length d.load in
+          let some : 0 < P = omega (arith, shape.block_low) in
+          let c = ceiling y P in
+          let e = leaf_blocks s v path i in
+          let pay = 5 * e + 6 * c + 18 in
+          let moved = load_moved told in
+          let lost = list_loses key step xs d.sorted in
+          let many = length_permutation d.load d.sorted (one told).same in
+          let T : Tree → Type 0 = λ x. length ys ≤ stored_of (outline_of x) in
+          let here = subst T (sym (new_root told)) (stored_here (spot_place s v path i)
+          (spot_entry s v path i).low d.rest ys (row_from 0 s (spot_node s v path) (suc i))) in
+          let debt = load_into_one w B P (length xs) y (length ys) c e (size_is s.pool.shape shape)
+          (leaf_ceil key IsOp IsKept shape run spot told) (ceiling_is y P some) (omega (arith, lost, many)) in
+          charges_load_some p (t.moves - s.moves) p pay (sums_in s v) (sums_in t (after_load v b)) shape
+          (omega (arith, moved)) y (6 * (sums_in t (after_load v b)).stored + B * 30) (load_sums told) same_root
+          (omega (arith, debt, here))
+
       load_steps : (p q d : ℕ) → (IsTrue s.device.told → Charges s.pool.shape v.longest p
           (t.moves - s.moves) q d (sums_in s v) (sums_in t (after_load v b)))
           → Works key step IsOp IsKept p q d 0 s t v (after_load v b)
@@ -401,10 +462,13 @@ module _ (key : Record → Record) (step : Option Record → Record → Step)
         session = (load_session loaded);
         frames = loaded.frames;
         pays = (load_pays loaded);
-        numbers = record { pushed = refl; longest = refl; since = refl; settled = refl; spent = refl };
+        loses = load_loses loaded;
+        numbers = record { pushed = refl; longest = refl; since = refl; settled = refl; resets = refl; spent = refl };
         steps = omega arith;
         running = load_runs;
         continues = load_continues;
+        still = λ told. none_on key step IsOp IsKept (run.stands told).is (run.stands told).turn
+            (load_continues told);
         charges = c;
         paces = λ z. charges_within p (t.moves - s.moves) q d 0 q d (omega arith) (omega arith) (c z);
       }
@@ -452,6 +516,51 @@ module _ (key : Record → Record) (step : Option Record → Record → Step)
                 let c = ap (starts_of test level v.level least_record) (new_root told) in
                 let f = starts_loaded test level p e.low ops d.rest xs ys r v.level least_record in
                 omega (arith, a, c, f, sums.leaves);
+          }
+
+      -- what is left of its buffer
+      load_rests : IsTrue s.device.told → LeavesRest i s t v (after_load v b) path
+      load_rests told =
+          let st = run.stands told in
+          let d = load_here loaded told in
+          let e = spot_entry s v path i in
+          let p = spot_place s v path i in
+          let xs = leaf_items s e in
+          let ys = list_with_ops key step xs d.sorted in
+          let r = row_from 0 s (spot_node s v path) (suc i) in
+          let ops = d.load ++ d.rest in
+          let size = length-append d.load d.rest in
+          let all = ap length (one told).buffer ∙ size in
+          let T : Tree → Type 0 = λ z. IsTree key z least_record None in
+          let is = subst T (old_root told) st.is.2 in
+          let after = subst T (new_root told) (load_stands told).is.2 in
+          let X = entry e.low d.rest (leaf ys) r in
+          let x = placed key p X least_record None after in
+          let at = spot_level v.level s v.root path 0 i (spot told).on in
+          let low_is : x.low ≡ spot_low i s v path = placed_low key p X least_record None after
+          ∙ spot_start v.level s v.root path 0 i least_record d.rest (leaf ys) r (spot told).on in
+          let taken = d.taken in
+          let R : List Record → Type 0 = λ b. length b
+          + min (length (spot_ops i s v path)) (wide_of s.pool.shape * s.pool.shape.block)
+          ≤ length (spot_ops i s v path) in
+          let L : Record → Type 0 = λ k. InRange x.low (next_low x.high r) k in
+          let own = subst L low_is (own_start key p e.low d.rest (leaf ys) r least_record None after tt) in
+          record {
+            thin = λ limit some h.
+                let E : Tree → Type 0 = EachEntry (IsThin limit) v.level least_record None in
+                subst E (sym (new_root told)) (each_loaded key p e.low ops xs r (IsThin limit) d.rest ys
+                v.level least_record None is (λ g. omega (arith, g, size)) (subst E (old_root told) h));
+            left =
+                let Q : ℕ → Record → Option Record → List Record → Type 0 = λ level lo hi b. level ≡ 1
+                → InRange lo hi (spot_low i s v path) → R b in
+                let E : Tree → Type 0 = EachEntry Q v.level least_record None in
+                let O : ℕ → Record → Option Record → List Record → Type 0 =
+                OwnAt R (place_level p v.level) x.low (next_low x.high r) in
+                subst E (sym (new_root told)) (each_map O Q (λ l k top b h same q. h (omega (arith, same, at))
+                (spot_low i s v path) own q) v.level least_record None (put_at p X)
+                (own_at key R p e.low d.rest (leaf ys) r v.level least_record None (omega (arith, all, taken))
+                (omega (arith, at)) after));
+            level = λ none. refl;
           }
 
       -- What the entries over leaves may owe then.
@@ -507,7 +616,9 @@ module _ (key : Record → Record) (step : Option Record → Record → Step)
                 let x = 5 * leaf_blocks s v path i + 24 + 2 * L in
                 subst C (sym (none z)) (charges_within p m (p + 2 * L) (B * x) m (p + 2 * L + L * L * 0)
                 (B * leaf_debt i s v path) (omega arith) (omega arith) (load_owed p z))));
+            one = λ p same. load_steps p p (6 * (sums_in t (after_load v b)).stored + B * 30) (λ z. load_few p z);
             owing = load_left;
             loads = load_facts;
+            rests = load_rests;
             keeps = record { buffer = refl; level = omega arith };
           }

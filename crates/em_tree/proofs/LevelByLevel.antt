@@ -79,6 +79,7 @@ module _ (key : Record → Record) (step : Option Record → Record → Step)
             longest = refl;
             since = refl;
             settled = refl;
+            resets = refl;
             spent = refl;
           };
           pays = pays_more (pays_kept (trunk_unstored v) (omega arith) g.touches.moves) (omega arith);
@@ -89,6 +90,7 @@ module _ (key : Record → Record) (step : Option Record → Record → Step)
                 (cases_Bool s.device.told),
             can.running.numbers.root_below,
           );
+          needs = tt;
           charges = λ told. absurd (never told);
         });
         owes = λ told. absurd (never told);

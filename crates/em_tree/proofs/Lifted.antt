@@ -17,6 +17,8 @@ use Rattle.em_tree_blocks.specs.Reading.{AreStored, IsTreeAt, entries_at, row_bl
 use Rattle.em_tree_blocks.proofs.Frames.{block_same}
 use Rattle.em_tree_blocks.proofs.Paths.{around, blocks_on, changed_on, child_stored, others_apart, path_stays}
 use Rattle.em_tree_load.specs.Forms.{AreFormed, HaveForms}
+use Rattle.em_tree_load.specs.Paid.{LosesNone}
+use Rattle.em_tree_load.proofs.Losses.{loses_as, loses_beside, loses_from}
 use Rattle.em_tree.proofs.Stays.{forms_stay, row_forms}
 
 -- the blocks of one child are apart from those from which a row's are
@@ -96,6 +98,7 @@ module _ (held : List ℕ) (s t : RigState) (h : Touches held s t) (told : IsTru
 -- A call changed blocks of a node's tree alone: what is left of the whole tree.
 pub record TreeWorked (s t : RigState) (path : List ℕ) (top root : ℕ) : Type 0 where
   pub session : Session (tree_blocks top s root) s t (tree_blocks top t root)
+  pub loses : LosesNone (tree_blocks top s root) (tree_blocks top t root) s t
   pub is : IsTreeAt top t root
   pub reads : tree_at top t root
       ≡ put_at (place_on path top s root) (tree_at (level_on path top) t (node_on path top s root))
@@ -107,9 +110,11 @@ pub tree_worked : (s t : RigState) (path : List ℕ) (top root : ℕ) → IsTrue
     → IsPath path top s root → IsTreeAt top s root → Holds s (tree_blocks top s root)
     → Session (tree_blocks (level_on path top) s (node_on path top s root)) s t
     (tree_blocks (level_on path top) t (node_on path top s root))
+    → LosesNone (tree_blocks (level_on path top) s (node_on path top s root))
+    (tree_blocks (level_on path top) t (node_on path top s root)) s t
     → IsTreeAt (level_on path top) t (node_on path top s root)
     → TreeWorked s t path top root
-tree_worked s t path top root told n i holds g is =
+tree_worked s t path top root told n i holds g x is =
     let j = node_on path top s root in
     let l = level_on path top in
     let old = tree_blocks l s j in
@@ -129,6 +134,9 @@ tree_worked s t path top root told n i holds g is =
     let T : List ℕ → Type 0 = λ ks. Session (tree_blocks top s root) s t ks in
     record {
       session = subst T (sym after) (subst S (sym before) beside);
+      loses = loses_from (r.front ++ (old ++ r.back)) (tree_blocks top s root) (tree_blocks top t root) s t
+          (loses_as (r.front ++ (old ++ r.back)) (r.front ++ (new ++ r.back)) (tree_blocks top t root) s t
+          (loses_beside r.front old new r.back s t x) (λ z. after)) (λ z. before);
       is = m.stored is;
       reads = changed_on old s t h told path top root n i apart;
       formed = λ own f. forms_path old s t h told path top root n i apart own f;

@@ -1,6 +1,6 @@
 -- A load of an entry's buffer, at each exit of its function.
-use Rattle.std.proofs.Common.{◌≡◌, ℕ, ◌+◌, ◌*◌, List, refl, subst, sym, IsErrAnd, Result, Ok, Err}
-use Rattle.std.specs.Prelude.{Option, Some, None}
+use Rattle.std.proofs.Common.{◌≡◌, ℕ, ◌+◌, ◌*◌, List, refl, subst, sym, IsErrAnd, IsTrue, Result, Ok, Err}
+use Rattle.std.specs.Prelude.{IfErr, Option, Some, None}
 use Rattle.em_record.specs.declared.record.Record.{Record}
 use Rattle.em_settle.specs.Laws.{IsSettle}
 use Rattle.em_settle.specs.declared.step.Step.{Step}
@@ -12,14 +12,19 @@ use Rattle.em_tree_blocks.specs.Reading.{tree_blocks}
 use Rattle.em_tree_load.specs.LeafLoads.{LoadedLeaf, StopsLoading}
 use Rattle.em_tree_load.specs.SplitPaths.{CanSplitUp, SplitUp, StopsUpTo}
 use Rattle.em_tree_load.specs.declared.splitting.Root.{Root}
-use Rattle.em_tree.specs.Emptying.{CanEmptyEntry, CanWork, LoadedEntry, LoadsTo, StopsEntry, stop_debt}
+use Rattle.em_tree.specs.Emptying.{CanEmptyEntry, CanWork, LoadedEntry, LoadsTo, StopsEntry, StopsHeld, stop_debt}
 use Rattle.em_tree.specs.Trunk.{full_limit}
 use Rattle.em_tree.specs.declared.trunk.Trunk.{Trunk}
 use Rattle.em_tree.proofs.CutEntries.{cut_entry}
-use Rattle.em_tree.proofs.CutWorks.{split_stopped}
+use Rattle.em_tree.proofs.CutWorks.{split_held, split_stopped}
 use Rattle.em_tree.proofs.EntryConditions.{can_split}
 use Rattle.em_tree.proofs.LeafWorks.{after_load, loaded_entry}
-use Rattle.em_tree.proofs.LoadStops.{load_stopped}
+use Rattle.em_tree.proofs.LoadStops.{load_held, load_stopped}
+
+-- what holds at an error
+pub held_by : {T : Type 0} (Q : Type 0) (r : Result T EmFault) → Q → IfErr r (λ fault. Q)
+held_by Q (Ok x) h = tt
+held_by Q (Err fault) h = h
 
 -- by a result that is an error
 pub loads_of : {T : Type 0} (key : Record → Record) (step : Option Record → Record → Step)
@@ -43,6 +48,12 @@ module _ (key : Record → Record) (step : Option Record → Record → Step)
       → StopsEntry (full_limit s.pool.shape) (s.pool.shape.block * stop_debt at s v spot.spot.path)
       at s t v (after_load v b) spot.spot.path fault
   exit_unloaded b frame stopped = load_stopped key step IsOp IsKept laws b can.sound.shape can.running
+      (λ z. spot.spot.told z) frame stopped
+
+  pub exit_unloaded_held : {t : RigState} {fault : EmFault} (b : Writer) → WriterHasFrame t b
+      → StopsLoading s t node at v.answers fault → IsTrue s.device.told
+      → StopsHeld at s t v spot.spot.path
+  exit_unloaded_held b frame stopped = load_held key step IsOp IsKept laws b can.sound.shape can.running
       (λ z. spot.spot.told z) frame stopped
 
   -- it was, and not split,
@@ -77,6 +88,14 @@ module _ (key : Record → Record) (step : Option Record → Record → Step)
       at s u v (after_load v b) spot.spot.path fault
   exit_unsplit some loaded stopped =
       split_stopped key step IsOp IsKept laws can.sound.shape can.running (λ z. spot.spot.told z)
+      (exit_cut some loaded) stopped
+
+  pub exit_unsplit_held : {t u : RigState} {b : Writer} {new : Option Record} {low : Record}
+      {fault : EmFault} → new ≡ Some low → LoadedLeaf key step s t node at v.answers b new
+      → StopsUpTo (v.level + 1) (7 * v.level + 4) (tree_blocks v.level t v.root) t u fault
+      → IsTrue s.device.told → StopsHeld at s u v spot.spot.path
+  exit_unsplit_held some loaded stopped =
+      split_held key step IsOp IsKept laws can.sound.shape can.running (λ z. spot.spot.told z)
       (exit_cut some loaded) stopped
 
   -- or was done.

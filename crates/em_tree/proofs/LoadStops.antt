@@ -16,7 +16,7 @@ use Rattle.em_tree_blocks.specs.Node.{buffer_of}
 use Rattle.em_tree_blocks.specs.Paths.{level_on}
 use Rattle.em_tree_blocks.specs.Reading.{leaf_items, tree_blocks}
 use Rattle.em_tree_load.specs.LeafLoads.{StopsLoading, load_leaf_moves, loading_over, taken_of}
-use Rattle.em_tree.specs.Emptying.{IsSpot, StopsEntry, deepest, stop_debt, unstored_most}
+use Rattle.em_tree.specs.Emptying.{IsSpot, StopsEntry, StopsHeld, deepest, stop_debt, unstored_most, spot_ops}
 use Rattle.em_tree.specs.Trunk.{IsRunning, full_limit, sums_in, trunk_blocks}
 use Rattle.em_tree.specs.Works.{StopsWorking}
 use Rattle.em_tree.specs.declared.trunk.Trunk.{Trunk}
@@ -33,13 +33,17 @@ use Rattle.em_tree_model.specs.Tree.{Tree}
 use Rattle.em_tree_model.specs.Tree.Tree.{entry, leaf}
 use Rattle.em_tree_cost.specs.Counters.{Sums}
 use Rattle.em_tree_cost.specs.Effects.{SumsLoad}
-use Rattle.em_tree_cost.specs.Outline.{waiting_of}
+use Rattle.em_tree_cost.specs.Outline.{stored_of, waiting_of}
 use Rattle.em_tree_cost.proofs.Ceilings.{ceil_most, ceiling_is}
+use Rattle.em_tree_cost.proofs.Charges.{blocks_few}
+use Rattle.em_tree_cost.proofs.Levels.{size_is}
 use Rattle.em_tree_outline.specs.Outline.{outline_of}
-use Rattle.em_tree.specs.Events.{ChargesUpTo}
+use Rattle.em_tree.specs.Events.{Charges, ChargesUpTo}
 use Rattle.em_tree.proofs.Charges.{charges_load_some}
-use Rattle.em_tree.proofs.LeafSizes.{ceil_few}
-use Rattle.em_tree.proofs.LeafWorks.{after_load, leaf_blocks, leaf_small, spot_entry, spot_node, spot_place, spot_reads, wide_small}
+use Rattle.em_tree.proofs.LeafSizes.{ceil_few, leaf_ceil}
+use Rattle.em_tree.proofs.LeafWorks.{after_load, leaf_blocks, leaf_small, spot_entry, spot_node, spot_place, spot_reads, stored_here, wide_small}
+use Rattle.em_tree.proofs.Bounded.{limit_some}
+use Rattle.em_tree.proofs.Waits.{spot_waits, waits_some}
 
 -- the operations of one buffer are among those that wait
 pub waiting_here : (p : Place) (low : Record) (b : List Record) (c r : Tree)
@@ -108,6 +112,12 @@ module _ (P w e c k n a r : ℕ) (leaf : e ≤ 4 * w + 1) (load : c ≤ w + 1) (
       (λ (full : a ≡ w * (P + 1)). omega (arith, N, W, s, N2, d, fee, rest, full))
       parts
 
+-- a leaf's blocks, by its records
+leaf_cost : (P e x : ℕ) → e * P < x + P → e * 127 ≤ x + 126 → (P + 1) * (5 * e) ≤ 6 * x + 5 * (P + 1)
+leaf_cost P e x tight many =
+    let c : (P + 1) * (5 * e) ≡ 5 * (e * P) + 5 * e = omega arith in
+    omega (arith, c, tight, many)
+
 -- a load's blocks
 load_fits : (w P a : ℕ) → 4 * w ≤ P → a ≤ w * (P + 1) → a ≤ (w + 1) * P
 load_fits w P a few h = omega (arith, few, h)
@@ -134,10 +144,10 @@ module _ (key : Record → Record) (step : Option Record → Record → Step)
     frames = stopped.goes.frames;
   }
 
-  stop_works : (p d : ℕ) → (IsTrue s.device.told
+  stop_works : (p d : ℕ) → (IsTrue s.device.told → 1 ≤ length (spot_ops i s v path)) → (IsTrue s.device.told
       → ChargesUpTo s.pool.shape v.longest p (t.moves - s.moves) d (sums_in s v))
       → StopsWorking p d (unstored_most s) s t v (after_load v b) fault
-  stop_works p d c =
+  stop_works p d some c =
       let f = stopped.goes.frames in
       let most = min-le_right v.buffer.blocks 1 in
       record {
@@ -147,9 +157,10 @@ module _ (key : Record → Record) (step : Option Record → Record → Step)
           answers = frame.len_is;
           out = rw (f.shape, f.free) (run.frames.out);
         };
-        numbers = record { pushed = refl; longest = refl; since = refl; settled = refl; spent = refl };
+        numbers = record { pushed = refl; longest = refl; since = refl; settled = refl; resets = refl; spent = refl };
         pays = pays_more stopped.pays (omega (arith, most));
         cause = stopped.cause;
+        needs = waits_some s v fault (λ told. spot_waits (spot told) (some told));
         charges = c;
       }
 
@@ -172,22 +183,103 @@ module _ (key : Record → Record) (step : Option Record → Record → Step)
       let h = subst M (sym (spot told).node_is) (stopped.moves told) in
       omega (arith, h)
 
-  stop_charged : (p d : ℕ) → (told : IsTrue s.device.told)
+  stop_charges : (p d : ℕ) → (told : IsTrue s.device.told)
       → s.pool.shape.block * stop_most ≤ 36 * stop_all + d
-      → ChargesUpTo s.pool.shape v.longest p (t.moves - s.moves) d (sums_in s v)
-  stop_charged p d told paid =
+      → Charges s.pool.shape v.longest p (t.moves - s.moves) 0 d (sums_in s v)
+      (sums_loaded stop_all (sums_in s v))
+  stop_charges p d told paid =
       let moved = stop_moved told in
       let e = spot_entry s v path i in
       let W : Tree → Type 0 = λ x. stop_all ≤ waiting_of (outline_of x) in
       let here_is = spot_reads key step IsOp IsKept laws shape run spot told in
       let few = subst W (sym here_is) (waiting_here (spot_place s v path i) e.low
       (chain_items s (buffer_of e)) (leaf (leaf_items s e)) (row_from 0 s (spot_node s v path) (suc i))) in
+      charges_load_some p (t.moves - s.moves) 0 stop_most (sums_in s v)
+      (sums_loaded stop_all (sums_in s v)) shape (omega (arith, moved)) stop_all d
+      (loads_all stop_all (sums_in s v) (omega (arith, few))) (record { root = refl; blocks = refl }) paid
+
+  stop_charged : (p d : ℕ) → (told : IsTrue s.device.told)
+      → s.pool.shape.block * stop_most ≤ 36 * stop_all + d
+      → ChargesUpTo s.pool.shape v.longest p (t.moves - s.moves) d (sums_in s v)
+  stop_charged p d told paid = record {
+    sums = sums_loaded stop_all (sums_in s v);
+    charges = stop_charges p d told paid;
+  }
+
+  -- what the moves owe, by the blocks of the leaf
+  stop_owes : (L : ℕ) → IsTrue s.device.told → s.pool.shape.block * stop_most
+      ≤ 36 * stop_all + s.pool.shape.block * (5 * leaf_blocks s v path i + 30 + 2 * L)
+  stop_owes L z =
+      let sh = s.pool.shape in
+      let P = payload_of sh in
+      let w = wide_of sh in
+      let F = w * sh.block in
+      let n = stop_all in
+      let a = taken_of s n in
+      let r = n - a in
+      let m = min r (2 * fan_of sh) in
+      let some : 0 < P = omega (arith, shape.block_low) in
+      let block : sh.block ≡ P + 1 = omega (arith, shape.block_low) in
+      let twice = fan_twice shape in
+      let wide : 8 ≤ w = omega (arith, shape.frames_low, shape.frames_multiple) in
+      let few : m ≤ 4 * w = (let x = min-le_right r (2 * fan_of sh) in omega (arith, x, twice)) in
+      let most : a ≤ w * sh.block = min-le_right n F in
+      let A : ℕ → Type 0 = λ y. a ≤ w * y in
+      let c = ceiling a P in
+      let k = ceiling r P in
+      let ci = ceiling_is a P some in
+      let ki = ceiling_is r P some in
+      let load : c ≤ w + 1 =
+      ceil_most c P a (w + 1) ci (load_fits w P a (wide_small shape) (subst A block most)) in
+      let fee = ceil_cost P c a ci.tight (ceil_few c P a some ci) in
+      let rest = ceil_cost P k r ki.tight (ceil_few k P r some ki) in
+      let le = min-le_left n F in
+      let sum : a + r ≡ n = omega (arith, le) in
+      let C : ℕ → Type 0 = λ y. y * stop_most
+      ≤ 36 * n + y * (5 * leaf_blocks s v path i + 30 + 2 * L) in
+      let leaf_is = leaf_small key step IsOp IsKept laws shape run spot z in
+      let D : ℕ → Type 0 = λ y. a ≡ w * y in
+      let U : ℕ → Type 0 = λ y. ((r ≡ 0) × (k ≡ 0) × (m ≡ 0) × (a ≤ w * y)) ⊎ (a ≡ w * y) in
+      let parts = (⊎_elim
+      (λ (small : n < F).
+      let same : a ≡ n = min-eq_left (omega (arith, small)) in
+      let none : r ≡ 0 = omega (arith, same, sum) in
+      let no_block : k ≡ 0 = (let x = ceil_few k P r some ki in omega (arith, x, none)) in
+      let no_entry : m ≡ 0 = (let x = min-le_left r (2 * fan_of sh) in omega (arith, x, none)) in
+      let g : U (P + 1) = inl (none, no_block, no_entry, subst A block most) in g)
+      (λ (big : F ≤ n).
+      let same : a ≡ w * sh.block = min-eq_right big in
+      let g : U (P + 1) = inr (subst D block same) in g)
+      (cases_lt n F)) in
+      let owed = stop_owing P w (leaf_blocks s v path i) c k m a r leaf_is load fee rest few wide L parts in
+      subst C (sym block) (omega (arith, owed, sum))
+
+  -- or by the records that are stored: all operations would be there as records.
+  pub load_held : IsTrue s.device.told → StopsHeld i s t v path
+  load_held z =
+      let sh = s.pool.shape in
+      let P = payload_of sh in
+      let B = sh.block in
+      let e = leaf_blocks s v path i in
+      let xs = leaf_items s (spot_entry s v path i) in
+      let block : B ≡ P + 1 = omega (arith, shape.block_low) in
+      let size = size_is sh shape in
+      let ceil = leaf_ceil key IsOp IsKept shape run spot z in
+      let many = blocks_few (wide_of sh) B P e (length xs) size ceil in
+      let T : Tree → Type 0 = λ x. length xs ≤ stored_of (outline_of x) in
+      let here = subst T (sym (spot_reads key step IsOp IsKept laws shape run spot z)) (stored_here
+      (spot_place s v path i) (spot_entry s v path i).low
+      (chain_items s (buffer_of (spot_entry s v path i))) xs (row_from 0 s (spot_node s v path) (suc i))) in
+      let cost = leaf_cost P e (length xs) ceil.tight many in
+      let Q : ℕ → Type 0 = λ y. y * (5 * e) ≤ 6 * length xs + 5 * y in
+      let leaf = subst Q (sym block) cost in
+      let owed = stop_owes 0 z in
       record {
         sums = sums_loaded stop_all (sums_in s v);
-        charges = charges_load_some p (t.moves - s.moves) 0 stop_most (sums_in s v)
-            (sums_loaded stop_all (sums_in s v)) shape (omega (arith, moved)) stop_all d
-            (loads_all stop_all (sums_in s v) (omega (arith, few))) (record { root = refl; blocks = refl })
-            paid;
+        either = inl (
+          omega arith,
+          stop_charges 0 (6 * (sums_in s v).stored + B * 35) z (omega (arith, owed, leaf, here)),
+        );
       }
 
   -- A load that gave up is paid for by the operations of a full buffer, or owes.
@@ -220,9 +312,9 @@ module _ (key : Record → Record) (step : Option Record → Record → Step)
       let le = min-le_left n F in
       let sum : a + r ≡ n = omega (arith, le) in
       let B : ℕ → Type 0 = λ y. y * stop_most ≤ 36 * n + 0 in
-      let C : ℕ → Type 0 = λ y. y * stop_most ≤ 36 * n + y * stop_debt i s v path in
       record {
-        stops = λ p big. stop_works p 0 (λ z. stop_charged p 0 z (
+        stops = λ p big. stop_works p 0 (λ z. (let limit = limit_some shape in let n = big z in
+            omega (arith, limit, n))) (λ z. stop_charged p 0 z (
             let leaf_is = leaf_small key step IsOp IsKept laws shape run spot z in
             let limit : full_limit sh ≡ 2 * (w * sh.block) =
             ap (λ f. f * sh.block) twice ∙ omega arith in
@@ -234,22 +326,6 @@ module _ (key : Record → Record) (step : Option Record → Record → Step)
             let full = stop_full P w (leaf_blocks s v path i) c k m a r leaf_is load fee rest few wide
             (subst D block same) (subst E block (omega (arith, many, same, sum))) in
             subst B (sym block) (omega (arith, full, sum))));
-        owes = λ p. stop_works p (sh.block * stop_debt i s v path) (λ z. stop_charged p (sh.block * stop_debt i s v path) z (
-            let leaf_is = leaf_small key step IsOp IsKept laws shape run spot z in
-            let D : ℕ → Type 0 = λ y. a ≡ w * y in
-            let U : ℕ → Type 0 = λ y. ((r ≡ 0) × (k ≡ 0) × (m ≡ 0) × (a ≤ w * y)) ⊎ (a ≡ w * y) in
-            let parts = (⊎_elim
-            (λ (small : n < F).
-            let same : a ≡ n = min-eq_left (omega (arith, small)) in
-            let none : r ≡ 0 = omega (arith, same, sum) in
-            let no_block : k ≡ 0 = (let x = ceil_few k P r some ki in omega (arith, x, none)) in
-            let no_entry : m ≡ 0 = (let x = min-le_left r (2 * fan_of sh) in omega (arith, x, none)) in
-            let z : U (P + 1) = inl (none, no_block, no_entry, subst A block most) in z)
-            (λ (big : F ≤ n).
-            let same : a ≡ w * sh.block = min-eq_right big in
-            let z : U (P + 1) = inr (subst D block same) in z)
-            (cases_lt n F)) in
-            let owed = stop_owing P w (leaf_blocks s v path i) c k m a r leaf_is load fee rest few wide
-            (deepest s v) parts in
-            subst C (sym block) (omega (arith, owed, sum))));
+        owes = λ p some. stop_works p (sh.block * stop_debt i s v path) some (λ z.
+            stop_charged p (sh.block * stop_debt i s v path) z (stop_owes (deepest s v) z));
       }

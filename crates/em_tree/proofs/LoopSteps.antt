@@ -11,13 +11,14 @@ use Rattle.em_settle.specs.declared.step.Step.{Step}
 use Rattle.em_tree_model.specs.Ranges.{least_record}
 use Rattle.em_tree_model.proofs.Ranges.{below_not}
 use Rattle.em_tree_walk.specs.declared.searching.Range.{Range}
+use Rattle.em_tree_load.proofs.Losses.{loses_still}
 use Rattle.em_tree.specs.Buffers.{Due}
 use Rattle.em_tree.specs.Emptying.{CanClear, CanWork, EachRead, HasSpot, deepest, unstored_most}
 use Rattle.em_tree.specs.Events.{Charges}
 use Rattle.em_tree.specs.Findings.{FoundNext, FoundSpot, ThinBetween}
-use Rattle.em_tree.specs.Loops.{CanClearEntry, CanClearFull, Cleared, ClearedEntry, ClearsUpTo, HasSteps, IsDrained, leaf_pay, nodes_inside, searches_left}
+use Rattle.em_tree.specs.Loops.{CanClearEntry, CanClearFull, Cleared, ClearedEntry, ClearsUpTo, HasSteps, IsDrained, clear_pay, leaf_pay, nodes_inside, searches_left}
 use Rattle.em_tree.specs.Starts.{is_inside, starts_of}
-use Rattle.em_tree.specs.Trunk.{full_limit, root_of, sums_in, trunk_unstored}
+use Rattle.em_tree.specs.Trunk.{full_limit, root_of, sums_in, trunk_blocks, trunk_unstored}
 use Rattle.em_tree.specs.Works.{StopsWorking, Works}
 use Rattle.em_tree.specs.declared.trunk.Trunk.{Trunk}
 use Rattle.em_tree.proofs.Charges.{charges_prepaid}
@@ -64,28 +65,33 @@ cleared_same key step IsOp IsKept d s v can drained =
     let z : leaf_pay d s v * x ≡ leaf_pay d s v * 0 = ap (λ (n : ℕ). leaf_pay d s v * n) e in
     let C : (p m : ℕ) → m ≡ 0 → IsTrue s.device.told
     → Charges s.pool.shape v.longest (p + deepest s v * S) m
-    (p + deepest s v * S + leaf_pay d s v * x) 0 (sums_in s v) (sums_in s v) = λ p m none told.
-    charges_prepaid (p + deepest s v * S) m (p + deepest s v * S + leaf_pay d s v * x) (sums_in s v)
-    (omega (arith, none, z)) in
+    (p + deepest s v * S + (leaf_pay d s v * x + deepest s v * 0)) 0 (sums_in s v) (sums_in s v) =
+    λ p m none told. charges_prepaid (p + deepest s v * S) m
+    (p + deepest s v * S + (leaf_pay d s v * x + deepest s v * 0)) (sums_in s v) (omega (arith, none, z)) in
     record {
+      found = 0;
       works = λ p. record {
         session = still_session i g;
         frames = g.frames;
         pays = pays_kept (trunk_unstored v) (omega arith) g.touches.moves;
+        loses = loses_still (trunk_blocks s v) s s refl;
         numbers = record {
           pushed = refl;
           longest = refl;
           since = refl;
           settled = refl;
+          resets = refl;
           spent = refl;
         };
         steps = omega arith;
         running = still_running i g;
         continues = still_continues i g step;
+        still = λ told none. none;
         charges = λ told. C p (s.moves - s.moves) (nothing_came s.moves) told;
         paces = λ told. C p 0 refl told;
       };
       clears = λ told. still_clears (full_limit s.pool.shape) d s s v v.steps refl refl;
+      same = λ told none. record { root = refl; level = refl };
       drained = drained;
       level = omega arith;
     }
@@ -174,28 +180,30 @@ module _ (key : Record → Record) (step : Option Record → Record → Step)
       let J = nodes_inside due low u x in
       let same : deepest t next ≡ L = deepest_same (searched 0) in
       let y = (sums_in u x).leaves - (sums_in t next).leaves in
-      let z = (sums_in u x).leaves - (sums_in s v).leaves in
       let F : ℕ → Type 0 = λ k2. ClearsUpTo k2 due (Some low) t u next x in
       record {
+        found = 1;
         works = λ p. works_then (works_fit (p + L * K + L) (p + L * K) (p + L * (1 + K)) (p + L * K)
             can.sound.shape (λ told deep. (let e = credit_found p L K in (omega (arith, e), omega (arith, e))))
             (searched (p + L * K)))
             (works_fit (p + deepest t next * nodes_inside due from t next)
-            (p + deepest t next * (1 + J) + leaf_pay due t next * y) (p + L * K)
-            (p + L * (1 + J) + leaf_pay due s v * z) after_can.sound.shape
+            (p + deepest t next * (1 + J) + clear_pay due 1 t u next x) (p + L * K)
+            (p + L * (1 + J) + clear_pay due 1 s u v x) after_can.sound.shape
             (λ told2 deep. (let told = told_first told2 in
             let a : deepest t next * nodes_inside due from t next ≡ L * K =
             ap (λ (q : ℕ). q * nodes_inside due from t next) same
             ∙ ap (λ (q : ℕ). L * q) (same_nodes told) in
             let c : deepest t next * (1 + J) ≡ L * (1 + J) = ap (λ (q : ℕ). q * (1 + J)) same in
-            let e : leaf_pay due t next * y ≡ leaf_pay due s v * z =
-            ap (λ (q : ℕ). (q - suc l) * q * y) same
-            ∙ ap (λ (q : ℕ). leaf_pay due s v * ((sums_in u x).leaves - q)) (same_leaves told) in
+            let e : clear_pay due 1 t u next x ≡ clear_pay due 1 s u v x =
+            ap (λ (q : ℕ). (q - suc l) * q * y + q * 1) same
+            ∙ ap (λ (q : ℕ). leaf_pay due s v * ((sums_in u x).leaves - q) + L * 1) (same_leaves told) in
             fit_same p (deepest t next * nodes_inside due from t next) (L * K)
-            (deepest t next * (1 + J)) (L * (1 + J)) (leaf_pay due t next * y) (leaf_pay due s v * z) a c e))
+            (deepest t next * (1 + J)) (L * (1 + J)) (clear_pay due 1 t u next x) (clear_pay due 1 s u v x) a
+            c e))
             (b.works p));
         clears = λ told. clears_then (full_limit s.pool.shape) due from (Some low) (still told)
             (subst F same_full (b.clears (told_then told)));
+        same = λ told none. absurd (omega (arith, none));
         drained = b.drained;
         level = b.level;
       }
@@ -210,7 +218,8 @@ module _ (key : Record → Record) (step : Option Record → Record → Step)
       let J = nodes_inside due low t next in
       let x = (sums_in t next).leaves - (sums_in s v).leaves in
       record {
-        works = λ p. works_fit (p + L) p (p + L * (1 + K)) (p + L * (1 + J) + leaf_pay due s v * x)
+        found = 0;
+        works = λ p. works_fit (p + L) p (p + L * (1 + K)) (p + L * (1 + J) + clear_pay due 0 s t v next)
             can.sound.shape (λ told deep. (let f = found (told_then told) in
             let h = f.begins (is_inside low until) (is_inside from until)
             (inside_later from low until (below_not from low f.above)) (inside_first low until)
@@ -222,6 +231,7 @@ module _ (key : Record → Record) (step : Option Record → Record → Step)
             clears_then (full_limit s.pool.shape) due from (Some low) (still told)
             (subst F same_full (next_clears key IsOp IsKept (full_limit t.pool.shape) l from until t next
             (after_can.running.stands (told_then told)) low (found (told_then told))));
+        same = λ told none. record { root = same_root told; level = refl };
         drained = record { empty = ready.drained.empty; unwritten = ready.drained.unwritten };
         level = omega arith;
       }
@@ -235,13 +245,15 @@ module _ (key : Record → Record) (step : Option Record → Record → Step)
       let K = nodes_inside due from s v in
       let x = (sums_in t next).leaves - (sums_in s v).leaves in
       record {
-        works = λ p. works_fit (p + L) p (p + L * (1 + K)) (p + L * 0 + leaf_pay due s v * x)
+        found = 0;
+        works = λ p. works_fit (p + L) p (p + L * (1 + K)) (p + L * 0 + clear_pay due 0 s t v next)
             can.sound.shape (λ told deep. credit_done p L K (leaf_pay due s v) x (no_leaf told)) (searched p);
         clears = λ told.
             let F : ℕ → Type 0 = λ k2. ClearsUpTo k2 due None t t next next in
             clears_then (full_limit s.pool.shape) due from None (still told)
             (subst F same_full (none_clears key IsOp IsKept (full_limit t.pool.shape) l from until t next
             (after_can.running.stands (told_then told)) (thin (told_then told))));
+        same = λ told none. record { root = same_root told; level = refl };
         drained = record { empty = ready.drained.empty; unwritten = ready.drained.unwritten };
         level = omega arith;
       }

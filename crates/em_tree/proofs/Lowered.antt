@@ -1,7 +1,7 @@
 -- An entry over a node, of which the buffer was emptied into the child's: what the node's tree is
 -- then, and the blocks that it holds.
-use Rattle.std.proofs.Common.{◌≡◌, ℕ, zero, suc, ◌+◌, ◌<◌, List, [], ◌∷◌, ◌++◌, length, get_or, take, drop, refl, sym, ap, ◌∙◌, subst, arith, IsTrue, append_assoc, Option}
-use Rattle.std.proofs.lemmas.List.{append-nil, take-append-drop}
+use Rattle.std.proofs.Common.{◌≡◌, ℕ, zero, suc, ◌<◌, List, [], ◌∷◌, ◌++◌, length, get_or, take, drop, refl, sym, ap, ◌∙◌, subst, arith, IsTrue, append_assoc, Option}
+use Rattle.std.proofs.lemmas.List.{append-nil, length-append, take-append-drop}
 use Rattle.std.proofs.Math.Seq.{drop-cons}
 use Rattle.em_record.specs.declared.record.Record.{Record}
 use Rattle.em_space.specs.Free.{Off}
@@ -34,7 +34,9 @@ use Rattle.em_tree_blocks.proofs.Frames.{RowStays, block_same, node_stays, rows_
 use Rattle.em_tree_blocks.proofs.Paths.{child_stored}
 use Rattle.em_tree_walk.specs.Taken.{unbuffered, unbuffered_at}
 use Rattle.em_tree_load.specs.Forms.{AreFormed, HaveForms}
-use Rattle.em_tree.proofs.Mixed.{Mixes, all_left, all_right, children_blocks, holds_mixed, holds_parts, left, mixes_append, mixes_apart, right, row_mixes, session_held, session_mixed}
+use Rattle.em_tree_load.specs.Paid.{LosesNone}
+use Rattle.em_tree_load.proofs.Losses.{frees_length, loses_from}
+use Rattle.em_tree.proofs.Mixed.{Mixes, all_left, all_right, children_blocks, holds_mixed, holds_parts, left, loses_mixed, mixes_append, mixes_apart, right, row_mixes, session_held, session_mixed}
 use Rattle.em_tree.proofs.Stays.{forms_stay, row_forms}
 
 -- the blocks of a row in two parts
@@ -110,7 +112,7 @@ buffer_stored Child s [] i h a = absurd (omega (arith, h))
 buffer_stored Child s (e ∷ es) zero h a = a.0
 buffer_stored Child s (e ∷ es) (suc i) h a = buffer_stored Child s es i (omega (arith, h)) a.2
 
-buffers_stored : (Child : ℕ → Type 0) (s : RigState) (es : List Entry) → AreStored Child s es
+pub buffers_stored : (Child : ℕ → Type 0) (s : RigState) (es : List Entry) → AreStored Child s es
     → AreBuffers s es
 buffers_stored Child s [] a = tt
 buffers_stored Child s (e ∷ es) a = (a.0, buffers_stored Child s es a.2)
@@ -263,23 +265,27 @@ module _ (l : ℕ) (s : RigState) (node i : ℕ) (told : IsTrue s.device.told)
         (λ z. apart_left (chain_blocks s (buffer_of e)) (buffer_blocks s (entries_at s k)) (node ∷ [])
         given_apart.1) buffer_is).items told
 
+    pub buffers_kept : AreBuffers a (entries_at a (child_at i (entries_at s node)))
+    buffers_kept =
+        let e = get_or (entries_at s node) i no_entry in
+        let k = linked_block e.child in
+        let A : List Entry → Type 0 = AreBuffers a in
+        subst A (sym child_entries) (buffers_stay (node ∷ []) (entries_at s k) h
+        (λ z. apart_right (chain_blocks s (buffer_of e)) (buffer_blocks s (entries_at s k)) (node ∷ [])
+        given_apart.1) (buffers_stored (IsTreeAt l s) s (entries_at s k) child_is.1))
+
     -- the buffer can be emptied into the child
     pub is_over : 0 < length (entries_at s (child_at i (entries_at s node)))
         → IsOver a (child_at i (entries_at s node)) (buffer_of (get_or (entries_at s node) i no_entry))
     is_over some =
         let e = get_or (entries_at s node) i no_entry in
         let k = linked_block e.child in
-        let c = chain_blocks s (buffer_of e) in
-        let b = buffer_blocks s (entries_at s k) in
         let N : List Entry → Type 0 = λ es. 0 < length es in
-        let A : List Entry → Type 0 = AreBuffers a in
         let H : List ℕ → Type 0 = Holds a in
         record {
           block = (node_stays (node ∷ []) s a h told (suc l) k given_apart.0 child_is.0).block;
           some = subst N (sym child_entries) some;
-          buffers = subst A (sym child_entries) (buffers_stay (node ∷ []) (entries_at s k) h
-              (λ z. apart_right c b (node ∷ []) given_apart.1)
-              (buffers_stored (IsTreeAt l s) s (entries_at s k) child_is.1));
+          buffers = buffers_kept;
           holds = subst H (sym given_same)
               (holds_kept (node ∷ []) s a (given_blocks s k (buffer_of e)) h (λ z. given_apart) given_hold);
         }
@@ -308,6 +314,22 @@ module _ (l : ℕ) (s : RigState) (node i : ℕ) (told : IsTrue s.device.told)
         let held : Holds s (node ∷ given) = holds_mixed m (holds_parts r changed_hold) in
         session_held m r (session_last (node ∷ []) given (node_blocks t k)
         (session_beside [] (node ∷ []) (node ∷ []) given (λ z. held) first) later)
+
+    pub changed_loses : (t : RigState) → a.used ≡ s.used
+        → (let e = get_or (entries_at s node) i no_entry in let k = linked_block e.child in
+        LosesNone (given_blocks a k (buffer_of e)) (node_blocks t k) a t
+        → LosesNone (changed_blocks s node e) (node ∷ node_blocks t k) s t)
+    changed_loses t used g z =
+        let e = get_or (entries_at s node) i no_entry in
+        let k = linked_block e.child in
+        let c = chain_blocks s (buffer_of e) in
+        let b = buffer_blocks s (entries_at s k) in
+        let given = given_blocks s k (buffer_of e) in
+        let x = loses_from (given_blocks a k (buffer_of e)) given (node_blocks t k) a t g
+        (λ y. sym given_same) (h.told ∙ z) in
+        let n = length-append c b in
+        let m = length-append c (k ∷ b) in
+        omega (arith, x, used, n, m)
 
 -- a chain with no block is one, and packed
 none_is : (s : RigState) → IsChain s empty_chain
@@ -405,12 +427,15 @@ forms_by (suc l) s a t first held k h g told later apart others i links forms f 
 -- What is left of a node's tree, one of whose entries was emptied.
 pub record NodeLowered (key : Record → Record) (l : ℕ) (s t : RigState) (node i : ℕ) : Type 0 where
   pub session : Session (tree_blocks (suc (suc l)) s node) s t (tree_blocks (suc (suc l)) t node)
+  pub loses : LosesNone (tree_blocks (suc (suc l)) s node) (tree_blocks (suc (suc l)) t node) s t
   pub is : IsTreeAt (suc (suc l)) t node
   pub reads : (let e = get_or (entries_at s node) i no_entry in tree_at (suc (suc l)) t node
       ≡ put_at (entry_place (suc l) s node i) (entry e.low []
       (pour key (tree_at (suc l) s (linked_block e.child)) (chain_items s (buffer_of e)))
       (row_from (suc l) s node (suc i))))
   pub formed : AreFormed (suc (suc l)) s node → AreFormed (suc (suc l)) t node
+  pub child : (let e = get_or (entries_at s node) i no_entry in let k = linked_block e.child in
+      tree_at (suc l) t k ≡ pour key (tree_at (suc l) s k) (chain_items s (buffer_of e)))
 
 module _ (key : Record → Record) (l : ℕ) (s a t : RigState) (node i : ℕ) (least : Option ℕ)
     (told : IsTrue s.device.told)
@@ -419,7 +444,7 @@ module _ (key : Record → Record) (l : ℕ) (s a t : RigState) (node i : ℕ) (
     (h : Touches (node ∷ []) s a) (sound : Sound a) (at : IsNodeAt a (suc (suc l)) node)
     (entries : entries_at a node ≡ unbuffered_at i (entries_at s node))
     (done : EmptiedAt key a t (child_at i (entries_at s node))
-    (buffer_of (get_or (entries_at s node) i no_entry)) least) where
+    (buffer_of (get_or (entries_at s node) i no_entry)) least) (used : a.used ≡ s.used) where
   emptied : (let e = get_or (entries_at s node) i no_entry in
       Emptied key a t (linked_block e.child) (buffer_of e) least)
   emptied = done.emptied (h.told ∙ told)
@@ -427,6 +452,12 @@ module _ (key : Record → Record) (l : ℕ) (s a t : RigState) (node i : ℕ) (
   local : (let e = get_or (entries_at s node) i no_entry in let k = linked_block e.child in
       Session (changed_blocks s node e) s t (node ∷ node_blocks t k))
   local = changed_session l s node i told is one holds a h t sound at done.session
+
+  local_loses : (let e = get_or (entries_at s node) i no_entry in let k = linked_block e.child in
+      LosesNone (changed_blocks s node e) (node ∷ node_blocks t k) s t)
+  local_loses = changed_loses l s node i told is one holds a h t used
+      (frees_length done (buffer_kept l s node i told is one holds a h)
+      (λ z. buffers_kept l s node i told is one holds a h))
 
   kept_apart : (let es = entries_at s node in let e = get_or es i no_entry in
       Apart (kept_blocks l s (take i es) e (drop (suc i) es)) (changed_blocks s node e))
@@ -613,6 +644,8 @@ module _ (key : Record → Record) (l : ℕ) (s a t : RigState) (node i : ℕ) (
       record {
         session = session_mixed (spot_mixes l s node (take i es) e (drop (suc i) es) (parts_at es i one))
             blocks_mix (λ z. holds) local;
+        loses = loses_mixed s t (spot_mixes l s node (take i es) e (drop (suc i) es) (parts_at es i one))
+            blocks_mix local_loses;
         is = (
           node_still,
           subst A (sym new_entries) (stored_append (IsTreeAt (suc l) t) t (take i es)
@@ -636,4 +669,5 @@ module _ (key : Record → Record) (l : ℕ) (s a t : RigState) (node i : ℕ) (
                   (stored_others (IsTreeAt (suc l) s) s (suc i) es is.1)
                   (forms_others (IsPacked s) (AreFormed (suc l) s) (suc i) es g),
             ));
+        child = poured;
       }

@@ -1,5 +1,5 @@
 -- Lists of blocks that are parts of one list, one block now from the first and now from the other.
-use Rattle.std.specs.Prelude.{ℕ, List, [], ◌∷◌, ◌++◌, IsTrue}
+use Rattle.std.proofs.Common.{◌≡◌, ℕ, ◌+◌, List, [], ◌∷◌, ◌++◌, length, refl, arith, IsTrue}
 use Rattle.em_space.specs.Free.{AreDistinct, Off}
 use Rattle.em_space.specs.Held.{AllInUse, Apart, Holds}
 use Rattle.em_space.specs.Ledger.{Session}
@@ -13,6 +13,7 @@ use Rattle.em_node.specs.declared.entry.Entry.{Entry}
 use Rattle.em_empty.specs.Node.{buffer_blocks}
 use Rattle.em_tree_blocks.specs.Node.{buffer_of, linked_block}
 use Rattle.em_tree_blocks.specs.Reading.{row_blocks}
+use Rattle.em_tree_load.specs.Paid.{LosesNone}
 
 -- The blocks of two lists make a third one, in which each of the two has its order.
 pub data Mixes : List ℕ → List ℕ → List ℕ → Type 0 where
@@ -89,6 +90,11 @@ mixes_apart (left k m) d = (mixes_off_right k m d.0, mixes_apart m d.1)
 mixes_apart (right {xs = xs} {ys = ys} k m) d =
     apart_sym (k ∷ ys) xs (mixes_off_left k m d.0, apart_sym xs ys (mixes_apart m d.1))
 
+mixes_length : {xs ys zs : List ℕ} → Mixes xs ys zs → length zs ≡ length xs + length ys
+mixes_length none = refl
+mixes_length (left k m) = let h = mixes_length m in omega (arith, h)
+mixes_length (right k m) = let h = mixes_length m in omega (arith, h)
+
 -- What both hold is held, one after the other or mixed.
 pub holds_mixed : {xs ys zs : List ℕ} {s : RigState} → Mixes xs ys zs → Holds s (xs ++ ys) → Holds s zs
 holds_mixed {xs = xs} {ys = ys} {s = s} m h = record {
@@ -122,6 +128,14 @@ session_mixed {s = s} {t = t} {xs = xs} {js = js} {ys = ys} {zs = zs} {ws = ws} 
       holds = λ z. holds_mixed n (b.holds z);
     }
 
+pub loses_mixed : {xs js ys zs ws : List ℕ} (s t : RigState) → Mixes xs ys zs → Mixes js ys ws
+    → LosesNone xs js s t → LosesNone zs ws s t
+loses_mixed s t m n a z =
+    let x = a z in
+    let p = mixes_length m in
+    let q = mixes_length n in
+    omega (arith, x, p, q)
+
 -- the same blocks in another order
 pub session_held : {s t : RigState} {xs ys zs ws ks : List ℕ} → Mixes xs ys zs → Mixes xs ys ws
     → Session zs s t ks → Session ws s t ks
@@ -134,6 +148,14 @@ session_held {s = s} {t = t} {zs = zs} {ws = ws} m n g = record {
   };
   holds = g.holds;
 }
+
+pub loses_held : {xs ys zs ws : List ℕ} (ks : List ℕ) (s t : RigState) → Mixes xs ys zs → Mixes xs ys ws
+    → LosesNone zs ks s t → LosesNone ws ks s t
+loses_held ks s t m n a z =
+    let x = a z in
+    let p = mixes_length m in
+    let q = mixes_length n in
+    omega (arith, x, p, q)
 
 -- the blocks of these entries' children
 abbrev pub children_blocks : (ℕ → List ℕ) → List Entry → List ℕ

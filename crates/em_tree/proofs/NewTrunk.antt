@@ -128,6 +128,7 @@ module _ (key : Record → Record) (IsOp IsKept : Record → Type 0) {s t : RigS
       let longest : v.longest ≡ 0 = ap (λ x. x.k) c in
       let since : v.since ≡ 0 = ap (λ x. x.since) c in
       let settled : v.settled ≡ 0 = ap (λ x. x.y) c in
+      let resets : v.resets ≡ 0 = ap (λ x. x.z) c in
       record {
         frames = record {
           buffer = f.buffer.frame.len_is;
@@ -141,6 +142,7 @@ module _ (key : Record → Record) (IsOp IsKept : Record → Type 0) {s t : RigS
           longest_most = omega (arith, longest);
           pushed_most = omega (arith, pushed);
           settled_most = omega (arith, settled);
+          resets_most = omega (arith, resets);
           spent_most = omega (arith, f.spent);
           root_below = in_use_below t v.root f.session.sound f.in_use;
         };
@@ -181,6 +183,7 @@ module _ (key : Record → Record) (IsOp IsKept : Record → Type 0) {s t : RigS
           running = fresh_runs;
           few = omega (arith, f.none, some);
           unused = λ e. f.no_block;
+          silent = λ z e. (f.told (told_first z)).given;
           blocks = omega (arith, f.no_block);
           thin = λ z. subst C (sym (fresh_read (told_first z))) (subst B (sym f.level) (fresh_thin is));
           books = λ z. fresh_kept (told_first z);
@@ -188,6 +191,9 @@ module _ (key : Record → Record) (IsOp IsKept : Record → Type 0) {s t : RigS
         session = f.session;
         frames = f.frames;
         pays = f.pays;
+        level = f.level;
+        used = f.used;
+        loses = f.loses;
         counts = f.counts;
         spent = f.spent;
         moves = f.moves;

@@ -1,5 +1,5 @@
 -- A call on what stands from a node of level 1 on, and on the answers: what is left of the whole tree.
-use Rattle.std.proofs.Common.{◌≡◌, ℕ, ◌+◌, List, [], ◌++◌, sym, ap, ◌∙◌, subst, IsTrue, arith}
+use Rattle.std.proofs.Common.{◌≡◌, ℕ, List, [], ◌++◌, sym, ap, ◌∙◌, subst, IsTrue, arith}
 use Rattle.em_record.specs.declared.record.Record.{Record}
 use Rattle.em_space.specs.Free.{Off}
 use Rattle.em_frames.specs.Pool.{SameFrames}
@@ -17,9 +17,11 @@ use Rattle.em_tree_blocks.specs.Paths.{IsPath, blocks_with, level_on, node_on, p
 use Rattle.em_tree_blocks.specs.Reading.{IsTreeAt, tree_at, tree_blocks}
 use Rattle.em_tree_blocks.proofs.Paths.{around, blocks_on, changed_on, others_apart, path_stays}
 use Rattle.em_tree_load.specs.Forms.{AreFormed}
+use Rattle.em_tree_load.specs.Paid.{LosesNone}
+use Rattle.em_tree_load.proofs.Losses.{loses_as, loses_from}
 use Rattle.em_tree.specs.Trunk.{IsRunning, IsStanding, trunk_blocks}
 use Rattle.em_tree.specs.declared.trunk.Trunk.{Trunk}
-use Rattle.em_tree.proofs.Subtrees.{forms_after, session_among}
+use Rattle.em_tree.proofs.Subtrees.{forms_after, loses_among, session_among}
 
 -- A session that over a device that tells is one of more blocks.
 pub session_if : {held ks js ls : List ℕ} {s t : RigState} → Session ks s t js
@@ -38,6 +40,7 @@ pub record NodeWorked (s t : RigState) (v w : Trunk) (path : List ℕ) : Type 0 
       → Off k (tree_blocks (level_on path v.level) s (node_on path v.level s v.root)
       ++ writer_blocks s v.answers)
   pub session : Session (trunk_blocks s v) s t (trunk_blocks t w)
+  pub loses : LosesNone (trunk_blocks s v) (trunk_blocks t w) s t
   pub reads : tree_at v.level t v.root ≡ put_at (place_on path v.level s v.root)
       (tree_at (level_on path v.level) t (node_on path v.level s v.root))
   pub stored : IsTreeAt (level_on path v.level) t (node_on path v.level s v.root)
@@ -121,8 +124,9 @@ module _ (key : Record → Record) (IsOp IsKept : Record → Type 0) (s t : RigS
   -- The whole tree after such a call.
   pub node_worked : Session (inner_before ++ writer_blocks s v.answers) s t
       (inner_after ++ writer_blocks t new)
+      → LosesNone (inner_before ++ writer_blocks s v.answers) (inner_after ++ writer_blocks t new) s t
       → WriterStays s t v.buffer → NodeWorked s t v (record v { answers = new }) path
-  node_worked g stays =
+  node_worked g x stays =
       let h = g.touches in
       let bu = writer_blocks s v.buffer in
       let an = writer_blocks s v.answers in
@@ -136,6 +140,9 @@ module _ (key : Record → Record) (IsOp IsKept : Record → Type 0) (s t : RigS
       let H : List ℕ → Type 0 = λ ks. Holds s (ks ++ (bu ++ an)) in
       let mid = session_among r.front inner_before inner_after r.back bu an (writer_blocks t new)
       (λ z. subst H inner_whole st.holds) g in
+      let old = (r.front ++ (inner_before ++ r.back)) ++ (bu ++ an) in
+      let next = (r.front ++ (inner_after ++ r.back)) ++ (bu ++ writer_blocks t new) in
+      let whole = trunk_blocks t (record v { answers = new }) in
       let P : List ℕ → Type 0 = λ ks. Session (ks ++ (bu ++ an)) s t
       ((r.front ++ (inner_after ++ r.back)) ++ (bu ++ writer_blocks t new)) in
       let Q : List ℕ → Type 0 = λ ks. Session (tree_blocks v.level s v.root ++ (bu ++ an)) s t
@@ -145,6 +152,11 @@ module _ (key : Record → Record) (IsOp IsKept : Record → Type 0) (s t : RigS
       record {
         off = held_off;
         session = subst R (sym (stays.blocks told)) (subst Q (sym after) (subst P (sym inner_whole) mid));
+        loses = loses_from old (trunk_blocks s v) whole s t (loses_as old next whole s t
+            (loses_among r.front inner_before inner_after r.back bu an (writer_blocks t new) s t x)
+            (λ z. ap (λ ks. ks ++ (writer_blocks t v.buffer ++ writer_blocks t new)) after
+            ∙ ap (λ ks. (r.front ++ (inner_after ++ r.back)) ++ (ks ++ writer_blocks t new)) (stays.blocks z)))
+            (λ z. ap (λ ks. ks ++ (bu ++ an)) inner_whole);
         reads = changed_on held s t h told path v.level v.root n st.stored others_off;
         stored = m.stored;
         formed = forms_after held s t h told path v.level v.root n st.stored others_off st.formed;

@@ -1,5 +1,5 @@
 -- The blocks of a new tree are those of one node over one leaf, with nothing in either.
-use Rattle.std.proofs.Common.{◌≡◌, ℕ, ◌+◌, ◌-◌, ◌<◌, ◌≤◌, List, [], ◌∷◌, ◌++◌, length, set, refl, sym, ap, ◌∙◌, subst, arith, IsTrue, IsErrAnd, Result, Ok, Err}
+use Rattle.std.proofs.Common.{◌≡◌, ℕ, ◌+◌, ◌<◌, ◌≤◌, List, [], ◌∷◌, ◌++◌, length, set, refl, sym, ap, ◌∙◌, subst, arith, IsTrue, IsErrAnd, Result, Ok, Err}
 use Rattle.std.proofs.lemmas.List.{get_or-set_other, get_or-set_same, length-set}
 use Rattle.em_record.specs.Shape.{IsShape, payload_of}
 use Rattle.em_record.specs.declared.record.Record.{Record}
@@ -15,7 +15,7 @@ use Rattle.em_space.proofs.Framed.{in_use_given, in_use_lent}
 use Rattle.em_space.proofs.Held.{apart_none, holds_kept}
 use Rattle.em_space.proofs.Paying.{pays_then}
 use Rattle.em_space.proofs.Sessions.{session_as, session_beside, session_trans}
-use Rattle.em_space.proofs.Steps.{cause_after, goes_trans, goes_with_frame, same_frames_then, touches_pool}
+use Rattle.em_space.proofs.Steps.{goes_with_frame, same_frames_then, touches_pool}
 use Rattle.em_chain.specs.Chain.{IsChain, IsPacked, IsTight, chain_blocks, chain_items, empty_chain, payload_in}
 use Rattle.em_chain.specs.Counts.{ceiling}
 use Rattle.em_chain.specs.List.{block_header}
@@ -33,6 +33,8 @@ use Rattle.em_balance.specs.Stored.{StopsStoring, StoresFrame, StoresNew}
 use Rattle.em_tree_cost.proofs.Ceilings.{ceiling_is}
 use Rattle.em_tree_load.specs.Forms.{AreFormed, HaveForms}
 use Rattle.em_tree_load.specs.Leaves.{leaf_record, with_leaf}
+use Rattle.em_tree_load.proofs.Losses.{loses_as}
+use Rattle.em_tree_load.proofs.Takes.{runs_take, stops_beside, stops_take, stops_then, stops_wider}
 use Rattle.em_tree.specs.Planting.{Planted, Plants, StopsPlanting, fresh_root}
 use Rattle.em_tree.proofs.LeafSizes.{ceil_few}
 use Rattle.em_tree.proofs.Regrown.{fan_some}
@@ -190,10 +192,15 @@ module _ {s m t : RigState} {f1 f2 : List Record} {leaf1 root : ℕ} (b : List R
   planted =
       let a = first.runs in
       let c = last.runs in
+      let one = a.spends.used in
+      let other = c.spends.used in
       record {
         session = session_as (tree_blocks 1 t root) plant_session plant_blocks;
         frames = same_frames_then s.pool m.pool t.pool a.frames c.frames;
         pays = pays_then a.spends.pays c.spends.pays c.session.touches.moves;
+        used = omega (arith, one, other);
+        loses = loses_as [] (root ∷ leaf1 ∷ []) (tree_blocks 1 t root) s t
+            (λ z. omega (arith, one, other)) plant_blocks;
         moves = omega (arith, a.spends.moves, c.spends.moves);
         in_use = plant_root;
         reads = plant_reads;
@@ -203,26 +210,13 @@ module _ {s m t : RigState} {f1 f2 : List Record} {leaf1 root : ℕ} (b : List R
 
 -- The first of two blocks wasn't stored,
 pub plants_first : {s t : RigState} (fault : EmFault) → StopsStoring s t fault → StopsPlanting s t fault
-plants_first fault x = record {
-  goes = x.stops.goes;
-  pays = x.stops.halts.pays;
-  moves = let n = x.stops.halts.moves in omega (arith, n);
-  cause = x.stops.cause;
-}
+plants_first fault x = stops_wider 2 4 (omega arith) (omega arith) (stops_take {n = 0} x.stops)
 
 -- or the second.
 pub plants_second : {s m t : RigState} {f1 : List Record} {leaf1 : ℕ} (fault : EmFault)
     → StoresFrame s m f1 leaf1 → StopsStoring m t fault → StopsPlanting s t fault
-plants_second {s} {m} {t} {f1} {leaf1} fault a x =
-    let g = a.runs.session in
-    record {
-      goes = goes_trans [] [] s m t
-          (record { sound = g.sound; touches = g.touches; frames = a.runs.frames }) x.stops.goes
-          (λ z j u o. tt);
-      pays = pays_then a.runs.spends.pays x.stops.halts.pays x.stops.goes.touches.moves;
-      moves = let n = x.stops.halts.moves in let k = a.runs.spends.moves in omega (arith, n, k);
-      cause = cause_after [] s m t fault g.touches x.stops.cause;
-    }
+plants_second {leaf1 = leaf1} fault a x = stops_then (runs_take {n = 0} a.runs refl refl)
+    (stops_beside [] [] (leaf1 ∷ []) (stops_take {n = 0} x.stops))
 
 -- The same with a frame that was lent around it.
 module _ {s : RigState} (u : RigState) (sound : Sound s) (free : 0 < s.pool.free) where
@@ -249,6 +243,8 @@ module _ {s : RigState} (u : RigState) (sound : Sound s) (free : 0 < s.pool.free
         };
         frames = w.frames;
         pays = record { is = p.pays.is };
+        used = p.used;
+        loses = loses_as [] ks (tree_blocks 1 t root) s t (λ z. p.loses z) (λ z. (stays z).blocks);
         moves = p.moves;
         in_use = in_use_given p.in_use;
         reads = λ z. (stays z).tree ∙ p.reads z;
@@ -267,8 +263,11 @@ module _ {s : RigState} (u : RigState) (sound : Sound s) (free : 0 < s.pool.free
       → StopsPlanting s (record u { pool = given u.pool }) fault
   framed_none {fault} p = record {
     goes = goes_with_frame [] s u sound free p.goes;
-    pays = record { is = p.pays.is };
+    used = p.used;
+    most = p.most;
     moves = p.moves;
+    pays = record { is = p.pays.is };
+    full = p.full;
     cause = framed_cause fault p.cause;
   }
 

@@ -1,5 +1,5 @@
 -- A push begins: it is counted, and has its steps. After its append the books are kept.
-use Rattle.std.proofs.Common.{◌≡◌, ℕ, ◌+◌, ◌-◌, ◌*◌, ◌^◌, ◌<◌, ◌≤◌, max, refl, sym, ap, ◌∙◌, subst, arith, IsTrue}
+use Rattle.std.proofs.Common.{◌≡◌, ℕ, ◌+◌, ◌-◌, ◌*◌, ◌^◌, ◌<◌, ◌≤◌, max, refl, sym, ap, ◌∙◌, subst, arith, IsTrue, inl}
 use Rattle.em_record.specs.Shape.{ShapeNumbers, payload_of, wide_of}
 use Rattle.em_record.specs.declared.record.Record.{Record}
 use Rattle.em_settle.specs.Laws.{IsSettle}
@@ -14,12 +14,13 @@ use Rattle.em_chain.proofs.Counts.{writer_blocks_are}
 use Rattle.em_chain.proofs.Tight.{tight_filled}
 use Rattle.em_tree_model.specs.Ranges.{least_record}
 use Rattle.em_tree_model.specs.Tree.{Tree}
-use Rattle.em_tree_cost.specs.Books.{KeepsBooks, count_moves, count_push}
+use Rattle.em_tree_cost.specs.Books.{InCall, KeepsBooks, count_moves, count_push}
 use Rattle.em_tree_cost.specs.Counters.{Sums}
 use Rattle.em_tree_cost.specs.Effects.{SumsPush}
 use Rattle.em_tree_cost.specs.Outline.{Outline, sums_of}
 use Rattle.em_tree_cost.specs.Sizes.{IsCeil}
 use Rattle.em_tree_cost.proofs.Books.{books_push}
+use Rattle.em_tree_cost.proofs.InCall.{call_begins}
 use Rattle.em_tree_cost.proofs.Ceilings.{ceiling_is}
 use Rattle.em_tree_outline.specs.Outline.{outline_of}
 use Rattle.em_tree.specs.Counting.{counted_push}
@@ -92,6 +93,7 @@ module _ {key : Record → Record} {IsOp IsKept : Record → Type 0} {s : RigSta
           longest_most = long;
           pushed_most = omega (arith, few);
           settled_most = n.settled_most;
+          resets_most = n.resets_most;
           spent_most = n.spent_most;
           root_below = n.root_below;
         };
@@ -161,17 +163,21 @@ module _ {key : Record → Record} {IsOp IsKept : Record → Type 0} {s : RigSta
         books_anew (omega arith) append_books in
         let start = books_less (since_call c) (count_moves 0 (since_call c)) 0 0 refl refl refl refl refl
         (omega arith) (omega arith) fresh in
-        let B : ShapeNumbers → Type 0 = λ h. KeepsBooks h (count_moves 0 (since_call c)) 0 (sums_in m w) in
+        let B : ShapeNumbers → Type 0 = λ h. InCall h (count_moves 0 (since_call c)) 0 0 0 (sums_in m w) in
         let most = longest_few in
         let steps : w.steps ≡ step_allowance s.pool.shape c.n c.k = ap (λ (z : Trunk). z.steps) app.is in
         let L : ShapeNumbers → Type 0 = λ h. w.steps + 0 ≡ step_allowance h c.n c.k in
         record {
           counts = since_call c;
+          owed = 0;
+          handed = 0;
+          split = 0;
           longest = sym (ap (λ (z : Trunk). z.longest) app.is);
           few = omega (arith, most, few);
           none_taken = refl;
           none_settled = refl;
-          books = subst B (sym app.frames.shape) start;
+          books = subst B (sym app.frames.shape) (call_begins start);
+          may = record { either = inl (omega arith) };
           left = subst L (sym app.frames.shape) (omega (arith, steps));
         }
 

@@ -1,12 +1,12 @@
 -- The end of a push: its moves are counted, and it leaves what it promised.
-use Rattle.std.proofs.Common.{◌≡◌, ◌⊎◌, ℕ, ◌+◌, ◌-◌, ◌*◌, ◌^◌, ◌<◌, ◌≤◌, max, List, [], ◌∷◌, refl, sym, ap, ◌∙◌, subst, arith, inl, inr, IsTrue, Result, Ok, Err}
-use Rattle.std.specs.Prelude.{Option}
+use Rattle.std.proofs.Common.{◌≡◌, ◌⊎◌, ℕ, ◌+◌, ◌-◌, ◌*◌, ◌^◌, ◌<◌, ◌≤◌, max, List, [], ◌∷◌, sym, ap, ◌∙◌, subst, arith, inl, inr, IsTrue, Result, Ok, Err}
+use Rattle.std.specs.Prelude.{IfErr, Option}
 use Rattle.std.proofs.Math.Nat.{mul-le-mul_right}
 use Rattle.em_record.specs.Shape.{ShapeNumbers}
 use Rattle.em_record.specs.declared.record.Record.{Record}
 use Rattle.em_settle.specs.Laws.{IsSettle}
 use Rattle.em_settle.specs.declared.step.Step.{Step}
-use Rattle.em_space.specs.Rig.{RigState, Sound}
+use Rattle.em_space.specs.Rig.{IfFull, RigState, Sound}
 use Rattle.em_space.specs.declared.fault.EmFault.{EmFault}
 use Rattle.em_space.proofs.Paying.{pays_more, pays_then}
 use Rattle.em_space.proofs.Sessions.{session_trans}
@@ -18,12 +18,13 @@ use Rattle.em_tree_cost.specs.Books.{KeepsBooks, TreeCounts, count_push}
 use Rattle.em_tree_cost.specs.Paid.{toll_of}
 use Rattle.em_tree_cost.specs.Shares.{floors_of, tree_share}
 use Rattle.em_tree_cost.proofs.Books.{books_share}
+use Rattle.em_tree_load.proofs.Losses.{loses_then}
 use Rattle.em_tree.specs.Calls.{ChangesTrunk, CountsCall, KeepsShare, PushesOp, StopsTrunk}
 use Rattle.em_tree.specs.Counting.{counted_moves, counted_push}
 use Rattle.em_tree.specs.Events.{Charges, ChargesUpTo, Continues}
 use Rattle.em_tree.specs.Meaning.{IsLater}
-use Rattle.em_tree.specs.Pushing.{Appended, PushedOp, PushesTo, StopsPush}
-use Rattle.em_tree.specs.Trunk.{IsRunning, IsTrunk, counts_of, given_by, model_of, root_of, sums_in}
+use Rattle.em_tree.specs.Pushing.{Appended, NeedsMore, PushedOp, PushesTo, StopsPush}
+use Rattle.em_tree.specs.Trunk.{IsRunning, IsTrunk, counts_of, given_by, model_of, root_of, sums_in, trunk_blocks}
 use Rattle.em_tree.specs.Works.{SameNumbers}
 use Rattle.em_tree.specs.declared.trunk.Trunk.{Trunk}
 use Rattle.em_tree.proofs.Ends.{pushed_books, refused_push_share, stopped_share}
@@ -53,6 +54,7 @@ running_moves m most r =
         longest_most = n.longest_most;
         pushed_most = n.pushed_most;
         settled_most = n.settled_most;
+        resets_most = n.resets_most;
         spent_most = most;
         root_below = n.root_below;
       };
@@ -93,12 +95,12 @@ pub ended_counts : (s t : RigState) (v w : Trunk) → SameNumbers (counted_push 
     → counts_of (ended s t w) ≡ count_push 0 (record (counts_of v) { spent = (ended s t w).spent })
 ended_counts s t v w h = same_counts (counts_of (ended s t w))
     (count_push 0 (record (counts_of v) { spent = (ended s t w).spent })) h.pushed h.longest h.since
-    (omega arith) refl h.settled
+    (omega arith) h.resets h.settled
 
 pub counts_by : (s t : RigState) (v w : Trunk) → SameNumbers (counted_push s.pool.shape v) w
     → s.moves ≤ t.moves
     → (IsTrue s.device.told → v.spent + (t.moves - s.moves)
-    ≤ tree_share s.pool.shape (v.pushed + 1) (max v.longest (v.since + 1)) 0 v.settled)
+    ≤ tree_share s.pool.shape (v.pushed + 1) (max v.longest (v.since + 1)) v.resets v.settled)
     → CountsCall (count_push 0) s t v (ended s t w)
 counts_by s t v w h later share =
     let same : w.spent ≡ v.spent = h.spent in
@@ -142,7 +144,7 @@ module _ (key : Record → Record) (step : Option Record → Record → Step) (I
         pushed_books (counts_of v) (counts_of (ended s t w)) (m.moves - s.moves) (t.moves - m.moves) h.spare
         (append_books sound few i told m h.after a)
         (subst K longest (subst S first.shape (h.works.charges (first.told ∙ told))))
-        n.pushed n.longest n.since refl n.settled (omega (arith, spent, first_moves, last_moves))
+        n.pushed n.longest n.since n.resets n.settled (omega (arith, spent, first_moves, last_moves))
 
     ended_trunk : IsTrunk key IsOp IsKept t (ended s t w)
     ended_trunk =
@@ -161,6 +163,7 @@ module _ (key : Record → Record) (step : Option Record → Record → Step) (I
           running = running_moves (t.moves - s.moves) (omega (arith, spent, old, moves)) h.works.running;
           few = h.few;
           unused = λ e. absurd (omega (arith, e, pushed));
+          silent = λ z e. absurd (omega (arith, e, pushed));
           blocks = h.blocks;
           thin = λ z. h.thin (back z);
           books = λ z. subst K (sym shape) (ended_books (back z));
@@ -177,6 +180,8 @@ module _ (key : Record → Record) (step : Option Record → Record → Step) (I
           session = session_trans a.session h.works.session;
           frames = same_frames_then s.pool h.mid.pool t.pool a.frames h.works.frames;
           pays = pays_then a.pays h.works.pays h.works.session.touches.moves;
+          loses = loses_then (trunk_blocks s v) (trunk_blocks h.mid h.after) (trunk_blocks t (ended s t w)) s
+              h.mid t a.session.touches.told a.loses h.works.loses;
           meaning = λ told.
               let st = i.running.stands told in
               let C : List Record → Type 0 = λ xs. Continues key step IsOp IsKept xs (model_of h.mid h.after)
@@ -215,7 +220,7 @@ module _ (key : Record → Record) (step : Option Record → Record → Step) (I
         ⊎ ((m : RigState) × (x : Trunk) × Appended op s m (counted_push s.pool.shape v) x
         × ChargesUpTo s.pool.shape (max v.longest (v.since + 1)) 0 (t.moves - m.moves) 0 (sums_in m x))
         → v.spent + (t.moves - s.moves)
-        ≤ tree_share s.pool.shape (v.pushed + 1) (max v.longest (v.since + 1)) 0 v.settled
+        ≤ tree_share s.pool.shape (v.pushed + 1) (max v.longest (v.since + 1)) v.resets v.settled
     stopped_within told (inl two) = refused_push_share (counts_of v) (t.moves - s.moves) sound.shape few
         (omega (arith, two)) (i.books told) (toll_some s.pool.shape (max v.longest (v.since + 1)))
     stopped_within told (inr (m, x, a, up)) =
@@ -243,6 +248,13 @@ module _ (key : Record → Record) (step : Option Record → Record → Step) (I
   counts_pushed (Ok x) h = pushed_counts h
   counts_pushed (Err fault) h = stopped_counts fault h
 
+  -- A push that was full may have needed a block.
+  pub needs_pushed : (r : Result (Unit {0}) EmFault)
+      → PushesTo key step IsOp IsKept op s t (counted_push s.pool.shape v) w r
+      → IfErr r (λ fault. IfFull fault (λ _. NeedsMore s v))
+  needs_pushed (Ok x) h = tt
+  needs_pushed (Err fault) h = h.needs
+
   -- The same of a call: it counted the push first, and its moves since a number that it took at first.
   module _ (w1 x : Trunk) (shape : ShapeNumbers) (start : ℕ) (same : shape ≡ s.pool.shape)
       (from : start ≡ s.moves) (counted : w1 ≡ counted_push shape v)
@@ -262,6 +274,9 @@ module _ (key : Record → Record) (step : Option Record → Record → Step) (I
     call_pushes laws is above =
         let P : Trunk → Type 0 = λ z. PushesOp key step IsOp IsKept op s t v z r in
         subst P at_end (pushes_of laws is above r at_start)
+
+    pub call_needs : IfErr r (λ fault. IfFull fault (λ _. NeedsMore s v))
+    call_needs = needs_pushed r at_start
 
     pub call_counts : CountsCall (count_push 0) s t v x
     call_counts =

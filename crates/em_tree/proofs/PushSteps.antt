@@ -1,5 +1,5 @@
 -- What a push asks of the calls that it makes, and what it left when one of them ended it.
-use Rattle.std.proofs.Common.{◌≡◌, ℕ, ◌+◌, ◌-◌, ◌*◌, ◌<◌, ◌≤◌, ◌++◌, refl, sym, ap, ◌∙◌, subst, arith, inl}
+use Rattle.std.proofs.Common.{◌≡◌, ℕ, ◌+◌, ◌*◌, ◌<◌, ◌≤◌, ◌++◌, refl, sym, ap, ◌∙◌, subst, arith, inl}
 use Rattle.std.specs.Prelude.{IsErrAnd, Option, Result, Ok, Err}
 use Rattle.std.proofs.Math.Nat.{mul-le-mul_right}
 use Rattle.em_record.specs.Shape.{ShapeNumbers, fan_of}
@@ -25,7 +25,7 @@ use Rattle.em_tree.specs.declared.trunk.Trunk.{Trunk}
 use Rattle.em_tree.proofs.Appends.{appended, appended_running, done}
 use Rattle.em_tree.proofs.DrainedTrees.{all_of}
 use Rattle.em_tree.proofs.Pushed.{clear_pushed, drain_after, first, paid_is, pushed_full}
-use Rattle.em_tree.proofs.PushStops.{push_stopped, pushed_few}
+use Rattle.em_tree.proofs.PushStops.{if_full, push_stopped, pushed_few}
 use Rattle.em_tree.proofs.SettledTrees.{can_after}
 use Rattle.em_tree.proofs.Works.{stops_after}
 
@@ -103,10 +103,11 @@ module _ (key : Record → Record) (IsOp IsKept : Record → Type 0) (op : Recor
             answers = rw (goes.frames.shape) f.answers;
             out = rw (goes.frames.free, goes.frames.shape) f.out;
           };
-          numbers = record { pushed = refl; longest = refl; since = refl; settled = refl; spent = refl };
+          numbers = record { pushed = refl; longest = refl; since = refl; settled = refl; resets = refl; spent = refl };
           pays = pays_of_owes 0 (trunk_unstored v) (2 * fan_of s.pool.shape + 3) costs.owes_err
               (omega arith);
           cause = cause;
+          needs = if_full fault _ (inl costs.needs);
           charges = λ told. inl costs.moves_err;
         }
 
@@ -147,7 +148,7 @@ module _ (key : Record → Record) (step : Option Record → Record → Step) (I
     -- Emptying it gave up.
     pub drain_stopped : (fault : EmFault) → StopsDraining m u after x fault
         → StopsPush op s u v x fault
-    drain_stopped fault h = push_stopped key step IsOp IsKept op s m v after was_appended push u x fault
+    drain_stopped fault h = push_stopped key step IsOp IsKept op s m v after was_appended push big u x fault
         (h.stops 0 big)
 
     module _ (root : DrainedRoot key step IsOp IsKept m u after x) where
@@ -172,5 +173,5 @@ module _ (key : Record → Record) (step : Option Record → Record → Step) (I
           let paid = paid_is key step IsOp IsKept op s m v after was_appended push u x big root in
           let stops = subst S (sym paid) (h (18 + 2 * d)) in
           let N : ℕ → Type 0 = λ f. StopsWorking 0 0 (2 * f + 3) m t after y fault in
-          push_stopped key step IsOp IsKept op s m v after was_appended push t y fault
+          push_stopped key step IsOp IsKept op s m v after was_appended push big t y fault
           (subst N (ap fan_of one.session.touches.shape) (stops_after one stops))

@@ -1,12 +1,13 @@
 -- A push that ended at its append, or gave up.
-use Rattle.std.proofs.Common.{◌≡◌, ℕ, ◌+◌, ◌-◌, ◌*◌, ◌<◌, ap, ◌∙◌, subst, arith, inr}
+use Rattle.std.proofs.Common.{◌≡◌, ℕ, ◌+◌, ◌-◌, ◌*◌, ◌<◌, ◌≤◌, ap, ◌∙◌, subst, arith, inr}
 use Rattle.em_record.specs.Shape.{ShapeNumbers, fan_of}
 use Rattle.em_record.specs.declared.record.Record.{Record}
 use Rattle.em_settle.specs.declared.step.Step.{Step}
 use Rattle.std.specs.Prelude.{Option}
-use Rattle.em_space.specs.Rig.{RigState, Sound}
+use Rattle.em_space.specs.Rig.{IfFull, RigState, Sound}
 use Rattle.em_space.specs.Queue.{Pays}
 use Rattle.em_space.specs.declared.fault.EmFault.{EmFault}
+use Rattle.em_space.specs.declared.fault.EmFault.TheVariants.{Damaged, DeviceFault, Full}
 use Rattle.em_space.proofs.Paying.{pays_then}
 use Rattle.em_space.proofs.Steps.{cause_after, goes_trans}
 use Rattle.em_tree.specs.Emptying.{unstored_most}
@@ -18,6 +19,12 @@ use Rattle.em_tree.specs.declared.trunk.Trunk.{Trunk}
 use Rattle.em_tree.proofs.DownLevels.{works_none}
 use Rattle.em_tree.proofs.Pushed.{appended_numbers, thin_after}
 use Rattle.em_tree.proofs.Works.{numbers_then}
+
+-- what holds at every fault
+pub if_full : (fault : EmFault) (P : Type 0) → P → IfFull fault (λ _. P)
+if_full DeviceFault P p = tt
+if_full (Full used) P p = p
+if_full (Damaged block) P p = tt
 
 module _ (key : Record → Record) (step : Option Record → Record → Step) (IsOp IsKept : Record → Type 0)
     (op : Record) (s m : RigState) (v w : Trunk) (app : Appended op s m v w)
@@ -37,10 +44,19 @@ module _ (key : Record → Record) (step : Option Record → Record → Step) (I
     thin = thin_after key step IsOp IsKept op s m v w app push;
   }
 
+  -- the buffer was full with the operation
+  full_with : full_limit m.pool.shape ≤ w.buffer.count → v.buffer.count + 1 ≡ full_limit s.pool.shape
+  full_with big =
+      let F : ShapeNumbers → Type 0 = λ g. full_limit g ≤ w.buffer.count in
+      let most = subst F app.session.touches.shape big in
+      let few = push.few in
+      let count = app.count in
+      omega (arith, most, few, count)
+
   -- A call after the append gave up.
-  pub push_stopped : (t : RigState) (y : Trunk) (fault : EmFault)
+  pub push_stopped : full_limit m.pool.shape ≤ w.buffer.count → (t : RigState) (y : Trunk) (fault : EmFault)
       → StopsWorking 0 0 (unstored_most m) m t w y fault → StopsPush op s t v y fault
-  push_stopped t y fault h =
+  push_stopped big t y fault h =
       let first = app.session.touches in
       let shape = first.shape in
       let U : ShapeNumbers → Type 0 = λ g. Pays (trunk_unstored w) (2 * fan_of g + 3) m t in
@@ -53,6 +69,7 @@ module _ (key : Record → Record) (step : Option Record → Record → Step) (I
         numbers = numbers_then (appended_numbers app) h.numbers;
         pays = pays_then app.pays (subst U shape h.pays) h.goes.touches.moves;
         cause = cause_after (trunk_blocks s v) s m t fault first h.cause;
+        needs = if_full fault _ (inr (full_with big));
         charges = λ z.
             let S : ShapeNumbers → Type 0 = λ g. ChargesUpTo g w.longest 0 (t.moves - m.moves) 0 (sums_in m w) in
             let K : ℕ → Type 0 = λ k. ChargesUpTo s.pool.shape k 0 (t.moves - m.moves) 0 (sums_in m w) in

@@ -1,5 +1,5 @@
 -- An operation was pushed: the root's buffer is emptied if it is full, and then what is full below.
-use Rattle.std.proofs.Common.{◌≡◌, ℕ, suc, ◌+◌, ◌-◌, ◌*◌, ◌<◌, ◌≤◌, [], ◌∷◌, ◌++◌, sym, ap, ◌∙◌, subst, arith, IsTrue}
+use Rattle.std.proofs.Common.{◌≡◌, ℕ, suc, ◌+◌, ◌*◌, ◌<◌, ◌≤◌, [], ◌∷◌, ◌++◌, sym, ap, ◌∙◌, subst, arith, IsTrue}
 use Rattle.std.specs.Prelude.{None, Option}
 use Rattle.em_record.specs.Shape.{ShapeNumbers}
 use Rattle.em_record.specs.declared.record.Record.{Record}
@@ -15,10 +15,10 @@ use Rattle.em_tree.specs.Buffers.{IsDue, IsThin, OnOneSide, OnlyFull}
 use Rattle.em_tree.specs.Draining.{CanDrain, DrainedRoot}
 use Rattle.em_tree.specs.Emptying.{CanClear, EachRead, deepest}
 use Rattle.em_tree.specs.Entries.{EachEntry}
-use Rattle.em_tree.specs.Loops.{CanClearFull, Cleared, HasSteps, leaf_pay, nodes_inside}
+use Rattle.em_tree.specs.Loops.{CanClearFull, Cleared, HasSteps, clear_pay, nodes_inside}
 use Rattle.em_tree.specs.Pushing.{Appended, CanPushOp, PushedOp, model_with}
 use Rattle.em_tree.specs.Starts.{is_inside}
-use Rattle.em_tree.specs.Trunk.{full_limit, model_of, root_of, sums_in}
+use Rattle.em_tree.specs.Trunk.{full_limit, model_of, root_of}
 use Rattle.em_tree.specs.Works.{SameNumbers, Works}
 use Rattle.em_tree.specs.declared.trunk.Trunk.{Trunk}
 use Rattle.em_tree.proofs.Buffers.{none_due}
@@ -40,6 +40,7 @@ module _ {op : Record} {s m : RigState} {v w : Trunk} (app : Appended op s m v w
     longest = ap (λ (z : Trunk). z.longest) app.is;
     since = ap (λ (z : Trunk). z.since) app.is;
     settled = ap (λ (z : Trunk). z.settled) app.is;
+    resets = ap (λ (z : Trunk). z.resets) app.is;
     spent = ap (λ (z : Trunk). z.spent) app.is;
   }
 
@@ -72,6 +73,7 @@ module _ (key : Record → Record) (step : Option Record → Record → Step) (I
       let S : ShapeNumbers → Type 0 = λ h. w.buffer.count ≤ full_limit h in
       record {
         most = subst S (sym app.frames.shape) (omega (arith, few, count));
+        blocks = (let b = push.blocks in let more = app.more in omega (arith, b, more, count));
         thin = λ z. thin_after (sym app.session.touches.told ∙ z);
       }
 
@@ -145,8 +147,7 @@ module _ (key : Record → Record) (step : Option Record → Record → Step) (I
         → PushedOp key step IsOp IsKept op s t v y
     pushed_full t y taken c =
         let d = deepest u x in
-        let spare = 18 + 2 * d + d * 0
-        + leaf_pay (all_of x.level) u x * ((sums_in t y).leaves - (sums_in u x).leaves) in
+        let spare = 18 + 2 * d + d * 0 + clear_pay (all_of x.level) c.found u t x y in
         let P : ℕ → Type 0 = λ n. Works key step IsOp IsKept n spare 0 taken u t x y in
         let later = c.works (18 + 2 * d) in
         let W : ℕ → Type 0 = λ n. Works key step IsOp IsKept 0 spare 0 n m t w y in

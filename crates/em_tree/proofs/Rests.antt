@@ -1,5 +1,5 @@
 -- What is left of the buffer of a leaf that is split goes to the two new entries.
-use Rattle.std.specs.Prelude.{◌≡◌, true, false, not, ◌+◌, ◌-◌, List, [], ◌∷◌, ◌++◌, length, Option}
+use Rattle.std.specs.Prelude.{◌≡◌, true, false, not, ◌+◌, List, [], ◌∷◌, ◌++◌, length, Option}
 use Rattle.std.proofs.Common.{refl, ap, ◌∙◌, arith, ⊎_elim}
 use Rattle.std.proofs.lemmas.Bool.{cases_Bool, cond-false, cond-true}
 use Rattle.std.proofs.lemmas.List.{length-append}

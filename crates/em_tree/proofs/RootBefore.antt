@@ -91,6 +91,6 @@ module _ (key : Record → Record) (IsOp IsKept : Record → Type 0) (l : ℕ) (
       let n = length (entries_at s v.root) in
       let B = s.pool.shape.block in
       let P : ℕ → Type 0 = λ d. Charges s.pool.shape v.longest p m p (B * d) (sums_in s v) sums_after in
-      let same : 4 * n + 13 + 6 ≡ 4 * n + 19 = omega arith in
-      subst P same (charges_thin_root p m p (4 * v.buffer.blocks + (4 * n + 13)) (sums_in s v) sums_after
-      can.sound.shape (omega (arith, few)) (4 * n + 13) lowers refl refl (omega arith))
+      let same : 4 * n + 3 + 6 ≡ 4 * n + 9 = omega arith in
+      subst P same (charges_thin_root p m p (4 * v.buffer.blocks + (4 * n + 3)) (sums_in s v) sums_after
+      can.sound.shape (omega (arith, few)) (4 * n + 3) lowers refl refl (omega arith))

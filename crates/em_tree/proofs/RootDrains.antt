@@ -1,5 +1,5 @@
 -- The root's buffer, emptied by the calls that did it.
-use Rattle.std.proofs.Common.{◌≡◌, ℕ, suc, ◌-◌, sym, ap, subst, arith}
+use Rattle.std.proofs.Common.{◌≡◌, ℕ, suc, ◌-◌, sym, ap, subst, arith, ◌*◌, ◌<◌, ◌≤◌, refl, ⊎_elim}
 use Rattle.std.specs.Prelude.{IsErrAnd, Option, Result, Ok, Err}
 use Rattle.em_record.specs.declared.record.Record.{Record}
 use Rattle.em_settle.specs.Laws.{IsSettle}
@@ -9,11 +9,18 @@ use Rattle.em_space.specs.declared.fault.EmFault.{EmFault}
 use Rattle.em_chain.specs.declared.chain.Chain.{Chain}
 use Rattle.em_empty.specs.Effects.{EmptiedAt, EmptyingCosts}
 use Rattle.em_empty.specs.Node.{CanEmpty, given_blocks}
-use Rattle.em_tree.specs.Draining.{CanDrain, DrainedRoot, DrainsTo, StopsDraining, StopsTakingAll, TookAll}
+use Rattle.em_tree.specs.Draining.{CanDrain, DrainedRoot, DrainsTo, StopsDraining, StopsTakingAll, TookAll, drain_debt}
 use Rattle.em_tree.specs.Emptying.{CanWork}
 use Rattle.em_tree.specs.declared.trunk.Trunk.{Trunk}
 use Rattle.em_tree.proofs.RootSteps.{root_works, with_fresh}
 use Rattle.em_tree.proofs.RootStops.{can_drain, root_not_poured, root_not_taken}
+use Rattle.std.proofs.lemmas.Bool.{cases_lt}
+use Rattle.em_tree_model.specs.Pouring.{pour}
+use Rattle.em_tree.specs.Trunk.{root_of}
+use Rattle.em_tree.proofs.Bounded.{limit_some}
+use Rattle.em_tree.proofs.DownLevels.{works_none}
+use Rattle.em_tree.proofs.FirstLoads.{works_owe}
+use Rattle.em_tree.proofs.Settled.{no_items}
 
 -- the result that a fault is handed on as
 pub drains_of : {T : Type 0} (key : Record → Record) (step : Option Record → Record → Step)
@@ -24,6 +31,30 @@ drains_of key step IsOp IsKept s t v w (Ok x) fault e h = absurd e
 drains_of key step IsOp IsKept s t v w (Err f) fault e h =
     let P : EmFault → Type 0 = λ g. StopsDraining s t v w g in
     subst P (sym e) h
+
+-- a count that isn't zero
+count_some : (v : Trunk) → (v.buffer.count ≡ 0 → ⊥) → 0 < v.buffer.count
+count_some v any = ⊎_elim (λ (some : 0 < v.buffer.count). some)
+    (λ (none : v.buffer.count ≤ 0). (let e : 0 < v.buffer.count = absurd (any (omega (arith, none))) in e))
+    (cases_lt 0 v.buffer.count)
+
+-- An empty buffer is emptied already.
+pub drains_none : (key : Record → Record) (step : Option Record → Record → Step) (IsOp IsKept : Record → Type 0)
+    {s : RigState} {v : Trunk} → CanWork key IsOp IsKept s v → CanDrain s v → v.buffer.count ≡ 0
+    → DrainedRoot key step IsOp IsKept s s v v
+drains_none key step IsOp IsKept {s} {v} can drain none =
+    let limit = limit_some can.sound.shape in
+    let blocks = drain.blocks in
+    let unwritten : v.buffer.blocks ≡ 0 = omega (arith, none, blocks) in
+    let items = no_items s v.buffer can.running.buffer unwritten in
+    record {
+      works = λ p big. absurd (omega (arith, big, none, limit));
+      owes = λ p. works_owe p p 0 (s.pool.shape.block * drain_debt s v) can.sound.shape (λ told low. omega arith)
+          (works_none key step IsOp IsKept p s v can.sound can.running);
+      pours = λ told. sym (ap (pour key (root_of s v)) items);
+      level = refl;
+      drained = record { empty = none; unwritten = unwritten };
+    }
 
 module _ (key : Record → Record) (step : Option Record → Record → Step) (IsOp IsKept : Record → Type 0)
     (s a : RigState) (v w : Trunk) (can : CanWork key IsOp IsKept s v) where
@@ -51,20 +82,21 @@ module _ (key : Record → Record) (step : Option Record → Record → Step) (I
       subst Q (sym took.is) (root_works key step IsOp IsKept laws (v.level - 1) s a t v w.buffer c least
       level_up can drain (as_fresh c took) (subst P (ap (λ (z : Trunk). z.root) took.is) done))
 
-  pub drains_err : (fault : EmFault) → StopsTakingAll s a v w fault → StopsDraining s a v w fault
-  drains_err fault h =
+  pub drains_err : (v.buffer.count ≡ 0 → ⊥) → (fault : EmFault) → StopsTakingAll s a v w fault
+      → StopsDraining s a v w fault
+  drains_err any fault h =
       let P : Trunk → Type 0 = λ z. StopsTakingAll s a v z fault in
       let Q : Trunk → Type 0 = λ z. StopsDraining s a v z fault in
       subst Q (sym h.is) (root_not_taken key IsOp IsKept (v.level - 1) s a v w.buffer fault level_up can
-      (subst P h.is h))
+      (count_some v any) (subst P h.is h))
 
-  pub drains_back : (t : RigState) (c : Chain) (fault : EmFault) → TookAll s a v w c
+  pub drains_back : (v.buffer.count ≡ 0 → ⊥) → (t : RigState) (c : Chain) (fault : EmFault) → TookAll s a v w c
       → Goes (given_blocks a w.root c) a t → EmptyingCosts a t w.root c → Cause a t fault
       → StopsDraining s t v w fault
-  drains_back t c fault took g costs cause =
+  drains_back any t c fault took g costs cause =
       let same = ap (λ (z : Trunk). z.root) took.is in
       let G : ℕ → Type 0 = λ n. Goes (given_blocks a n c) a t in
       let C : ℕ → Type 0 = λ n. EmptyingCosts a t n c in
       let Q : Trunk → Type 0 = λ z. StopsDraining s t v z fault in
       subst Q (sym took.is) (root_not_poured key IsOp IsKept (v.level - 1) s a v w.buffer c level_up can
-      (as_fresh c took) t fault (subst G same g) (subst C same costs) cause)
+      (as_fresh c took) (count_some v any) t fault (subst G same g) (subst C same costs) cause)

@@ -5,7 +5,7 @@ use Rattle.em_space.specs.Held.{Apart, Holds}
 use Rattle.em_space.specs.Ledger.{Session}
 use Rattle.em_space.specs.Rig.{RigState}
 use Rattle.em_space.proofs.Lists.{apart_left, apart_right, apart_sym}
-use Rattle.em_chain.specs.Chain.{IsPacked, IsTight, chain_blocks, chain_items}
+use Rattle.em_chain.specs.Chain.{IsChain, IsPacked, IsTight, chain_blocks, chain_items}
 use Rattle.em_chain.specs.declared.chain.Chain.{Chain}
 use Rattle.em_node.specs.declared.entry.Entry.{Entry}
 use Rattle.em_tree_model.specs.Pouring.{pour}
@@ -15,8 +15,10 @@ use Rattle.em_tree_blocks.specs.Node.{buffer_of, linked_block}
 use Rattle.em_tree_blocks.specs.Reading.{AreStored, IsTreeAt, entries_at, row_blocks, tree_at, tree_blocks}
 use Rattle.em_tree_blocks.proofs.Emptied.{row_emptied}
 use Rattle.em_tree_load.specs.Forms.{AreFormed, HaveForms}
-use Rattle.em_tree.proofs.Lowered.{ChildrenStay, children_stay}
-use Rattle.em_tree.proofs.Mixed.{Mixes, all_left, children_blocks, left, mixes_append, mixes_apart, row_mixes, session_mixed}
+use Rattle.em_tree_load.specs.Paid.{LosesNone}
+use Rattle.em_tree_load.proofs.Losses.{frees_length}
+use Rattle.em_tree.proofs.Lowered.{ChildrenStay, buffers_stored, children_stay}
+use Rattle.em_tree.proofs.Mixed.{Mixes, all_left, children_blocks, left, loses_mixed, mixes_append, mixes_apart, row_mixes, session_mixed}
 use Rattle.em_tree.proofs.Stays.{forms_stay}
 
 -- buffers that grew keep their forms, and so do children that were left alone
@@ -63,6 +65,8 @@ pub record RootLowered (key : Record → Record) (l : ℕ) (a t : RigState) (roo
     : Type 0 where
   pub session : Session (root ∷ (chain_blocks a c ++ row_blocks (tree_blocks l a) a (entries_at a root))) a
       t (tree_blocks (suc l) t root)
+  pub loses : LosesNone (root ∷ (chain_blocks a c ++ row_blocks (tree_blocks l a) a (entries_at a root)))
+      (tree_blocks (suc l) t root) a t
   pub is : IsTreeAt (suc l) t root
   pub reads : tree_at (suc l) t root ≡ pour key (tree_at (suc l) a root) (chain_items a c)
   pub formed : AreFormed (suc l) a root → AreFormed (suc l) t root
@@ -70,7 +74,7 @@ pub record RootLowered (key : Record → Record) (l : ℕ) (a t : RigState) (roo
 module _ (key : Record → Record) (l : ℕ) (a t : RigState) (root : ℕ) (c : Chain) (least : Option ℕ)
     (told : IsTrue a.device.told) (is : IsTreeAt (suc l) a root)
     (holds : Holds a (root ∷ (chain_blocks a c ++ row_blocks (tree_blocks l a) a (entries_at a root))))
-    (done : EmptiedAt key a t root c least) where
+    (done : EmptiedAt key a t root c least) (chain : IsChain a c) where
   emptied : Emptied key a t root c least
   emptied = done.emptied told
 
@@ -100,6 +104,8 @@ module _ (key : Record → Record) (l : ℕ) (a t : RigState) (root : ℕ) (c : 
   pub root_lowered : RootLowered key l a t root c
   root_lowered = record {
     session = session_mixed root_mixes root_after (λ z. holds) done.session;
+    loses = loses_mixed a t root_mixes root_after
+        (frees_length done chain (λ z. buffers_stored (IsTreeAt l a) a (entries_at a root) is.1));
     is = (
       record {
         in_use = (done.session.holds told).in_use.0;

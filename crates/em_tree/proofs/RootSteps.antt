@@ -39,6 +39,8 @@ use Rattle.em_tree.specs.Emptying.{CanWork, EachRead, deepest}
 use Rattle.em_tree.specs.Entries.{EachEntry}
 use Rattle.em_tree.specs.Events.{Charges, Continues}
 use Rattle.em_tree_load.specs.Forms.{AreFormed}
+use Rattle.em_tree_load.specs.Paid.{LosesNone}
+use Rattle.em_tree_load.proofs.Losses.{loses_as, loses_beside, loses_from}
 use Rattle.em_tree.specs.Sized.{IsSized}
 use Rattle.em_tree.specs.Trunk.{AreTrunkNumbers, IsRunning, IsStanding, TrunkHasFrames, full_limit, given_by, model_of, root_of, sums_in, trunk_blocks, trunk_unstored}
 use Rattle.em_tree.specs.Works.{Works}
@@ -50,10 +52,11 @@ use Rattle.em_tree.proofs.Lows.{lows_pour}
 use Rattle.em_tree.proofs.Meaning.{represents_itself}
 use Rattle.em_tree.proofs.RootLowered.{RootLowered}
 use Rattle.em_tree.proofs.RootTree.{root_bounded, root_sized}
-use Rattle.em_tree.proofs.RootWorks.{both_session, lowered, tree_apart, tree_kept}
+use Rattle.em_tree.proofs.RootWorks.{both_loses, both_session, lowered, tree_apart, tree_kept}
 use Rattle.em_tree.proofs.Stays.{forms_stay}
 use Rattle.em_tree.proofs.TrunkLists.{touches_told}
 use Rattle.em_tree.proofs.RootBefore.{count_is, full_charged, row, some, sums_after, thin_charged}
+use Rattle.em_tree.proofs.Waits.{none_on}
 
 -- the moves of both calls, by those of each
 pub root_moves : (s a t b x d r n : ℕ) → a ≤ s + 1 → t ≤ a + (2 * b + 2 * x + 4 * r + 2) → r ≤ n → b ≡ d
@@ -129,20 +132,34 @@ module _ (key : Record → Record) (step : Option Record → Record → Step)
   told_then : IsTrue s.device.told → IsTrue a.device.told
   told_then told = took.goes.touches.told ∙ told
 
-  told_session : IsTrue s.device.told
-      → Session (trunk_blocks s v) s t (trunk_blocks t (with_fresh v fresh))
-  told_session told =
-      let x = writer_blocks s v.answers in
+  new_blocks : IsTrue s.device.told → trunk_blocks t (with_fresh v fresh)
+      ≡ tree_blocks (suc l) t v.root ++ writer_blocks s v.answers
+  new_blocks told =
       let y = writer_blocks t v.answers in
       let tree = tree_blocks (suc l) t v.root in
       let b = writer_blocks t fresh in
       let none : b ≡ [] = fresh_stays.blocks (told_then told) ∙ took.fresh.held (told_then told) in
-      let new : trunk_blocks t (with_fresh v fresh) ≡ tree ++ x =
       ap (λ n. tree_blocks n t v.root ++ (b ++ y)) level
-      ∙ (ap (λ ks. tree ++ (ks ++ y)) none ∙ ap (λ ks. tree ++ ks) (answers_stay.blocks told)) in
+      ∙ (ap (λ ks. tree ++ (ks ++ y)) none ∙ ap (λ ks. tree ++ ks) (answers_stay.blocks told))
+
+  told_session : IsTrue s.device.told
+      → Session (trunk_blocks s v) s t (trunk_blocks t (with_fresh v fresh))
+  told_session told =
+      let x = writer_blocks s v.answers in
+      let tree = tree_blocks (suc l) t v.root in
       let P : List ℕ → Type 0 = λ ks. Session ks s t (trunk_blocks t (with_fresh v fresh)) in
       subst P (sym all_blocks) (session_as (trunk_blocks t (with_fresh v fresh))
-      (session_beside [] held_first tree x (λ z. all_hold z) (both told)) (λ z. new))
+      (session_beside [] held_first tree x (λ z. all_hold z) (both told)) new_blocks)
+
+  loses : LosesNone (trunk_blocks s v) (trunk_blocks t (with_fresh v fresh)) s t
+  loses told =
+      let x = writer_blocks s v.answers in
+      let tree = tree_blocks (suc l) t v.root in
+      let new = trunk_blocks t (with_fresh v fresh) in
+      let inner = both_loses key IsOp IsKept l s a v (with_fresh v fresh) c level can took told t least done in
+      let beside = loses_beside [] held_first tree x s t inner in
+      loses_from (held_first ++ x) (trunk_blocks s v) new s t
+      (loses_as (held_first ++ x) (tree ++ x) new s t beside new_blocks) (λ z. all_blocks) told
 
   session : Session (trunk_blocks s v) s t (trunk_blocks t (with_fresh v fresh))
   session = record {
@@ -171,6 +188,7 @@ module _ (key : Record → Record) (step : Option Record → Record → Step)
         longest_most = n.longest_most;
         pushed_most = n.pushed_most;
         settled_most = n.settled_most;
+        resets_most = n.resets_most;
         spent_most = omega (arith, n.spent_most, base.moves);
         root_below = rw (base.blocks) n.root_below;
       }
@@ -310,16 +328,20 @@ module _ (key : Record → Record) (step : Option Record → Record → Step)
         session = session;
         frames = same_pool;
         pays = pays;
+        loses = loses;
         numbers = record {
           pushed = refl;
           longest = refl;
           since = refl;
           settled = refl;
+          resets = refl;
           spent = refl;
         };
         steps = omega arith;
         running = running;
         continues = continued;
+        still = λ told. none_on key step IsOp IsKept (can.running.stands told).is (can.running.stands told).turn
+            (continued told);
         charges = λ told. C told (t.moves - s.moves) (let h = moves_few told in omega (arith, h));
         paces = λ told. C told 0 (omega arith);
       }

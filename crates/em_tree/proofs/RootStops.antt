@@ -35,19 +35,22 @@ use Rattle.em_tree.proofs.EntryStops.{reached_any}
 use Rattle.em_tree.proofs.EntryBefore.{row_count}
 use Rattle.em_tree.proofs.EntryWorks.{reached_told}
 use Rattle.em_tree.proofs.Mixed.{all_left, children_blocks, holds_parts, left, mixes_append, mixes_off_left, row_mixes}
-use Rattle.em_tree.proofs.RootBefore.{entries_few, full_charged, some, sums_after, thin_charged}
+use Rattle.em_tree.proofs.RootBefore.{entries_few, full_charged, some, sums_after, thin_charged, count_is}
 use Rattle.em_tree.proofs.RootSteps.{root_moves, with_fresh}
 use Rattle.em_tree.proofs.RootWorks.{poured_hold, tree_apart, tree_kept}
+use Rattle.em_tree.proofs.Waits.{buffer_waits, waits_some}
 
 module _ (key : Record → Record) (IsOp IsKept : Record → Type 0) (l : ℕ) (s t : RigState) (v : Trunk)
     (fresh : Writer) (fault : EmFault) (level : v.level ≡ suc l) (can : CanWork key IsOp IsKept s v) where
   -- A refused step, by its moves.
   stops_by : Goes (trunk_blocks s v) s t → length fresh.frame ≡ t.pool.shape.block
-      → Pays (trunk_unstored v) (unstored_most s) s t → Cause s t fault
+      → Pays (trunk_unstored v) (unstored_most s) s t → Cause s t fault → 0 < v.buffer.count
       → ((told : IsTrue s.device.told)
       → t.moves ≤ s.moves + (4 * v.buffer.blocks + 4 * length (entries_at s v.root) + 3))
       → StopsDraining s t v (with_fresh v fresh) fault
-  stops_by g frame pays cause few =
+  stops_by g frame pays cause any few =
+      let needs = waits_some s v fault (λ told. buffer_waits s v (let n = count_is key IsOp IsKept l s v level can told in
+      omega (arith, n, any))) in
       let debt = s.pool.shape.block * drain_debt s v in
       let i = can.running.frames in
       let frames : TrunkHasFrames t (with_fresh v fresh) = record {
@@ -59,9 +62,10 @@ module _ (key : Record → Record) (IsOp IsKept : Record → Type 0) (l : ℕ) (
         stops = λ p big. record {
           goes = g;
           frames = frames;
-          numbers = record { pushed = refl; longest = refl; since = refl; settled = refl; spent = refl };
+          numbers = record { pushed = refl; longest = refl; since = refl; settled = refl; resets = refl; spent = refl };
           pays = pays;
           cause = cause;
+          needs = needs;
           charges = λ told. record {
             sums = sums_after key IsOp IsKept l s v level can told;
             charges = charges_within p (t.moves - s.moves) (p + 18 + 3 * deepest s v) 0
@@ -73,9 +77,10 @@ module _ (key : Record → Record) (IsOp IsKept : Record → Type 0) (l : ℕ) (
         owes = λ p. record {
           goes = g;
           frames = frames;
-          numbers = record { pushed = refl; longest = refl; since = refl; settled = refl; spent = refl };
+          numbers = record { pushed = refl; longest = refl; since = refl; settled = refl; resets = refl; spent = refl };
           pays = pays;
           cause = cause;
+          needs = needs;
           charges = λ told. record {
             sums = sums_after key IsOp IsKept l s v level can told;
             charges = charges_within p (t.moves - s.moves) p debt (t.moves - s.moves) 0 debt
@@ -94,9 +99,9 @@ module _ (key : Record → Record) (IsOp IsKept : Record → Type 0) (l : ℕ) (
       off_left j b x (off_right j (tree_blocks v.level s v.root) (b ++ x) o)
 
   -- The buffer wasn't taken out.
-  pub root_not_taken : StopsTakingAll s t v (with_fresh v fresh) fault
+  pub root_not_taken : 0 < v.buffer.count → StopsTakingAll s t v (with_fresh v fresh) fault
       → StopsDraining s t v (with_fresh v fresh) fault
-  root_not_taken h =
+  root_not_taken any h =
       let used = h.same.used in
       let moves = h.moves in
       stops_by
@@ -104,7 +109,7 @@ module _ (key : Record → Record) (IsOp IsKept : Record → Type 0) (l : ℕ) (
       (record { off = λ z j u o. buffer_off j o }) h.goes)
       h.frame.len_is
       (pays_more (pays_kept (trunk_unstored v) (omega (arith, used)) h.goes.touches.moves) (omega arith))
-      h.cause (λ told. omega (arith, moves))
+      h.cause any (λ told. omega (arith, moves))
 
 row_some : (child : ℕ → Tree) (s : RigState) (es : List Entry) → HasEntry (row_of child s es)
     → 0 < length es
@@ -186,9 +191,9 @@ module _ (key : Record → Record) (IsOp IsKept : Record → Type 0) (l : ℕ) (
       }
 
   -- It was taken out, and not poured into the root.
-  pub root_not_poured : (t : RigState) (fault : EmFault) → Goes (given_blocks a v.root c) a t
+  pub root_not_poured : 0 < v.buffer.count → (t : RigState) (fault : EmFault) → Goes (given_blocks a v.root c) a t
       → EmptyingCosts a t v.root c → Cause a t fault → StopsDraining s t v (with_fresh v fresh) fault
-  root_not_poured t fault g costs cause =
+  root_not_poured any t fault g costs cause =
       let first : Goes (trunk_blocks s v) s a = goes_wider (trunk_blocks s v) (writer_blocks s v.buffer) s a
       (record { off = λ z j u o. buffer_off key IsOp IsKept l s a v fresh fault level can j o }) took.goes in
       let x = min v.answers.blocks 1 in
@@ -206,7 +211,7 @@ module _ (key : Record → Record) (IsOp IsKept : Record → Type 0) (l : ℕ) (
       (λ z j u o. given_off z j o))
       (rw (g.frames.shape) took.fresh.is.frame.len_is)
       (pays_then early later g.touches.moves)
-      (cause_after (trunk_blocks s v) s a t fault first.touches cause)
+      (cause_after (trunk_blocks s v) s a t fault first.touches cause) any
       (λ told.
       let z : IsTrue a.device.told = back ∙ told in
       let e = entries_same told in

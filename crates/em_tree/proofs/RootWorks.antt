@@ -14,12 +14,14 @@ use Rattle.em_chain.specs.Writer.{writer_blocks}
 use Rattle.em_chain.specs.declared.chain.Chain.{Chain}
 use Rattle.em_tree_blocks.specs.Reading.{IsTreeAt, entries_at, row_blocks, tree_blocks}
 use Rattle.em_tree_blocks.proofs.Frames.{TreeStays, tree_stays}
+use Rattle.em_tree_load.specs.Paid.{LosesNone}
+use Rattle.em_tree_load.proofs.Losses.{loses_as, loses_still, loses_then}
 use Rattle.em_empty.specs.Effects.{EmptiedAt}
 use Rattle.em_tree.specs.Draining.{TookAll}
 use Rattle.em_tree.specs.Emptying.{CanWork}
 use Rattle.em_tree.specs.Trunk.{IsStanding}
 use Rattle.em_tree.specs.declared.trunk.Trunk.{Trunk}
-use Rattle.em_tree.proofs.Mixed.{Mixes, all_left, all_right, holds_mixed, left, mixes_append, session_held}
+use Rattle.em_tree.proofs.Mixed.{Mixes, all_left, all_right, holds_mixed, left, loses_held, mixes_append, session_held}
 use Rattle.em_tree.proofs.RootLowered.{RootLowered, root_lowered}
 
 -- one list before another
@@ -104,6 +106,7 @@ module _ (key : Record → Record) (IsOp IsKept : Record → Type 0) (l : ℕ) (
   module _ (t : RigState) (least : Option ℕ) (done : EmptiedAt key a t v.root c least) where
     pub lowered : RootLowered key l a t v.root c
     lowered = root_lowered key l a t v.root c least told_a tree_kept.is poured_hold done
+        took.finishes.is
 
     pub both_session : Session (tree_blocks (suc l) s v.root ++ writer_blocks s v.buffer) s t
         (tree_blocks (suc l) t v.root)
@@ -112,3 +115,18 @@ module _ (key : Record → Record) (IsOp IsKept : Record → Type 0) (l : ℕ) (
         let chain = chain_blocks a c in
         session_trans first_session
         (session_held (left v.root (mixes_back row chain)) (mixes_front (v.root ∷ row) chain) lowered.session)
+
+    pub both_loses : LosesNone (tree_blocks (suc l) s v.root ++ writer_blocks s v.buffer)
+        (tree_blocks (suc l) t v.root) s t
+    both_loses =
+        let row = row_blocks (tree_blocks l a) a (entries_at a v.root) in
+        let chain = chain_blocks a c in
+        let tree = tree_blocks (suc l) s v.root in
+        let held = tree ++ writer_blocks s v.buffer in
+        let mid = tree_blocks (suc l) a v.root ++ chain in
+        let first = loses_as held held mid s a (loses_still held s a took.same.used)
+        (λ z. ap (λ (ks : List ℕ). ks ++ chain) tree_kept.blocks
+        ∙ ap (λ (ks : List ℕ). tree ++ ks) (took.finishes.blocks z)) in
+        loses_then held mid (tree_blocks (suc l) t v.root) s a t took.goes.touches.told first
+        (loses_held (tree_blocks (suc l) t v.root) a t (left v.root (mixes_back row chain))
+        (mixes_front (v.root ∷ row) chain) lowered.loses)

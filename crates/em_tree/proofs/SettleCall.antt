@@ -1,5 +1,5 @@
 -- What `settle_all` leaves: its numbers are counted, and the books are kept over its moves.
-use Rattle.std.proofs.Common.{◌≡◌, ℕ, ◌+◌, ◌-◌, ◌^◌, ◌<◌, ◌≤◌, [], length, refl, sym, ap, ◌∙◌, subst, arith, IsTrue, Result, Ok, Err}
+use Rattle.std.proofs.Common.{◌≡◌, ℕ, ◌+◌, ◌-◌, ◌^◌, ◌<◌, ◌≤◌, [], length, refl, sym, ap, ◌∙◌, subst, arith, IsTrue, Result, Ok, Err, IfErr}
 use Rattle.std.specs.Prelude.{Option, None}
 use Rattle.em_record.specs.Shape.{ShapeNumbers}
 use Rattle.em_record.specs.declared.record.Record.{Record}
@@ -17,7 +17,7 @@ use Rattle.em_tree.specs.Debts.{owing_all}
 use Rattle.em_tree.specs.Emptying.{EachRead}
 use Rattle.em_tree.specs.Settling.{SettledAll, SettlesAllTo, StopsSettling}
 use Rattle.em_tree.specs.Trunk.{IsRunning, IsTrunk, counts_of, full_limit, given_by, model_of, root_of, sums_in}
-use Rattle.em_tree.specs.Works.{SameNumbers}
+use Rattle.em_tree.specs.Works.{SameNumbers, FullIfWaits}
 use Rattle.em_tree.specs.declared.trunk.Trunk.{Trunk}
 use Rattle.em_tree.proofs.Bounded.{limit_some}
 use Rattle.em_tree.proofs.Ends.{settled_books, stopped_settling}
@@ -26,6 +26,7 @@ use Rattle.em_tree.proofs.Meaning.{leaves_all}
 use Rattle.em_tree.proofs.Settled.{trunk_settled}
 use Rattle.em_tree.proofs.SettlingBegins.{running_counted}
 use Rattle.em_tree.proofs.SettlingTolls.{settled_toll, stopped_toll}
+use Rattle.em_tree.proofs.Unused.{silent_all}
 
 -- a tree whose moves were counted stands as it did
 pub running_moved : {key : Record → Record} {IsOp IsKept : Record → Type 0} {t : RigState} {w : Trunk}
@@ -42,6 +43,7 @@ running_moved m most r =
         longest_most = n.longest_most;
         pushed_most = n.pushed_most;
         settled_most = n.settled_most;
+        resets_most = n.resets_most;
         spent_most = most;
         root_below = n.root_below;
       };
@@ -69,27 +71,28 @@ none_thin limit some s v h = each_map (NoneFrom 0) (IsThin limit)
     least_record None (root_of s v) h
 
 -- counts by their numbers
-abbrev counts_by : ℕ → ℕ → ℕ → ℕ → ℕ → TreeCounts
-counts_by n k since spent y = record {
+abbrev counts_by : ℕ → ℕ → ℕ → ℕ → ℕ → ℕ → TreeCounts
+counts_by n k since spent z y = record {
   n = n;
   k = k;
   since = since;
   spent = spent;
-  z = 0;
+  z = z;
   y = y;
 }
 
 -- a settling was counted, and its moves
 pub counts_settled : (m settled : ℕ) (v w : Trunk) → w.pushed ≡ v.pushed → w.longest ≡ v.longest
-    → w.since ≡ v.since → w.settled ≡ settled → settled ≡ v.settled + 1
+    → w.since ≡ v.since → w.resets ≡ v.resets → w.settled ≡ settled → settled ≡ v.settled + 1
     → counts_of (counted_moves m w) ≡ count_settle 0 (record (counts_of v) { spent = w.spent + m })
-counts_settled m settled v w n k since y z =
+counts_settled m settled v w n k since z y more =
     let none : w.spent + m ≡ w.spent + m + 0 = omega arith in
-    ap (λ x. counts_by x w.longest w.since (w.spent + m) w.settled) n
-    ∙ (ap (λ x. counts_by v.pushed x w.since (w.spent + m) w.settled) k
-    ∙ (ap (λ x. counts_by v.pushed v.longest x (w.spent + m) w.settled) since
-    ∙ (ap (λ x. counts_by v.pushed v.longest v.since x w.settled) none
-    ∙ ap (λ x. counts_by v.pushed v.longest v.since (w.spent + m + 0) x) (y ∙ z))))
+    ap (λ x. counts_by x w.longest w.since (w.spent + m) w.resets w.settled) n
+    ∙ (ap (λ x. counts_by v.pushed x w.since (w.spent + m) w.resets w.settled) k
+    ∙ (ap (λ x. counts_by v.pushed v.longest x (w.spent + m) w.resets w.settled) since
+    ∙ (ap (λ x. counts_by v.pushed v.longest v.since x w.resets w.settled) none
+    ∙ (ap (λ x. counts_by v.pushed v.longest v.since (w.spent + m + 0) x w.settled) z
+    ∙ ap (λ x. counts_by v.pushed v.longest v.since (w.spent + m + 0) v.resets x) (y ∙ more)))))
 
 module _ (key : Record → Record) (step : Option Record → Record → Step)
     (IsOp IsKept : Record → Type 0) (s t : RigState) (v w : Trunk) (sound : Sound s)
@@ -127,12 +130,12 @@ module _ (key : Record → Record) (step : Option Record → Record → Step)
       let fits = settled_toll key step IsOp IsKept s t v w sound is h told in
       settled_books (counts_of v) (counts_of (counted_moves (t.moves - s.moves) w)) 0
       (t.moves - s.moves) 0 h.debt sound.shape (is.books told) (h.works.charges told) fits
-      n.pushed n.longest n.since refl n.settled (omega (arith, n.spent))
+      n.pushed n.longest n.since n.resets n.settled (omega (arith, n.spent))
 
-  settling_trunk : SettledAll key step IsOp IsKept (owing_all s (counted_settling s.pool.shape v)) s t
+  settling_trunk : v.settled < 2 ^ 100 → SettledAll key step IsOp IsKept (owing_all s (counted_settling s.pool.shape v)) s t
       (counted_settling s.pool.shape v) w
       → IsTrunk key IsOp IsKept t (counted_moves (t.moves - s.moves) w)
-  settling_trunk h =
+  settling_trunk settled h =
       let m = t.moves - s.moves in
       let first = h.works.session.touches in
       let some = limit_some h.works.session.sound.shape in
@@ -146,20 +149,23 @@ module _ (key : Record → Record) (step : Option Record → Record → Step)
         few = omega (arith, h.drained.empty, some);
         blocks = omega (arith, h.drained.unwritten);
         unused = λ z. h.drained.unwritten;
+        silent = λ z e. silent_all key step IsOp IsKept is (back z) (sym n.pushed ∙ e) (given_by t w)
+            (trunk_settled (running_counted settled is.running) h.works h.none_waits h.drained (back z)).answers;
         thin = λ z. none_thin (full_limit t.pool.shape) some t w (h.none_waits (back z));
         books = λ z.
             let P : ShapeNumbers → Type 0 = λ g. KeepsBooks g (counts_of (counted_moves m w)) 0 (sums_in t w) in
             subst P (sym first.shape) (settling_books h (back z));
       }
 
-  settling_changes : SettledAll key step IsOp IsKept (owing_all s (counted_settling s.pool.shape v)) s t
+  settling_changes : v.settled < 2 ^ 100 → SettledAll key step IsOp IsKept (owing_all s (counted_settling s.pool.shape v)) s t
       (counted_settling s.pool.shape v) w
       → ChangesTrunk key step IsOp IsKept [] s t v (counted_moves (t.moves - s.moves) w)
-  settling_changes h = record {
-    is = settling_trunk h;
+  settling_changes settled h = record {
+    is = settling_trunk settled h;
     session = h.works.session;
     frames = h.works.frames;
     pays = h.works.pays;
+    loses = h.works.loses;
     meaning = λ told.
         let st = is.running.stands told in
         leaves_all key step IsOp IsKept (given_by s v) (given_by t w) (model_of s v) (model_of t w) st.is
@@ -186,7 +192,7 @@ module _ (key : Record → Record) (step : Option Record → Record → Step)
       (counted_settling s.pool.shape v) w r
       → SettlesTrunk key step IsOp IsKept s t v (counted_moves (t.moves - s.moves) w) r
   settles_trunk few (Ok x) h = record {
-    changes = settling_changes h;
+    changes = settling_changes few h;
     settled = trunk_settled (running_counted few is.running) h.works h.none_waits h.drained;
   }
   settles_trunk few (Err fault) h = settling_stops fault h
@@ -201,11 +207,20 @@ module _ (key : Record → Record) (step : Option Record → Record → Step)
   settling_share (Err fault) h told =
       let m = t.moves - s.moves in
       let n = h.stops.numbers in
-      let c = counts_settled m (v.settled + 1) v w n.pushed n.longest n.since n.settled refl in
+      let c = counts_settled m (v.settled + 1) v w n.pushed n.longest n.since n.resets n.settled
+      refl in
       let P : TreeCounts → Type 0 = KeepsShare s.pool.shape in
       let few = stopped_settling (counts_of v) m h.debt sound.shape (is.books told) (h.stops.charges told)
       (stopped_toll key step IsOp IsKept s t v w sound is h told) in
       subst P (sym c) (record { within = omega (arith, few, n.spent) })
+
+  -- what it needed, if it was full,
+  pub settling_needs : (r : Result (Unit {0}) EmFault)
+      → SettlesAllTo key step IsOp IsKept (owing_all s (counted_settling s.pool.shape v)) s t
+      (counted_settling s.pool.shape v) w r
+      → IfErr r (FullIfWaits s v)
+  settling_needs (Ok x) h = tt
+  settling_needs (Err fault) h = h.stops.needs
 
   -- and its numbers.
   pub settling_counts : (r : Result (Unit {0}) EmFault)
@@ -217,7 +232,7 @@ module _ (key : Record → Record) (step : Option Record → Record → Step)
       let later = settling_later r h in
       record {
         counts = counts_settled (t.moves - s.moves) (v.settled + 1) v w n.pushed n.longest n.since
-            n.settled refl;
+            n.resets n.settled refl;
         spent = omega (arith, n.spent, later);
         share = settling_share r h;
       }
@@ -257,6 +272,9 @@ module _ (key : Record → Record) (step : Option Record → Record → Step)
     call_settles few =
         let P : Trunk → Type 0 = λ z. SettlesTrunk key step IsOp IsKept s t v z r in
         subst P (sym ended_as) (settles_trunk key step IsOp IsKept s t v w sound is few r from_begun)
+
+    pub call_needs : IfErr r (FullIfWaits s v)
+    call_needs = settling_needs key step IsOp IsKept s t v w sound is r from_begun
 
     pub call_counts : CountsCall (count_settle 0) s t v y
     call_counts =

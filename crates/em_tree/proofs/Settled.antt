@@ -1,5 +1,5 @@
 -- A tree in which nothing waits any more: all answers were given, and it can be finished.
-use Rattle.std.proofs.Common.{◌≡◌, ℕ, ◌+◌, ◌-◌, List, [], ◌++◌, drop, refl, sym, ap, ◌∙◌, subst, arith, IsTrue}
+use Rattle.std.proofs.Common.{◌≡◌, ℕ, ◌-◌, List, [], ◌++◌, drop, refl, sym, ap, ◌∙◌, subst, arith, IsTrue}
 use Rattle.std.specs.Prelude.{Option}
 use Rattle.std.specs.List.Sorted.{IsPermutation}
 use Rattle.em_record.specs.declared.record.Record.{Record}
@@ -17,6 +17,7 @@ use Rattle.em_settle.specs.declared.step.Step.{Step}
 use Rattle.em_tree_model.specs.Meaning.{tree_answers}
 use Rattle.em_tree_model.specs.Tree.{Tree, waiting_in}
 use Rattle.em_tree_model.specs.Tree.Tree.{end, entry, leaf}
+use Rattle.em_tree_load.proofs.Losses.{chain_length}
 use Rattle.em_tree.specs.Buffers.{NoneFrom}
 use Rattle.em_tree.specs.Calls.{FinishedTrunk}
 use Rattle.em_tree.specs.Emptying.{EachRead}
@@ -30,7 +31,7 @@ use Rattle.em_tree.specs.declared.trunk.Trunk.{Trunk}
 use Rattle.em_tree.proofs.Meaning.{settled_all}
 
 -- a tree whose buffers are empty
-none_waiting : (t : Tree) (m : ℕ) (lo : Record) (hi : Option Record) → EachEntry (NoneFrom 0) m lo hi t
+pub none_waiting : (t : Tree) (m : ℕ) (lo : Record) (hi : Option Record) → EachEntry (NoneFrom 0) m lo hi t
     → waiting_in t ≡ []
 none_waiting (leaf xs) m lo hi e = refl
 none_waiting end m lo hi e = refl
@@ -40,7 +41,7 @@ none_waiting (entry low b c r) m lo hi e =
     ∙ (ap (λ xs. xs ++ waiting_in r) own ∙ none_waiting r _ _ _ e.2)
 
 -- a writer with no block has no record
-no_items : (s : RigState) (w : Writer) → IsWriter s w → w.blocks ≡ 0 → writer_items s w ≡ []
+pub no_items : (s : RigState) (w : Writer) → IsWriter s w → w.blocks ≡ 0 → writer_items s w ≡ []
 no_items s w i e =
     let f : ℕ → ℕ → ℕ → List Record = λ skip blocks tail.
     drop skip (items_in (contents_of s (linked_from (blocks - 1) s.device.contents w.head)
@@ -87,6 +88,13 @@ module _ {key : Record → Record} {step : Option Record → Record → Step}
         pays = pays_then works.pays
             (pays_then r.pays g.pays g.session.touches.moves)
             (omega (arith, r.session.touches.moves, g.session.touches.moves));
+        loses = λ z.
+            let steps = works.loses z in
+            let released = r.used (over z) in
+            let given = g.used in
+            let blocks = g.chain.blocks_is in
+            let n = chain_length g.chain.is (g.session.touches.told ∙ last z) in
+            omega (arith, steps, released, given, blocks, n);
         answers = λ z.
             let P : List Record → Type 0 = IsPermutation
             (tree_answers key step (given_by s v) (model_of s v)) in

@@ -28,6 +28,7 @@ module _ {key : Record → Record} {IsOp IsKept : Record → Type 0} {s : RigSta
           longest_most = n.longest_most;
           pushed_most = n.pushed_most;
           settled_most = omega (arith, few);
+          resets_most = n.resets_most;
           spent_most = n.spent_most;
           root_below = n.root_below;
         };
@@ -61,7 +62,7 @@ module _ {key : Record → Record} {IsOp IsKept : Record → Type 0} {s : RigSta
   pub settling_settles : Sound s → IsTrunk key IsOp IsKept s v
       → CanSettleTree s (counted_settling s.pool.shape v)
   settling_settles sound i = record {
-    drain = record { most = omega (arith, i.few); thin = i.thin };
+    drain = record { most = omega (arith, i.few); blocks = i.blocks; thin = i.thin };
     may = λ told. (may_begin sound i told).0;
   }
 

@@ -165,6 +165,7 @@ module _ (key : Record → Record) (IsOp IsKept : Record → Type 0) (held : Lis
           longest_most = n.longest_most;
           pushed_most = n.pushed_most;
           settled_most = n.settled_most;
+          resets_most = n.resets_most;
           spent_most = omega (arith, n.spent_most, h.moves);
           root_below = rw (h.blocks) n.root_below;
         };
@@ -186,6 +187,9 @@ module _ (key : Record → Record) (IsOp IsKept : Record → Type 0) (held : Lis
           running = running_stays key IsOp IsKept held s t v h f i.running a;
           few = rw (h.shape) i.few;
           unused = i.unused;
+          silent = λ z e.
+              let r = reads_same key IsOp IsKept held s t v h f i.running (back z) (a (back z)) in
+              r.given ∙ i.silent (back z) e;
           blocks = i.blocks;
           thin = λ z.
               let r = reads_same key IsOp IsKept held s t v h f i.running (back z) (a (back z)) in

@@ -1,5 +1,5 @@
 -- A step that moves nothing, and a search: what is read stays.
-use Rattle.std.proofs.Common.{◌≡◌, ℕ, ◌+◌, ◌-◌, ◌*◌, ◌≤◌, List, [], refl, sym, ap, ◌∙◌, subst, arith, IsTrue}
+use Rattle.std.proofs.Common.{◌≡◌, ℕ, ◌+◌, ◌-◌, ◌*◌, ◌≤◌, List, [], refl, sym, ap, ◌∙◌, subst, arith, IsTrue, ◌⊎◌, inl, inr, ⊎_elim}
 use Rattle.std.specs.Prelude.{Option}
 use Rattle.em_record.specs.Shape.{ShapeNumbers, IsShape, wide_of}
 use Rattle.em_record.specs.declared.record.Record.{Record}
@@ -13,33 +13,55 @@ use Rattle.em_space.proofs.Sessions.{session_as, session_still}
 use Rattle.em_space.proofs.Steps.{block_cause}
 use Rattle.em_space.proofs.Within.{goes_wider}
 use Rattle.em_settle.specs.declared.step.Step.{Step}
-use Rattle.em_tree_model.specs.Tree.{Tree}
-use Rattle.em_tree_cost.specs.Books.{KeepsBooks, count_moves}
+use Rattle.em_tree_model.specs.Tree.{Tree, waiting_in}
+use Rattle.em_tree_cost.specs.Books.{InCall, WasSplit, count_moves}
 use Rattle.em_tree_cost.specs.Counters.{Sums}
 use Rattle.em_tree_cost.specs.Outline.{sums_of}
+use Rattle.em_tree_cost.specs.Paid.{RefusedDebt, toll_of}
 use Rattle.em_tree_cost.specs.Shares.{levels_of, tree_share}
-use Rattle.em_tree_cost.proofs.Books.{books_share}
+use Rattle.em_tree_cost.proofs.InCall.{call_refused}
 use Rattle.em_tree_outline.specs.Outline.{outline_of}
+use Rattle.em_tree_load.specs.Paid.{LosesNone}
+use Rattle.em_tree_load.proofs.Losses.{loses_as, loses_still}
 use Rattle.em_tree.specs.Emptying.{deepest, unstored_most}
-use Rattle.em_tree.specs.Events.{Charges, Continues, step_allowance}
+use Rattle.em_tree.specs.Events.{Charges, Continues, MayRefuse, path_most, step_allowance}
 use Rattle.em_tree.specs.Loops.{HasSteps}
 use Rattle.em_tree.specs.Trunk.{IsRunning, TrunkHasFrames, given_by, model_of, root_of, sums_in, trunk_blocks, trunk_unstored}
 use Rattle.em_tree.specs.Works.{StopsWorking, Works}
 use Rattle.em_tree.specs.declared.trunk.Trunk.{Trunk}
-use Rattle.em_tree.proofs.Charges.{books_less, charges_known, charges_prepaid, charges_within}
+use Rattle.em_tree.proofs.Charges.{call_fewer, charges_known, charges_prepaid, charges_within}
 use Rattle.em_tree.proofs.Continues.{continues_same}
 use Rattle.em_tree.proofs.Stays.{TrunkReads, reads_same, running_stays}
 use Rattle.em_tree.proofs.Steps.{steps_most}
+use Rattle.em_tree.proofs.Waits.{waits_never}
 
 -- there is a level at least
 levels_some : (shape : ShapeNumbers) (n : ℕ) → 1 ≤ levels_of shape n
 levels_some shape n = omega arith
 
+-- What may be owed at a refusal, as the books ask it.
+pub refused_either : {shape : ShapeNumbers} {k split owed held : ℕ} (t : Sums)
+    → held ≤ t.waiting + t.stored → MayRefuse shape k split owed held
+    → (owed ≤ 18 * (t.waiting + t.stored) + toll_of shape k)
+    ⊎ WasSplit split t × RefusedDebt shape k owed
+refused_either {shape = shape} {k = k} {split = split} {owed = owed} {held = held} t some m = ⊎_elim
+    (λ (low : owed ≤ 18 * held + toll_of shape k). inl (omega (arith, low, some)))
+    (λ (x : (1 ≤ split) × (owed ≤ shape.block * path_most shape k)). inr (
+      record { some = inl x.0 },
+      record {
+        j = levels_of shape k;
+        e = 42 * wide_of shape + 37 + 6 * levels_of shape k;
+        debt = record { thin = omega arith; most = x.1 };
+        most = omega arith;
+      },
+    ))
+    m.either
+
 -- While steps are paid for in advance, some are left.
 pub steps_some : {s : RigState} {v : Trunk} (p : ℕ) → Sound s → 1 ≤ p → HasSteps p s v → 1 ≤ v.steps
 steps_some {s = s} {v = v} p sound some h =
     let c = h.counts in
-    let within = books_share sound.shape h.books in
+    let within = call_refused h.books sound.shape (refused_either (sums_in s v) (omega arith) h.may) in
     let z = h.none_taken in
     let y = h.none_settled in
     let S : ℕ → Type 0 = λ x. c.spent + p ≤ tree_share s.pool.shape c.n c.k x c.y in
@@ -54,22 +76,28 @@ pub steps_after : {key : Record → Record} {step : Option Record → Record →
     → HasSteps p s v → Works key step IsOp IsKept p q 0 n s t v w → HasSteps q t w
 steps_after {s = s} {t = t} {v = v} {w = w} p q n told h a =
     let c = h.counts in
-    let next = (a.paces told).books c 0 h.longest h.books in
+    let next = (a.paces told).books c h.owed h.handed h.split h.longest h.books in
     let shape = a.session.touches.shape in
-    let K : ShapeNumbers → Type 0 = λ x. KeepsBooks x (count_moves (n + q) c) 0 (sums_in t w) in
+    let K : ShapeNumbers → Type 0 = λ x. InCall x (count_moves q (count_moves n c)) h.owed h.handed h.split
+    (sums_in t w) in
+    let M : ShapeNumbers → Type 0 = λ x. MayRefuse x c.k h.split h.owed 0 in
     let L : ShapeNumbers → Type 0 = λ x. w.steps + (c.spent + n) ≡ step_allowance x c.n c.k in
-    let here = subst K (sym shape) next in
+    let here = call_fewer (count_moves (n + q) c) (count_moves q (count_moves n c)) (h.owed + 0) h.owed
+    refl refl refl refl refl (omega arith) (omega arith) next in
     let e = a.steps in
     let l = h.left in
     let left : w.steps + (c.spent + n) ≡ step_allowance s.pool.shape c.n c.k = omega (arith, e, l) in
     record {
       counts = count_moves n c;
+      owed = h.owed;
+      handed = h.handed;
+      split = h.split;
       longest = h.longest ∙ sym a.numbers.longest;
       few = h.few;
       none_taken = h.none_taken;
       none_settled = h.none_settled;
-      books = books_less (count_moves (n + q) c) (count_moves q (count_moves n c)) 0 0
-          refl refl refl refl refl (omega arith) (omega arith) here;
+      books = subst K (sym shape) here;
+      may = subst M (sym shape) h.may;
       left = subst L (sym shape) left;
     }
 
@@ -96,6 +124,7 @@ running_steps k r =
         longest_most = n.longest_most;
         pushed_most = n.pushed_most;
         settled_most = n.settled_most;
+        resets_most = n.resets_most;
         spent_most = n.spent_most;
         root_below = n.root_below;
       };
@@ -139,6 +168,10 @@ module _ {key : Record → Record} {IsOp IsKept : Record → Type 0} {s t : RigS
   still_session = session_as (trunk_blocks t v) (session_still (trunk_blocks s v) g.sound g.touches
       (λ z. (i.stands z).holds)) (λ z. (still_reads z).blocks)
 
+  pub still_loses : t.used ≡ s.used → LosesNone (trunk_blocks s v) (trunk_blocks t v) s t
+  still_loses used = loses_as (trunk_blocks s v) (trunk_blocks s v) (trunk_blocks t v) s t
+      (loses_still (trunk_blocks s v) s t used) (λ z. (still_reads z).blocks)
+
   pub still_running : IsRunning key IsOp IsKept t v
   still_running = running_stays key IsOp IsKept [] s t v g.touches still_frames i
       (λ z. apart_none (trunk_blocks s v))
@@ -175,16 +208,19 @@ module _ {key : Record → Record} {IsOp IsKept : Record → Type 0} {s t : RigS
         session = still_session;
         frames = g.frames;
         pays = pays_kept (trunk_unstored v) (omega (arith, used)) g.touches.moves;
+        loses = still_loses (sym used);
         numbers = record {
           pushed = refl;
           longest = refl;
           since = refl;
           settled = refl;
+          resets = refl;
           spent = refl;
         };
         steps = one;
         running = running_steps k r;
         continues = still_continues step;
+        still = λ told none. ap waiting_in (still_reads told).model ∙ none;
         charges = λ told. C 0 told (t.moves - s.moves) (omega (arith, few));
         paces = λ told. C 0 told 1 i.numbers.level_some;
       }
@@ -205,11 +241,13 @@ module _ {key : Record → Record} {IsOp IsKept : Record → Type 0} {s t : RigS
       longest = refl;
       since = refl;
       settled = refl;
+      resets = refl;
       spent = refl;
     };
     pays = pays_more (pays_kept (trunk_unstored v) (omega (arith, used)) g.touches.moves)
         (omega arith);
     cause = block_cause s t fault cause;
+    needs = waits_never s s t v fault cause;
     charges = λ told. record {
       sums = sums_in s v;
       charges = charges_within (q + deepest s v) (t.moves - s.moves) q 0 (t.moves - s.moves) 0 0

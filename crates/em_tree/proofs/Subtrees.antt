@@ -1,6 +1,6 @@
 -- A call on what stands from one node on, and on the answers, as a call on the whole tree.
-use Rattle.std.proofs.Common.{◌≡◌, ℕ, zero, suc, ◌<◌, List, [], ◌∷◌, ◌++◌, length, sym, ap, ◌∙◌, subst, IsTrue, append_assoc, arith}
-use Rattle.std.proofs.lemmas.List.{append-nil}
+use Rattle.std.proofs.Common.{◌≡◌, ℕ, zero, suc, ◌+◌, ◌<◌, List, [], ◌∷◌, ◌++◌, length, sym, ap, ◌∙◌, subst, IsTrue, append_assoc, arith}
+use Rattle.std.proofs.lemmas.List.{append-nil, length-append}
 use Rattle.em_space.specs.Held.{Apart, Holds}
 use Rattle.em_space.specs.Ledger.{Session}
 use Rattle.em_space.specs.Rig.{RigState, Touches}
@@ -21,6 +21,7 @@ use Rattle.em_tree_blocks.specs.Reading.{AreStored, IsTreeAt, entries_at, row_bl
 use Rattle.em_tree_blocks.proofs.Frames.{block_same}
 use Rattle.em_tree_blocks.proofs.Paths.{child_stored}
 use Rattle.em_tree_load.specs.Forms.{AreFormed, HaveForms}
+use Rattle.em_tree_load.specs.Paid.{LosesNone}
 use Rattle.em_tree.proofs.Stays.{forms_stay, row_forms}
 
 -- A call on two of four lists of blocks, the first and the last one.
@@ -105,6 +106,26 @@ session_among {s} {t} front ks js back mid ls ms n g =
     let P : List ℕ → Type 0 = λ xs. Session xs s t (front ++ (js ++ ((back ++ mid) ++ ms))) in
     let Q : List ℕ → Type 0 = λ xs. Session ((front ++ (ks ++ back)) ++ (mid ++ ls)) s t xs in
     subst Q (sym (all_parts front js back mid ms)) (subst P (sym e) whole)
+
+-- how many blocks these lists have
+parts_length : (front ks back mid ls : List ℕ) → length ((front ++ (ks ++ back)) ++ (mid ++ ls))
+    ≡ length front + length back + length mid + length (ks ++ ls)
+parts_length front ks back mid ls =
+    let a = length-append (front ++ (ks ++ back)) (mid ++ ls) in
+    let b = length-append front (ks ++ back) in
+    let c = length-append ks back in
+    let d = length-append mid ls in
+    let e = length-append ks ls in
+    omega (arith, a, b, c, d, e)
+
+pub loses_among : (front ks js back mid ls ms : List ℕ) (s t : RigState)
+    → LosesNone (ks ++ ls) (js ++ ms) s t
+    → LosesNone ((front ++ (ks ++ back)) ++ (mid ++ ls)) ((front ++ (js ++ back)) ++ (mid ++ ms)) s t
+loses_among front ks js back mid ls ms s t a z =
+    let x = a z in
+    let n = parts_length front ks back mid ls in
+    let m = parts_length front js back mid ms in
+    omega (arith, x, n, m)
 
 -- the blocks in the place of a child's, among those of a row
 inner_apart : (l : ℕ) (s : RigState) (es : List Entry) (i : ℕ) (inner held : List ℕ) → i < length es

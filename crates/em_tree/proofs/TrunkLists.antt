@@ -10,6 +10,8 @@ use Rattle.em_space.proofs.Sessions.{session_as, session_beside}
 use Rattle.em_chain.specs.Writer.{WriterStays, writer_blocks}
 use Rattle.em_chain.proofs.Laws.{writer_stays}
 use Rattle.em_tree_blocks.specs.Reading.{tree_blocks}
+use Rattle.em_tree_load.specs.Paid.{LosesNone}
+use Rattle.em_tree_load.proofs.Losses.{loses_as, loses_beside}
 use Rattle.em_tree.specs.Trunk.{AreTrunkNumbers, IsRunning, TrunkHasFrames, trunk_blocks}
 use Rattle.em_tree.specs.declared.trunk.Trunk.{Trunk}
 
@@ -30,6 +32,7 @@ touches_told h g f = record {
 -- the two lists after the call
 pub record ListsStay (s t : RigState) (v : Trunk) : Type 0 where
   pub session : Session (trunk_blocks s v) s t (trunk_blocks t v)
+  pub loses : LosesNone (trunk_blocks s v) (trunk_blocks t v) s t
   pub buffer : WriterStays s t v.buffer
   pub answers : WriterStays s t v.answers
   pub frames : TrunkHasFrames t v
@@ -40,8 +43,8 @@ pub lists_stay_by : {key : Record → Record} {IsOp IsKept : Record → Type 0} 
     → Touches (tree_blocks v.level s v.root) s t
     → (IsTrue s.device.told
     → Session (tree_blocks v.level s v.root) s t (tree_blocks v.level t v.root))
-    → ListsStay s t v
-lists_stay_by {s = s} {t = t} {v = v} i sound f h g =
+    → LosesNone (tree_blocks v.level s v.root) (tree_blocks v.level t v.root) s t → ListsStay s t v
+lists_stay_by {s = s} {t = t} {v = v} i sound f h g x =
     let tree = tree_blocks v.level s v.root in
     let b = writer_blocks s v.buffer in
     let a = writer_blocks s v.answers in
@@ -56,11 +59,14 @@ lists_stay_by {s = s} {t = t} {v = v} i sound f h g =
     let answers = writer_stays tree s t v.answers h (λ z. apart_right b a tree (off z))
     (record { len_is = len_a; out = omega (arith, out) }) i.answers in
     let new = tree_blocks v.level t v.root in
+    let same = λ (y : IsTrue s.device.told).
+    (let e : trunk_blocks t v ≡ new ++ (b ++ a) =
+    ap (λ ks. new ++ (ks ++ writer_blocks t v.answers)) (buffer.blocks y)
+    ∙ ap (λ ks. new ++ (b ++ ks)) (answers.blocks y) in e) in
     let told = λ (z : IsTrue s.device.told).
-    (let x : Session (trunk_blocks s v) s t (trunk_blocks t v) =
+    (let w : Session (trunk_blocks s v) s t (trunk_blocks t v) =
     session_as (trunk_blocks t v) (session_beside [] tree new (b ++ a) (λ y. (i.stands y).holds) (g z))
-    (λ y. ap (λ ks. new ++ (ks ++ writer_blocks t v.answers)) (buffer.blocks y)
-    ∙ ap (λ ks. new ++ (b ++ ks)) (answers.blocks y)) in x) in
+    same in w) in
     let n = i.numbers in
     record {
       session = record {
@@ -78,6 +84,8 @@ lists_stay_by {s = s} {t = t} {v = v} i sound f h g =
         within = record { off = λ z. (told z).within.off z };
         holds = λ z. (told z).holds z;
       };
+      loses = loses_as (trunk_blocks s v) (new ++ (b ++ a)) (trunk_blocks t v) s t
+          (loses_beside [] tree new (b ++ a) s t x) same;
       buffer = buffer;
       answers = answers;
       frames = record { buffer = len_b; answers = len_a; out = out };
@@ -88,6 +96,7 @@ lists_stay_by {s = s} {t = t} {v = v} i sound f h g =
         longest_most = n.longest_most;
         pushed_most = n.pushed_most;
         settled_most = n.settled_most;
+        resets_most = n.resets_most;
         spent_most = omega (arith, n.spent_most, h.moves);
         root_below = rw (h.blocks) n.root_below;
       };

@@ -1,5 +1,5 @@
 -- A tree in which nothing waits: its buffers hold no block, and its blocks can be released.
-use Rattle.std.proofs.Common.{◌≡◌, ℕ, zero, suc, ◌+◌, ◌-◌, ◌*◌, ◌≤◌, List, [], ◌∷◌, ◌++◌, length, refl, ap, arith, IsTrue}
+use Rattle.std.proofs.Common.{◌≡◌, ℕ, zero, suc, ◌-◌, ◌*◌, ◌≤◌, List, [], ◌∷◌, ◌++◌, length, refl, ap, arith, IsTrue}
 use Rattle.std.specs.Prelude.{Option}
 use Rattle.em_record.specs.Shape.{wide_of}
 use Rattle.em_record.specs.declared.record.Record.{Record}
@@ -53,7 +53,7 @@ row_unbuffered l s told child (x ∷ es) m lo hi a e f = (
 )
 
 -- no buffer holds a block where nothing waits
-unbuffered : (l : ℕ) (s : RigState) → IsTrue s.device.told → (k m : ℕ) (lo : Record)
+pub unbuffered : (l : ℕ) (s : RigState) → IsTrue s.device.told → (k m : ℕ) (lo : Record)
     (hi : Option Record) → IsTreeAt l s k → EachEntry (NoneFrom 0) m lo hi (tree_at l s k)
     → LeavesUpTo (leaf_limit s.pool.shape) (outline_of (tree_at l s k)) → IsUnbuffered l s k
 unbuffered zero s told k m lo hi i e f =

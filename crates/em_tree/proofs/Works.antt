@@ -9,12 +9,14 @@ use Rattle.em_space.proofs.Paying.{pays_then}
 use Rattle.em_space.proofs.Sessions.{session_trans}
 use Rattle.em_space.proofs.Steps.{cause_after, goes_trans, same_frames_then}
 use Rattle.em_settle.specs.declared.step.Step.{Step}
+use Rattle.em_tree_load.proofs.Losses.{loses_then}
 use Rattle.em_tree.specs.Events.{Charges, ChargesUpTo}
 use Rattle.em_tree.specs.Trunk.{given_by, model_of, sums_in, trunk_blocks}
 use Rattle.em_tree.specs.Works.{SameNumbers, StopsWorking, Works}
 use Rattle.em_tree.specs.declared.trunk.Trunk.{Trunk}
 use Rattle.em_tree.proofs.Charges.{charges_then, charges_up_to}
 use Rattle.em_tree.proofs.Continues.{continues_then}
+use Rattle.em_tree.proofs.Waits.{waits_after}
 
 -- numbers that stay twice
 pub numbers_then : {u v w : Trunk} → SameNumbers u v → SameNumbers v w → SameNumbers u w
@@ -23,11 +25,12 @@ numbers_then a b = record {
   longest = b.longest ∙ a.longest;
   since = b.since ∙ a.since;
   settled = b.settled ∙ a.settled;
+  resets = b.resets ∙ a.resets;
   spent = b.spent ∙ a.spent;
 }
 
 -- the moves of two steps
-moves_then : (a b c : ℕ) → a ≤ b → b ≤ c → (b - a) + (c - b) ≡ c - a
+pub moves_then : (a b c : ℕ) → a ≤ b → b ≤ c → (b - a) + (c - b) ≡ c - a
 moves_then a b c h k = omega (arith, h, k)
 
 module _ {key : Record → Record} {step : Option Record → Record → Step}
@@ -44,12 +47,15 @@ module _ {key : Record → Record} {step : Option Record → Record → Step}
         session = session_trans a.session b.session;
         frames = same_frames_then s.pool t.pool u.pool a.frames b.frames;
         pays = pays_then a.pays b.pays later;
+        loses = loses_then (trunk_blocks s v) (trunk_blocks t w) (trunk_blocks u x) s t u first.told a.loses
+            b.loses;
         numbers = numbers_then a.numbers b.numbers;
         steps = omega (arith, a.steps, b.steps);
         running = b.running;
         continues = λ told. continues_then key step IsOp IsKept (given_by s v) (given_by t w)
             (given_by u x) (model_of s v) (model_of t w) (model_of u x) (a.continues told)
             (b.continues (first.told ∙ told));
+        still = λ told none. b.still (first.told ∙ told) (a.still told none);
         charges = λ told.
             let S : ShapeNumbers → Type 0 =
             λ shape. Charges shape w.longest q (u.moves - t.moves) r e (sums_in t w) (sums_in u x) in
@@ -83,6 +89,7 @@ module _ {key : Record → Record} {step : Option Record → Record → Step}
         numbers = numbers_then a.numbers b.numbers;
         pays = pays_then a.pays b.pays later;
         cause = cause_after (trunk_blocks s v) s t u fault first b.cause;
+        needs = waits_after s t v w fault first.told a.still b.needs;
         charges = λ told.
             let S : ShapeNumbers → Type 0 =
             λ shape. ChargesUpTo shape w.longest q (u.moves - t.moves) e (sums_in t w) in

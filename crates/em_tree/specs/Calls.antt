@@ -16,6 +16,8 @@ use Rattle.em_tree_model.specs.Meaning.{tree_answers}
 use Rattle.em_tree_model.specs.Tree.{stored_in, waiting_in}
 use Rattle.em_tree_cost.specs.Books.{TreeCounts, count_moves, count_settle, no_counts}
 use Rattle.em_tree_cost.specs.Paid.{WithinShare}
+use Rattle.em_tree_load.specs.Paid.{LosesNone}
+use Rattle.em_tree_load.specs.SplitPaths.{StopsUpTo}
 use Rattle.em_tree.specs.Meaning.{IsSettled, LeavesMeaning}
 use Rattle.em_tree.specs.Trunk.{IsTrunk, TrunkHasFrames, counts_of, given_by, model_of, trunk_blocks, trunk_unstored}
 use Rattle.em_tree.specs.declared.trunk.Trunk.{Trunk}
@@ -24,13 +26,16 @@ use Rattle.em_tree.specs.declared.trunk.Trunk.{Trunk}
 abbrev pub KeepsShare : ShapeNumbers → TreeCounts → Type 0
 KeepsShare shape c = WithinShare shape c.n c.k c.z c.y c.spent
 
--- A new tree: it holds two frames and a few blocks, nothing is stored in it, and nothing waits.
+-- A new tree: it holds two frames and two blocks, nothing is stored in it, and nothing waits.
 pub record IsNewTrunk (key : Record → Record) (IsOp IsKept : Record → Type 0) (s t : RigState)
     (v : Trunk) : Type 0 where
   pub is : IsTrunk key IsOp IsKept t v
   pub session : Session [] s t (trunk_blocks t v)
   pub frames : LentFrames 2 s.pool t.pool
   pub pays : Pays 0 0 s t
+  pub level : v.level ≡ 1
+  pub used : t.used ≡ s.used + 2
+  pub loses : LosesNone [] (trunk_blocks t v) s t
   pub counts : counts_of v ≡ count_moves v.spent no_counts
   pub spent : v.spent + s.moves ≡ t.moves
   pub moves : t.moves ≤ s.moves + 4
@@ -38,12 +43,10 @@ pub record IsNewTrunk (key : Record → Record) (IsOp IsKept : Record → Type 0
   pub waiting : IsTrue s.device.told → waiting_in (model_of t v) ≡ []
   pub given : IsTrue s.device.told → given_by t v ≡ []
 
--- None was made: its frames are back.
-pub record StopsNewTrunk (s t : RigState) (fault : EmFault) : Type 0 where
-  pub goes : Goes [] s t
-  pub pays : Pays 0 2 s t
-  pub moves : t.moves ≤ s.moves + 4
-  pub cause : Cause s t fault
+-- None was made: its frames are back. At most two blocks came into use, of which one at most isn't
+-- stored. It was full only if fewer than two were free.
+abbrev pub StopsNewTrunk : RigState → RigState → EmFault → Type 0
+StopsNewTrunk s t fault = StopsUpTo 2 4 [] s t fault
 
 -- The numbers after a call on a tree: those that the call counts, and the moves that it made.
 pub record CountsCall (counted : TreeCounts → TreeCounts) (s t : RigState) (v w : Trunk) : Type 0 where
@@ -59,6 +62,7 @@ pub record ChangesTrunk (key : Record → Record) (step : Option Record → Reco
   pub session : Session (trunk_blocks s v) s t (trunk_blocks t w)
   pub frames : SameFrames s.pool t.pool
   pub pays : Pays (trunk_unstored v) (trunk_unstored w) s t
+  pub loses : LosesNone (trunk_blocks s v) (trunk_blocks t w) s t
   pub meaning : IsTrue s.device.told → LeavesMeaning key step pushed (given_by s v) (model_of s v)
       (given_by t w) (model_of t w)
 
@@ -90,8 +94,8 @@ abbrev pub SettlesTrunk : (Record → Record) → (Option Record → Record → 
 SettlesTrunk key step IsOp IsKept s t v w (Ok x) = SettledTrunk key step IsOp IsKept s t v w
 SettlesTrunk key step IsOp IsKept s t v w (Err fault) = StopsTrunk s t v w fault
 
--- A tree was finished: its answers are a chain, which holds all blocks that the tree still has, and
--- its two frames are back.
+-- A tree was finished: its answers are a chain, all its other blocks are released, and its two frames
+-- are back.
 pub record FinishedTrunk (key : Record → Record) (step : Option Record → Record → Step)
     (s t : RigState) (v : Trunk) (c : Chain) : Type 0 where
   pub chain : IsChain t c
@@ -99,6 +103,7 @@ pub record FinishedTrunk (key : Record → Record) (step : Option Record → Rec
   pub session : Session (trunk_blocks s v) s t (chain_blocks t c)
   pub frames : GivenFrames 2 s.pool t.pool
   pub pays : Pays (trunk_unstored v) 0 s t
+  pub loses : LosesNone (trunk_blocks s v) (chain_blocks t c) s t
   pub answers : IsTrue s.device.told
       → IsPermutation (tree_answers key step (given_by s v) (model_of s v)) (chain_items t c)
 
@@ -116,11 +121,13 @@ abbrev pub FinishesTrunk : (Record → Record) → (Option Record → Record →
 FinishesTrunk key step s t v (Ok c) = FinishedTrunk key step s t v c
 FinishesTrunk key step s t v (Err fault) = StopsFinishing s t v fault
 
--- The moves of a tree that was finished are within its share, at each exit.
+-- The moves of a tree that was finished are within its share, at each exit. If nothing was ever pushed, four are
+-- made at most.
 pub record FinishCosts (s t : RigState) (v : Trunk) : Type 0 where
   pub later : s.moves ≤ t.moves
   pub share : IsTrue s.device.told
       → KeepsShare s.pool.shape (count_settle (t.moves - s.moves) (counts_of v))
+  pub unused : IsTrue s.device.told → v.pushed ≡ 0 → t.moves ≤ s.moves + 4
 
 -- Both frames came back, and nothing was moved: the blocks stay in use.
 pub record LeavesTrunk (s t : RigState) : Type 0 where

@@ -20,6 +20,10 @@ counted_push shape v = with_steps shape (record v {
 abbrev pub counted_settling : ShapeNumbers → Trunk → Trunk
 counted_settling shape v = with_steps shape (record v { settled = v.settled + 1 })
 
+-- a reset was counted: nothing is left
+abbrev pub counted_reset : Trunk → Trunk
+counted_reset v = record v { since = 0; resets = v.resets + 1 }
+
 -- and the moves of a call
 abbrev pub counted_moves : ℕ → Trunk → Trunk
 counted_moves m v = record v { spent = v.spent + m }

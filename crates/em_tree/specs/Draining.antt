@@ -51,14 +51,15 @@ abbrev pub TakesAll : RigState → RigState → Trunk → Trunk → Result Chain
 TakesAll s a v w (Ok c) = TookAll s a v w c
 TakesAll s a v w (Err fault) = StopsTakingAll s a v w fault
 
--- The root's buffer can be emptied: it is at most full, and no other is.
+-- The root's buffer can be emptied: it is at most full, and no other is. It has no more blocks than operations.
 pub record CanDrain (s : RigState) (v : Trunk) : Type 0 where
   pub most : v.buffer.count ≤ full_limit s.pool.shape
+  pub blocks : v.buffer.blocks ≤ v.buffer.count
   pub thin : IsTrue s.device.told → EachRead (IsThin (full_limit s.pool.shape)) s v
 
 -- what a buffer of any length owes, over a root with these entries
 abbrev pub drain_debt : RigState → Trunk → ℕ
-drain_debt s v = 4 * length (entries_at s v.root) + 19
+drain_debt s v = 4 * length (entries_at s v.root) + 9
 
 -- The root's entries have its operations. A full buffer pays for the moves, with three descents
 -- beside; of another one a part of them is owed.

@@ -1,6 +1,6 @@
 -- What emptying the buffers of a tree asks, and leaves: one entry's buffer, and the loops over the
 -- buffers of a level.
-use Rattle.std.specs.Prelude.{◌≡◌, false, ℕ, zero, suc, ◌+◌, ◌-◌, ◌*◌, ◌<◌, ◌≤◌, Bool, List, [], ◌∷◌, length, None, Option, IsTrue, Result, Ok, Err}
+use Rattle.std.specs.Prelude.{◌≡◌, ◌⊎◌, true, false, ℕ, zero, suc, ◌+◌, ◌-◌, ◌*◌, ◌<◌, ◌≤◌, Bool, List, [], ◌∷◌, length, min, None, Option, IsTrue, Result, Ok, Err}
 use Rattle.em_record.specs.Shape.{fan_of, wide_of}
 use Rattle.em_record.specs.declared.record.Record.{Record}
 use Rattle.em_settle.specs.declared.step.Step.{Step}
@@ -10,18 +10,21 @@ use Rattle.em_chain.specs.Chain.{chain_items}
 use Rattle.em_tree_model.specs.Places.{put_at}
 use Rattle.em_tree_model.specs.Pouring.{pour}
 use Rattle.em_tree_model.specs.Ranges.{InRange, Under, least_record}
-use Rattle.em_tree_model.specs.Tree.Tree.{entry}
+use Rattle.em_tree_model.specs.Tree.{Tree}
+use Rattle.em_tree_model.specs.Tree.Tree.{end, entry, leaf}
 use Rattle.em_tree_blocks.specs.Effects.{IsEntryAt, entry_at_place, entry_on, row_from}
 use Rattle.em_tree_blocks.specs.Node.{buffer_of, linked_block}
 use Rattle.em_tree_blocks.specs.Paths.{node_on, place_on}
 use Rattle.em_tree_blocks.specs.Reading.{entries_at, tree_at}
+use Rattle.em_tree_cost.specs.Counters.{Sums}
 use Rattle.em_tree_cost.specs.Shares.{levels_of}
 use Rattle.em_tree_walk.specs.Descents.{end_at}
 use Rattle.em_tree_load.specs.LeafLoads.{leaf_size}
 use Rattle.em_tree_walk.specs.Stands.{LeadsToTree}
 use Rattle.em_tree_walk.specs.Ways.{entry_start, range_end, range_start}
-use Rattle.em_tree.specs.Buffers.{AllOver, ClearOver, Due, IsDue, NoneFrom, OnOneSide, OnlyFull}
+use Rattle.em_tree.specs.Buffers.{AllOver, ClearOver, Due, IsDue, IsThin, NoneFrom, OnOneSide, OnlyFull}
 use Rattle.em_tree.specs.Entries.{EachEntry}
+use Rattle.em_tree.specs.Events.{Charges}
 use Rattle.em_tree.specs.Owing.{loads_owing}
 use Rattle.em_tree.specs.Starts.{starts_of}
 use Rattle.em_tree.specs.Trunk.{IsRunning, full_limit, root_of, sums_in}
@@ -131,6 +134,23 @@ abbrev pub lower_debt : ℕ → RigState → Trunk → List ℕ → ℕ
 lower_debt at s v path =
     4 * length (entries_at s (linked_block (entry_on v.level s v.root path at).child)) + 8 + deepest s v
 
+-- each buffer of a row has fewer operations than a limit
+abbrev pub RowThin : ℕ → Tree → Type 0
+RowThin limit (leaf xs) = Unit {0}
+RowThin limit end = Unit {0}
+RowThin limit (entry low b c r) = (length b < limit) × RowThin limit r
+
+-- the child of an entry, with the operations of the entry's buffer in its own buffers
+abbrev pub child_poured : (Record → Record) → ℕ → ℕ → RigState → Trunk → List ℕ → Tree
+child_poured key l at s v path = (let e = entry_on v.level s v.root path at in
+    pour key (tree_at l s (linked_block e.child)) (chain_items s (buffer_of e)))
+
+-- Whether one of the child's buffers is full now.
+pub record TellsFull (key : Record → Record) (l at : ℕ) (s : RigState) (v : Trunk) (path : List ℕ)
+    (full : Bool) : Type 0 where
+  pub thin : full ≡ false → RowThin (full_limit s.pool.shape) (child_poured key l at s v path)
+  pub some : full ≡ true → RowThin (full_limit s.pool.shape) (child_poured key l at s v path) → ⊥
+
 -- What one did of an entry over a node: its moves are paid for by the operations of a full buffer,
 -- with three descents beside; of any buffer, a part of them is owed, with one descent beside.
 pub record EmptiedEntry (key : Record → Record) (step : Option Record → Record → Step)
@@ -165,8 +185,17 @@ pub record LoadsOwing (at : ℕ) (s t : RigState) (v w : Trunk) (path : List ℕ
       ≤ loads_owing s.pool.shape.block (deepest s v) (root_of s v)
       + s.pool.shape.block * (35 + 3 * deepest s v) * (sums_in t w).leaves
 
+-- What a load left of its buffer: thin buffers stay thin, and the entry at which the buffer's keys begin has at
+-- most as many operations as the load didn't take. The level rises only if a leaf came.
+pub record LeavesRest (at : ℕ) (s t : RigState) (v w : Trunk) (path : List ℕ) : Type 0 where
+  pub thin : (limit : ℕ) → 0 < limit → EachRead (IsThin limit) s v → EachRead (IsThin limit) t w
+  pub left : EachRead (λ level lo hi b. level ≡ 1 → InRange lo hi (spot_low at s v path)
+      → length b + min (length (spot_ops at s v path)) (wide_of s.pool.shape * s.pool.shape.block)
+      ≤ length (spot_ops at s v path)) t w
+  pub level : (sums_in t w).leaves ≤ (sums_in s v).leaves → w.level ≡ v.level
+
 -- The same of an entry over a leaf, of which one load was taken. If a leaf came, a descent on each
--- level is paid for beside.
+-- level is paid for beside. If none came, the records that are stored then say what it owes, too.
 pub record LoadedEntry (key : Record → Record) (step : Option Record → Record → Step)
     (IsOp IsKept : Record → Type 0) (at : ℕ) (s t : RigState) (v w : Trunk) (path : List ℕ)
     : Type 0 where
@@ -177,18 +206,33 @@ pub record LoadedEntry (key : Record → Record) (step : Option Record → Recor
   pub owes : (p : ℕ) → Works key step IsOp IsKept p (p + 2 * deepest s v + deepest s v * deepest s v
       * ((sums_in t w).leaves - (sums_in s v).leaves))
       (s.pool.shape.block * leaf_debt at s v path) 0 s t v w
+  pub one : (p : ℕ) → (IsTrue s.device.told → (sums_in t w).leaves ≡ (sums_in s v).leaves)
+      → Works key step IsOp IsKept p p (6 * (sums_in t w).stored + s.pool.shape.block * 30) 0 s t v w
   pub owing : IsTrue s.device.told → LoadsOwing at s t v w path
   pub loads : IsTrue s.device.told
       → LoadsEntry (spot_low at s v path) (spot_high at s v path) s t v w
+  pub rests : IsTrue s.device.told → LeavesRest at s t v w path
   pub keeps : KeepsTop v w
 
--- It gave up: its moves are paid for by the operations of a buffer that has as many as this, or a
--- part of them is owed.
+-- It gave up: its moves are paid for by the operations of a buffer that has as many as this, or, of one that has
+-- any, a part of them is owed.
 pub record StopsEntry (many debt at : ℕ) (s t : RigState) (v w : Trunk) (path : List ℕ)
     (fault : EmFault) : Type 0 where
   pub stops : (p : ℕ) → (IsTrue s.device.told → many ≤ length (spot_ops at s v path))
       → StopsWorking p 0 (unstored_most s) s t v w fault
-  pub owes : (p : ℕ) → StopsWorking p debt (unstored_most s) s t v w fault
+  pub owes : (p : ℕ) → (IsTrue s.device.told → 1 ≤ length (spot_ops at s v path))
+      → StopsWorking p debt (unstored_most s) s t v w fault
+
+-- A load gave up: there are sums that the tree would have had. The records that were stored before say what it owes,
+-- and no fewer would be stored; or a leaf had come.
+pub record StopsHeld (at : ℕ) (s t : RigState) (v : Trunk) (path : List ℕ) : Type 0 where
+  pub sums : Sums
+  pub either : ((sums_in s v).stored ≤ sums.stored)
+      × Charges s.pool.shape v.longest 0 (t.moves - s.moves) 0
+      (6 * (sums_in s v).stored + s.pool.shape.block * 35) (sums_in s v) sums
+      ⊎ ((sums_in s v).leaves + 1 ≤ sums.leaves)
+      × Charges s.pool.shape v.longest 0 (t.moves - s.moves) 0
+      (s.pool.shape.block * stop_debt at s v path) (sums_in s v) sums
 
 -- what emptying an entry over a node did, by its result
 abbrev pub LowersTo : {T : Type 0} → (Record → Record) → (Option Record → Record → Step)

@@ -1,10 +1,10 @@
 -- The end of a tree: its nodes and leaves are released, and its answers become a chain.
-use Rattle.std.specs.Prelude.{◌≡◌, ◌⊎◌, ◌+◌, ◌*◌, ◌≤◌, min, length, IsTrue, Option, Result, Ok, Err}
+use Rattle.std.specs.Prelude.{◌≡◌, ◌⊎◌, ◌+◌, ◌*◌, ◌≤◌, min, length, IsTrue, IfErr, Option, Result, Ok, Err}
 use Rattle.em_record.specs.declared.record.Record.{Record}
 use Rattle.em_frames.specs.Pool.{GivenFrames, SameFrames}
 use Rattle.em_space.specs.Ledger.{Session}
 use Rattle.em_space.specs.Queue.{Pays}
-use Rattle.em_space.specs.Rig.{Cause, Goes, RigState, Sound, Touches}
+use Rattle.em_space.specs.Rig.{Cause, Goes, IfFull, RigState, Sound, Touches}
 use Rattle.em_space.specs.declared.fault.EmFault.{EmFault}
 use Rattle.em_chain.specs.Chain.{chain_blocks}
 use Rattle.em_chain.specs.Writer.{IsPackedSoFar, IsWriter, writer_blocks}
@@ -43,6 +43,12 @@ pub record StopsRelease (s t : RigState) (v : Trunk) (fault : EmFault) : Type 0 
       → t.moves ≤ s.moves + 2 * length (tree_blocks v.level s v.root)
   pub cause : Cause s t fault
 
+-- A tree to which nothing was pushed stayed as it was until its nodes and leaves were released.
+pub record ReleasesUnused (s t : RigState) (v w : Trunk) : Type 0 where
+  pub same : w ≡ v
+  pub moves : IsTrue s.device.told
+      → t.moves ≤ s.moves + 2 * length (tree_blocks v.level s v.root)
+
 -- The answers of a tree are a chain, and its two frames are back.
 pub record GivenAnswers (s t : RigState) (v : Trunk) (c : Chain) : Type 0 where
   pub session : Session (writer_blocks s v.answers) s t (chain_blocks t c)
@@ -50,7 +56,7 @@ pub record GivenAnswers (s t : RigState) (v : Trunk) (c : Chain) : Type 0 where
   pub frames : GivenFrames 2 s.pool t.pool
   pub pays : Pays (min v.answers.blocks 1) 0 s t
   pub used : t.used ≡ s.used
-  pub moves : t.moves ≤ s.moves + 1
+  pub moves : t.moves ≤ s.moves + min v.answers.blocks 1
 
 -- The last block of the answers couldn't be stored.
 pub record StopsAnswers (s t : RigState) (v : Trunk) (fault : EmFault) : Type 0 where
@@ -59,13 +65,18 @@ pub record StopsAnswers (s t : RigState) (v : Trunk) (fault : EmFault) : Type 0 
   pub frames : GivenFrames 2 s.pool t.pool
   pub pays : Pays (min v.answers.blocks 1) 1 s t
   pub used : t.used ≡ s.used
-  pub moves : t.moves ≤ s.moves + 1
+  pub moves : t.moves ≤ s.moves + min v.answers.blocks 1
   pub cause : Cause s t fault
+  pub full : IfFull fault (λ _. ⊥)
 
 -- what that did, by its result
 abbrev pub GivesAnswers : RigState → RigState → Trunk → Result Chain EmFault → Type 0
 GivesAnswers s t v (Ok c) = GivenAnswers s t v c
 GivesAnswers s t v (Err fault) = StopsAnswers s t v fault
+
+-- a tree to which nothing was pushed needs no block while it is finished
+abbrev pub FullIfUsed : {T : Type 0} → Trunk → Result T EmFault → Type 0
+FullIfUsed v result = IfErr result (λ fault. IfFull fault (λ _. v.pushed ≡ 0 → ⊥))
 
 -- A tree can be finished: all its buffers can be emptied. Before the first push nothing waits in it.
 pub record CanFinish (s : RigState) (v : Trunk) : Type 0 where

@@ -19,3 +19,7 @@ pub mod Settling
 pub mod Pushing
 pub mod Calls
 pub mod Finishing
+pub mod Taking
+pub mod Visits
+pub mod Leavings
+pub mod FirstVisits

@@ -7,28 +7,32 @@ use Rattle.em_settle.specs.declared.step.Step.{Step}
 use Rattle.em_space.specs.Rig.{RigState}
 use Rattle.em_space.specs.declared.fault.EmFault.{EmFault}
 use Rattle.em_space.specs.declared.fault.EmFault.TheVariants.{Damaged}
-use Rattle.em_tree_cost.specs.Books.{KeepsBooks, TreeCounts, count_moves}
+use Rattle.em_tree_cost.specs.Books.{InCall, TreeCounts, count_moves}
 use Rattle.em_tree_model.specs.Ranges.{least_record}
 use Rattle.em_tree_walk.specs.declared.searching.Range.{Range}
 use Rattle.em_tree.specs.Buffers.{AllOver, ClearOver, Due, IsDue, OnOneSide, OnlyFull}
 use Rattle.em_tree.specs.Debts.{KeepsOwing, MayOwe, owing_to, settling_toll}
 use Rattle.em_tree.specs.Emptying.{CanClear, CanSettleLevel, CanWork, EachRead, HasSpot, SettlesLevel, deepest, unstored_most}
-use Rattle.em_tree.specs.Events.{step_allowance}
+use Rattle.em_tree.specs.Events.{MayRefuse, step_allowance}
 use Rattle.em_tree.specs.Findings.{FoundSpot}
 use Rattle.em_tree.specs.Starts.{is_inside, starts_of}
 use Rattle.em_tree.specs.Trunk.{full_limit, root_of, sums_in}
 use Rattle.em_tree.specs.Works.{StopsWorking, Works}
 use Rattle.em_tree.specs.declared.trunk.Trunk.{Trunk}
 
--- The books of a running call, in its steps: p are paid for in advance, and each that was taken is.
--- So a call that is owed nothing doesn't run out of steps.
+-- The books of a running call, in its steps: p are paid for in advance, and each that was taken is, but for
+-- what the call owes and may. So it doesn't run out of steps.
 pub record HasSteps (p : ℕ) (s : RigState) (v : Trunk) : Type 0 where
   pub counts : TreeCounts
+  pub owed : ℕ
+  pub handed : ℕ
+  pub split : ℕ
   pub longest : counts.k ≡ v.longest
   pub few : counts.k ≤ 2 ^ 100
   pub none_taken : counts.z ≡ 0
   pub none_settled : counts.y ≡ 0
-  pub books : KeepsBooks s.pool.shape (count_moves p counts) 0 (sums_in s v)
+  pub books : InCall s.pool.shape (count_moves p counts) owed handed split (sums_in s v)
+  pub may : MayRefuse s.pool.shape counts.k split owed 0
   pub left : v.steps + counts.spent ≡ step_allowance s.pool.shape counts.n counts.k
 
 -- Leaves came, and of each level at most as many nodes that begin among some keys.
@@ -77,6 +81,16 @@ searches_left d (Some from) s v = 1 + nodes_inside d from s v
 abbrev pub leaf_pay : Due → RigState → Trunk → ℕ
 leaf_pay d s v = (deepest s v - d.level) * deepest s v
 
+-- what leaves that came and full buffers that were found paid for beside
+abbrev pub clear_pay : Due → ℕ → RigState → RigState → Trunk → Trunk → ℕ
+clear_pay d found s t v w =
+    leaf_pay d s v * ((sums_in t w).leaves - (sums_in s v).leaves) + deepest s v * found
+
+-- The same tree is read.
+pub record SameTree (s t : RigState) (v w : Trunk) : Type 0 where
+  pub root : root_of t w ≡ root_of s v
+  pub level : w.level ≡ v.level
+
 -- Full buffers of a level, among some keys, were emptied, and those below after them, up to the keys that
 -- are left. What was empty over the level is.
 pub record ClearsUpTo (limit : ℕ) (d : Due) (left : Option Record) (s t : RigState) (v w : Trunk)
@@ -91,15 +105,17 @@ pub record ClearsUpTo (limit : ℕ) (d : Due) (left : Option Record) (s t : RigS
   pub later : (from : Record) → left ≡ Some from → is_below from d.from ≡ false
   pub grows : Grows s t v w
 
--- The same as a step of a call: a search is paid for in advance for each that is left.
+-- The same as a step of a call: a search is paid for in advance for each that is left. Each full buffer that
+-- was found pays for the search that found it, and without one nothing changed.
 pub record Cleared (key : Record → Record) (step : Option Record → Record → Step)
     (IsOp IsKept : Record → Type 0) (taken : ℕ) (d : Due) (left : Option Record) (s t : RigState)
     (v w : Trunk) : Type 0 where
+  pub found : ℕ
   pub works : (p : ℕ) → Works key step IsOp IsKept
       (p + deepest s v * searches_left d (Some d.from) s v)
-      (p + deepest s v * searches_left d left t w
-      + leaf_pay d s v * ((sums_in t w).leaves - (sums_in s v).leaves)) 0 taken s t v w
+      (p + deepest s v * searches_left d left t w + clear_pay d found s t v w) 0 taken s t v w
   pub clears : IsTrue s.device.told → ClearsUpTo (full_limit s.pool.shape) d left s t v w
+  pub same : IsTrue s.device.told → found ≡ 0 → SameTree s t v w
   pub drained : IsDrained w
   pub level : v.level ≤ w.level
 
@@ -126,13 +142,12 @@ pub record CanClearEntry (d : Due) (node at : ℕ) (inner : Range) (s : RigState
   pub paid : ℕ
   pub steps : IsTrue s.device.told → HasSteps (paid + deepest s v * nodes_inside d d.from s v) s v
 
--- It was: the loop goes on at this key. One more search is paid for then.
+-- It was: the loop goes on at this key. Two more searches are paid for then.
 pub record ClearedEntry (key : Record → Record) (step : Option Record → Record → Step)
     (IsOp IsKept : Record → Type 0) (taken : ℕ) (d : Due) (next : Record) (s t : RigState)
     (v w : Trunk) : Type 0 where
   pub works : (p : ℕ) → Works key step IsOp IsKept (p + deepest s v * nodes_inside d d.from s v)
-      (p + deepest s v * (1 + nodes_inside d next t w)
-      + leaf_pay d s v * ((sums_in t w).leaves - (sums_in s v).leaves)) 0 taken s t v w
+      (p + deepest s v * (1 + nodes_inside d next t w) + clear_pay d 1 s t v w) 0 taken s t v w
   pub clears : IsTrue s.device.told → ClearsUpTo (full_limit s.pool.shape) d (Some next) s t v w
   pub drained : IsDrained w
   pub level : v.level ≤ w.level

@@ -3,7 +3,7 @@ use Rattle.std.specs.Prelude.{◌≡◌, ℕ, ◌+◌, ◌≤◌, [], IsTrue, Re
 use Rattle.em_frames.specs.Pool.{LentFrames, SameFrames, singles_of}
 use Rattle.em_space.specs.Ledger.{Session}
 use Rattle.em_space.specs.Queue.{Pays}
-use Rattle.em_space.specs.Rig.{Cause, Goes, InUse, RigState}
+use Rattle.em_space.specs.Rig.{InUse, RigState}
 use Rattle.em_space.specs.declared.fault.EmFault.{EmFault}
 use Rattle.em_chain.specs.Writer.{IsPackedSoFar, IsWriter, writer_items}
 use Rattle.em_tree_model.specs.Ranges.{least_record}
@@ -12,6 +12,8 @@ use Rattle.em_tree_model.specs.Tree.Tree.{end, entry, leaf}
 use Rattle.em_tree_blocks.specs.Reading.{IsTreeAt, tree_at, tree_blocks}
 use Rattle.em_tree_cost.specs.Books.{count_moves, no_counts}
 use Rattle.em_tree_load.specs.Forms.{AreFormed}
+use Rattle.em_tree_load.specs.Paid.{LosesNone}
+use Rattle.em_tree_load.specs.SplitPaths.{StopsUpTo}
 use Rattle.em_tree.specs.Trunk.{counts_of, trunk_blocks}
 use Rattle.em_tree.specs.declared.trunk.Trunk.{Trunk}
 
@@ -24,18 +26,17 @@ pub record Planted (s t : RigState) (root : ℕ) : Type 0 where
   pub session : Session [] s t (tree_blocks 1 t root)
   pub frames : SameFrames s.pool t.pool
   pub pays : Pays 0 0 s t
+  pub used : t.used ≡ s.used + 2
+  pub loses : LosesNone [] (tree_blocks 1 t root) s t
   pub moves : t.moves ≤ s.moves + 4
   pub in_use : InUse t root
   pub reads : IsTrue s.device.told → tree_at 1 t root ≡ fresh_root
   pub stored : IsTrue s.device.told → IsTreeAt 1 t root
   pub formed : IsTrue s.device.told → AreFormed 1 t root
 
--- It wasn't: at most one block that is in use now wasn't stored.
-pub record StopsPlanting (s t : RigState) (fault : EmFault) : Type 0 where
-  pub goes : Goes [] s t
-  pub pays : Pays 0 1 s t
-  pub moves : t.moves ≤ s.moves + 4
-  pub cause : Cause s t fault
+-- It wasn't: at most two blocks came into use, of which one at most isn't stored.
+abbrev pub StopsPlanting : RigState → RigState → EmFault → Type 0
+StopsPlanting s t fault = StopsUpTo 2 4 [] s t fault
 
 -- what storing both did, by its result
 abbrev pub Plants : RigState → RigState → Result ℕ EmFault → Type 0
@@ -58,6 +59,8 @@ pub record IsFreshTrunk (s t : RigState) (v : Trunk) : Type 0 where
   pub frames : LentFrames 2 s.pool t.pool
   pub within : t.pool.free + 2 ≤ singles_of t.pool.shape
   pub pays : Pays 0 0 s t
+  pub used : t.used ≡ s.used + 2
+  pub loses : LosesNone [] (trunk_blocks t v) s t
   pub counts : counts_of v ≡ count_moves v.spent no_counts
   pub spent : v.spent + s.moves ≡ t.moves
   pub moves : t.moves ≤ s.moves + 4

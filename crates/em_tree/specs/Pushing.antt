@@ -5,14 +5,15 @@ use Rattle.em_record.specs.declared.record.Record.{Record}
 use Rattle.em_frames.specs.Pool.{SameFrames}
 use Rattle.em_space.specs.Ledger.{Session}
 use Rattle.em_space.specs.Queue.{Pays}
-use Rattle.em_space.specs.Rig.{Cause, Goes, RigState}
+use Rattle.em_space.specs.Rig.{Cause, Goes, IfFull, RigState}
 use Rattle.em_space.specs.declared.fault.EmFault.{EmFault}
 use Rattle.em_settle.specs.declared.step.Step.{Step}
-use Rattle.em_chain.specs.Writer.{IsPackedSoFar, IsWriter, writer_items}
+use Rattle.em_chain.specs.Writer.{IsPackedSoFar, IsWriter, NeedsBlock, writer_items}
 use Rattle.em_tree_model.specs.Meaning.{InTurn}
 use Rattle.em_tree_model.specs.Ranges.{IsTree, least_record}
 use Rattle.em_tree_model.specs.Tree.{Tree}
 use Rattle.em_tree_model.specs.Tree.Tree.{end, entry}
+use Rattle.em_tree_load.specs.Paid.{LosesNone}
 use Rattle.em_tree.specs.Buffers.{IsThin}
 use Rattle.em_tree.specs.Emptying.{EachRead, unstored_most}
 use Rattle.em_tree.specs.Events.{ChargesUpTo}
@@ -32,6 +33,7 @@ pub record Appended (op : Record) (s m : RigState) (v w : Trunk) : Type 0 where
   pub session : Session (trunk_blocks s v) s m (trunk_blocks m w)
   pub frames : SameFrames s.pool m.pool
   pub pays : Pays (trunk_unstored v) (trunk_unstored w) s m
+  pub loses : LosesNone (trunk_blocks s v) (trunk_blocks m w) s m
   pub moves : m.moves + 2 * v.buffer.blocks ≤ s.moves + 2 * w.buffer.blocks
   pub count : w.buffer.count ≡ v.buffer.count + 1
   pub more : w.buffer.blocks ≤ v.buffer.blocks + 1
@@ -65,6 +67,10 @@ pub record PushedOp (key : Record → Record) (step : Option Record → Record �
   pub blocks : w.buffer.blocks ≤ w.buffer.count
   pub thin : IsTrue s.device.told → EachRead (IsThin (full_limit t.pool.shape)) t w
 
+-- A push may need a block: the root's buffer needs one, or is full with the operation.
+abbrev pub NeedsMore : RigState → Trunk → Type 0
+NeedsMore s v = NeedsBlock s v.buffer ⊎ (v.buffer.count + 1 ≡ full_limit s.pool.shape)
+
 -- A push gave up: at the append, or after it, with moves that are paid for then.
 pub record StopsPush (op : Record) (s t : RigState) (v w : Trunk) (fault : EmFault) : Type 0 where
   pub goes : Goes (trunk_blocks s v) s t
@@ -72,6 +78,7 @@ pub record StopsPush (op : Record) (s t : RigState) (v w : Trunk) (fault : EmFau
   pub numbers : SameNumbers v w
   pub pays : Pays (trunk_unstored v) (unstored_most s) s t
   pub cause : Cause s t fault
+  pub needs : IfFull fault (λ _. NeedsMore s v)
   pub charges : IsTrue s.device.told → (t.moves ≤ s.moves + 2)
       ⊎ ((m : RigState) × (x : Trunk) × Appended op s m v x
       × ChargesUpTo s.pool.shape v.longest 0 (t.moves - m.moves) 0 (sums_in m x))

@@ -1,5 +1,5 @@
 -- A tree on a rig: what it is read as, the blocks that it holds, its numbers, and what ties these.
-use Rattle.std.specs.Prelude.{◌≡◌, ℕ, ◌+◌, ◌*◌, ◌^◌, ◌<◌, ◌≤◌, min, List, ◌++◌, length, None, IsTrue}
+use Rattle.std.specs.Prelude.{◌≡◌, ℕ, ◌+◌, ◌*◌, ◌^◌, ◌<◌, ◌≤◌, min, List, [], ◌++◌, length, None, IsTrue}
 use Rattle.em_record.specs.Shape.{ShapeNumbers, fan_of, wide_of}
 use Rattle.em_record.specs.declared.record.Record.{Record}
 use Rattle.em_frames.specs.Pool.{singles_of}
@@ -44,15 +44,14 @@ trunk_blocks s v =
 abbrev pub trunk_unstored : Trunk → ℕ
 trunk_unstored v = min v.buffer.blocks 1 + min v.answers.blocks 1
 
--- Its numbers: operations pushed, moves made, calls that settled all. No call takes records out, so
--- it is never reset.
+-- its numbers: operations pushed, moves made, resets, calls that settled all
 abbrev pub counts_of : Trunk → TreeCounts
 counts_of v = record {
   n = v.pushed;
   k = v.longest;
   since = v.since;
   spent = v.spent;
-  z = 0;
+  z = v.resets;
   y = v.settled;
 }
 
@@ -79,6 +78,7 @@ pub record AreTrunkNumbers (s : RigState) (v : Trunk) : Type 0 where
   pub longest_most : v.longest ≤ v.pushed
   pub pushed_most : v.pushed ≤ 2 ^ 100
   pub settled_most : v.settled ≤ 2 ^ 100
+  pub resets_most : v.resets ≤ 2 ^ 100
   pub spent_most : v.spent ≤ s.moves
   pub root_below : v.root < s.blocks
 
@@ -108,12 +108,14 @@ pub record IsRunning (key : Record → Record) (IsOp IsKept : Record → Type 0)
   pub stands : IsTrue s.device.told → IsStanding key IsOp IsKept s v
 
 -- What ties a tree to its rig at each exit that is Ok: no buffer is full, and its moves are paid for. The
--- root's buffer holds no block before the first push, and never more blocks than operations.
+-- root's buffer holds no block before the first push, and never more blocks than operations. Before the first
+-- push no answer was given.
 pub record IsTrunk (key : Record → Record) (IsOp IsKept : Record → Type 0) (s : RigState)
     (v : Trunk) : Type 0 where
   pub running : IsRunning key IsOp IsKept s v
   pub few : v.buffer.count < full_limit s.pool.shape
   pub unused : v.pushed ≡ 0 → v.buffer.blocks ≡ 0
+  pub silent : IsTrue s.device.told → v.pushed ≡ 0 → given_by s v ≡ []
   pub blocks : v.buffer.blocks ≤ v.buffer.count
   pub thin : IsTrue s.device.told
       → EachEntry (IsThin (full_limit s.pool.shape)) v.level least_record None (root_of s v)

@@ -1,12 +1,14 @@
 -- A step of a call on a tree, and several one after another: they compose.
-use Rattle.std.specs.Prelude.{◌≡◌, ℕ, ◌+◌, ◌-◌, Option, IsTrue}
+use Rattle.std.specs.Prelude.{◌≡◌, ℕ, ◌+◌, ◌-◌, [], Option, IsTrue}
 use Rattle.em_record.specs.declared.record.Record.{Record}
 use Rattle.em_frames.specs.Pool.{SameFrames}
 use Rattle.em_space.specs.Ledger.{Session}
 use Rattle.em_space.specs.Queue.{Pays}
-use Rattle.em_space.specs.Rig.{Cause, Goes, RigState}
+use Rattle.em_space.specs.Rig.{Cause, Goes, IfFull, RigState}
 use Rattle.em_space.specs.declared.fault.EmFault.{EmFault}
 use Rattle.em_settle.specs.declared.step.Step.{Step}
+use Rattle.em_tree_load.specs.Paid.{LosesNone}
+use Rattle.em_tree_model.specs.Tree.{waiting_in}
 use Rattle.em_tree.specs.Events.{Charges, ChargesUpTo, Continues}
 use Rattle.em_tree.specs.Trunk.{IsRunning, TrunkHasFrames, given_by, model_of, sums_in, trunk_blocks, trunk_unstored}
 use Rattle.em_tree.specs.declared.trunk.Trunk.{Trunk}
@@ -17,7 +19,12 @@ pub record SameNumbers (v w : Trunk) : Type 0 where
   pub longest : w.longest ≡ v.longest
   pub since : w.since ≡ v.since
   pub settled : w.settled ≡ v.settled
+  pub resets : w.resets ≡ v.resets
   pub spent : w.spent ≡ v.spent
+
+-- A call was full only if an operation waited, over a device that tells.
+abbrev pub FullIfWaits : RigState → Trunk → EmFault → Type 0
+FullIfWaits s v fault = IfFull fault (λ _. IsTrue s.device.told → waiting_in (model_of s v) ≡ [] → ⊥)
 
 -- What a step did that went well. Before it p moves were paid for in advance, after it q are; it
 -- owes d, and took n of the call's steps. As many moves as that would be paid for too: a step makes
@@ -27,11 +34,13 @@ pub record Works (key : Record → Record) (step : Option Record → Record → 
   pub session : Session (trunk_blocks s v) s t (trunk_blocks t w)
   pub frames : SameFrames s.pool t.pool
   pub pays : Pays (trunk_unstored v) (trunk_unstored w) s t
+  pub loses : LosesNone (trunk_blocks s v) (trunk_blocks t w) s t
   pub numbers : SameNumbers v w
   pub steps : w.steps + n ≡ v.steps
   pub running : IsRunning key IsOp IsKept t w
   pub continues : IsTrue s.device.told → Continues key step IsOp IsKept (given_by s v) (model_of s v)
       (given_by t w) (model_of t w)
+  pub still : IsTrue s.device.told → waiting_in (model_of s v) ≡ [] → waiting_in (model_of t w) ≡ []
   pub charges : IsTrue s.device.told
       → Charges s.pool.shape v.longest p (t.moves - s.moves) q d (sums_in s v) (sums_in t w)
   pub paces : IsTrue s.device.told → Charges s.pool.shape v.longest p n q d (sums_in s v) (sums_in t w)
@@ -44,5 +53,6 @@ pub record StopsWorking (p d n : ℕ) (s t : RigState) (v w : Trunk) (fault : Em
   pub numbers : SameNumbers v w
   pub pays : Pays (trunk_unstored v) n s t
   pub cause : Cause s t fault
+  pub needs : FullIfWaits s v fault
   pub charges : IsTrue s.device.told
       → ChargesUpTo s.pool.shape v.longest p (t.moves - s.moves) d (sums_in s v)

@@ -19,8 +19,9 @@ use em_tree_walk::{Finding, Range, search};
 /// Empties each full buffer of the nodes of a level, and of those below, whose range begins among some
 /// keys. The searches for these were paid for before; full buffers, loads and splits pay for the others.
 ///
-/// `Full` comes if a split gets no block, `Damaged` only over a device that doesn't tell, and
-/// `DeviceFault` if the device's count of faults rose; after a fault the tree may only be abandoned.
+/// `Full` comes only if all blocks are in use and, over a device that tells, an operation waited,
+/// `Damaged` only over a device that doesn't tell, and `DeviceFault` only if the device's count of
+/// faults rose; after a fault the tree may only be abandoned.
 #[cycle(clear)]
 pub fn empty_full<D: Device, S: Settle>(
     rig: &mut Rig<'_, D>,

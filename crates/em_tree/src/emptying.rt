@@ -27,7 +27,8 @@ const ALL: Range = Range {
 /// Appends an operation to the root's buffer, and empties what is full then.
 ///
 /// `Full` comes only if all blocks are in use, `Damaged` only over a device that doesn't tell, and
-/// `DeviceFault` if the device's count of faults rose; after a fault the tree may only be abandoned.
+/// `DeviceFault` only if the device's count of faults rose; after a fault the tree may only be
+/// abandoned.
 pub fn push_op<D: Device, S: Settle>(
     rig: &mut Rig<'_, D>,
     settle: &S,

@@ -1,10 +1,10 @@
 //! The end of a tree: all buffers emptied, and all blocks but those of its answers released.
 
-ghost use Rattle.std.specs.Prelude.{◌≡◌};
+ghost use Rattle.std.specs.Prelude.{◌≡◌, IfErr};
 ghost use Rattle.em_space.specs.Seen.{seen};
 ghost use Rattle.em_tree.specs.Debts.{owing_all};
 ghost use Rattle.em_tree.specs.Emptying.{CanWork};
-ghost use Rattle.em_tree.specs.Finishing.{CanFinish, FinishesBlocks};
+ghost use Rattle.em_tree.specs.Finishing.{CanFinish, FinishesBlocks, FullIfUsed, ReleasesUnused};
 ghost use Rattle.em_tree.specs.Settling.{SettlesAllTo};
 
 use crate::settling::settle_tree;
@@ -24,9 +24,12 @@ pub fn finish_blocks<D: Device, S: Settle>(
         (seen D.state rig.old) trunk.old }
     requires ready { S.IsReady settle.now }
     requires finish { CanFinish (seen D.state rig.old) trunk.old }
-    ensures { FinishesBlocks (S.key_of settle.now) (S.step_of settle.now) (S.IsOp settle.now)
+    ensures full { FullIfUsed trunk.old result }
+    ensures finishes { FinishesBlocks (S.key_of settle.now) (S.step_of settle.now) (S.IsOp settle.now)
         (S.IsKept settle.now) (seen D.state rig.old) (seen D.state rig.new) trunk.old trunk.new
         result }
+    ensures unused { trunk.old.pushed ≡ 0 → ReleasesUnused (seen D.state rig.old)
+        (seen D.state rig.new) trunk.old trunk.new }
 {
     settle_used(rig, settle, trunk)?;
     release_tree(rig, trunk.root, trunk.level)
@@ -42,7 +45,10 @@ fn settle_used<D: Device, S: Settle>(
         (seen D.state rig.old) trunk.old }
     requires ready { S.IsReady settle.now }
     requires finish { CanFinish (seen D.state rig.old) trunk.old }
-    ensures { SettlesAllTo (S.key_of settle.now) (S.step_of settle.now) (S.IsOp settle.now)
+    ensures used { IfErr result (λ _. trunk.old.pushed ≡ 0 → ⊥) }
+    ensures still { trunk.old.pushed ≡ 0 → (seen D.state rig.new ≡ seen D.state rig.old)
+        × (trunk.new ≡ trunk.old) }
+    ensures settles { SettlesAllTo (S.key_of settle.now) (S.step_of settle.now) (S.IsOp settle.now)
         (S.IsKept settle.now) (owing_all (seen D.state rig.old) trunk.old) (seen D.state rig.old)
         (seen D.state rig.new) trunk.old trunk.new result }
 {

@@ -1,8 +1,8 @@
 //! The buffer of an entry, emptied.
 
-ghost use Rattle.std.specs.Prelude.{◌≡◌, ◌-◌, ◌<◌, ◌≤◌};
+ghost use Rattle.std.specs.Prelude.{◌≡◌, ◌-◌, ◌<◌, ◌≤◌, IfErr, IsTrue};
 ghost use Rattle.em_space.specs.Seen.{seen};
-ghost use Rattle.em_tree.specs.Emptying.{CanEmptyEntry, CanWork, EmptiesEntry, LoadsTo};
+ghost use Rattle.em_tree.specs.Emptying.{CanEmptyEntry, CanWork, EmptiesEntry, LoadsTo, StopsHeld};
 
 use crate::lowering::lower_entry;
 use crate::trunk::Trunk;
@@ -33,13 +33,14 @@ pub fn empty_entry<D: Device, S: Settle>(
     if level == 1 {
         return load_entry(rig, settle, trunk, node, at);
     }
-    lower_entry(rig, settle, trunk, level, node, at)
+    lower_entry(rig, settle, trunk, level, node, at)?;
+    Ok(())
 }
 
 /// Settles a load of a leaf's buffer, and splits the nodes over it that are full then. A load of w·B
 /// operations pays for its moves, and a split for those that it makes; of another load a part of them
 /// is owed.
-fn load_entry<D: Device, S: Settle>(
+pub fn load_entry<D: Device, S: Settle>(
     rig: &mut Rig<'_, D>,
     settle: &S,
     trunk: &mut Trunk,
@@ -54,6 +55,9 @@ fn load_entry<D: Device, S: Settle>(
         → LoadsTo (S.key_of settle.now) (S.step_of settle.now) (S.IsOp settle.now)
         (S.IsKept settle.now) at (seen D.state rig.old) (seen D.state rig.new) trunk.old trunk.new
         spot.spot.path result }
+    ensures held { IfErr result (λ fault. IsTrue (seen D.state rig.old).device.told
+        → (spot : CanEmptyEntry 0 node at (seen D.state rig.old) trunk.old)
+        → StopsHeld at (seen D.state rig.old) (seen D.state rig.new) trunk.old spot.spot.path) }
 {
     let Some(low) = load_leaf(rig, settle, &mut trunk.answers, node, at)? else {
         return Ok(());

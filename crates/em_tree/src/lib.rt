@@ -6,10 +6,13 @@ mod clearing;
 mod emptying;
 mod ending;
 mod entry;
+mod first;
+mod leaving;
 mod lowering;
 mod planting;
 mod settling;
 mod tree;
 mod trunk;
+mod visiting;
 
 pub use tree::Tree;

@@ -6,18 +6,21 @@
 //!     leaf blocks      each has the words of a chain of stored records, one per key, in order
 //!     answers          a list that is being written: what operations answered when they were settled
 
-ghost use Rattle.std.specs.Prelude.{◌≡◌, ◌+◌, ◌<◌, ◌^◌, IsTrue};
+ghost use Rattle.std.specs.Prelude.{◌≡◌, ◌↔◌, ◌+◌, ◌<◌, ◌^◌, IsTrue, length};
+ghost use Rattle.em_frames.specs.Pool.{load_of};
 ghost use Rattle.em_space.specs.Queue.{CanServe};
 ghost use Rattle.em_space.specs.Rig.{Sound};
 ghost use Rattle.em_space.specs.Seen.{seen};
+ghost use Rattle.em_space.specs.declared.fault.EmFault.TheVariants.{Damaged};
 ghost use Rattle.em_tree_cost.specs.Books.{count_push, count_settle};
 
 use crate::emptying::push_op;
 use crate::ending::finish_blocks;
 use crate::settling::settle_tree;
 use crate::trunk::Trunk;
+use crate::visiting::{Taken, take_all_first};
 use em_chain::Chain;
-use em_frames::Device;
+use em_frames::{Area, Device};
 use em_record::Record;
 use em_settle::Settle;
 use em_space::{EmFault, Rig};
@@ -32,8 +35,13 @@ pub struct Tree<S: Settle> {
 impl<S: Settle> Tree<S> {
     ghost use Rattle.std.specs.Prelude.{Result, Ok, Err, IfOk, IfErr};
     ghost use Rattle.em_tree.specs.Calls.{CountsCall, FinishCosts, FinishesTrunk, IsNewTrunk, LeavesTrunk, PushesOp, SettlesTrunk, StopsNewTrunk};
+    ghost use Rattle.em_space.specs.Rig.{IfFull};
+    ghost use Rattle.em_tree.specs.Finishing.{FullIfUsed};
     ghost use Rattle.em_tree.specs.Meaning.{IsLater};
+    ghost use Rattle.em_tree.specs.Pushing.{NeedsMore};
+    ghost use Rattle.em_tree.specs.Taking.{CountsTake, TakesFirstTo};
     ghost use Rattle.em_tree.specs.Trunk.{IsTrunk, TrunkHasFrames, model_of};
+    ghost use Rattle.em_tree.specs.Works.{FullIfWaits};
 
     /// A tree with no record: a root of level 1 over one empty leaf. It holds two frames. At most 4 blocks
     /// are moved. After a fault some blocks may stay in use.
@@ -49,7 +57,8 @@ impl<S: Settle> Tree<S> {
         Ok(Tree { settle, trunk })
     }
 
-    /// Adds an operation. It waits in the root's buffer; a buffer that is full is emptied.
+    /// Adds an operation. It waits in the root's buffer; a buffer that is full is emptied. `Full` comes only
+    /// if all blocks are in use then, and the root's buffer needs a block or is full with the operation.
     pub fn push<D: Device>(&mut self, rig: &mut Rig<'_, D>, op: Record) -> Result<(), EmFault>
         requires sound { Sound (seen D.state rig.old) }
         requires ready { S.IsReady self.old.settle }
@@ -61,6 +70,8 @@ impl<S: Settle> Tree<S> {
         requires later { IsTrue (seen D.state rig.old).device.told
             → IsLater (S.key_of self.old.settle) (model_of (seen D.state rig.old) self.old.trunk) op }
         ensures rule { self.new.settle ≡ self.old.settle }
+        ensures needs { IfErr result (λ fault. IfFull fault (λ _. NeedsMore (seen D.state rig.old)
+            self.old.trunk)) }
         ensures pushes { PushesOp (S.key_of self.old.settle) (S.step_of self.old.settle)
             (S.IsOp self.old.settle) (S.IsKept self.old.settle) op (seen D.state rig.old)
             (seen D.state rig.new) self.old.trunk self.new.trunk result }
@@ -74,7 +85,8 @@ impl<S: Settle> Tree<S> {
         pushed
     }
 
-    /// Empties all buffers: no operation waits afterwards.
+    /// Empties all buffers: no operation waits afterwards. `Full` comes only if all blocks are in use then,
+    /// and, over a device that tells, an operation waited.
     pub fn settle_all<D: Device>(&mut self, rig: &mut Rig<'_, D>) -> Result<(), EmFault>
         requires sound { Sound (seen D.state rig.old) }
         requires ready { S.IsReady self.old.settle }
@@ -86,6 +98,7 @@ impl<S: Settle> Tree<S> {
         ensures settles { SettlesTrunk (S.key_of self.old.settle) (S.step_of self.old.settle)
             (S.IsOp self.old.settle) (S.IsKept self.old.settle) (seen D.state rig.old)
             (seen D.state rig.new) self.old.trunk self.new.trunk result }
+        ensures needs { IfErr result (FullIfWaits (seen D.state rig.old) self.old.trunk) }
         ensures counts { CountsCall (count_settle 0) (seen D.state rig.old) (seen D.state rig.new)
             self.old.trunk self.new.trunk }
     {
@@ -96,7 +109,48 @@ impl<S: Settle> Tree<S> {
         settled
     }
 
-    /// Empties all buffers, releases the tree's blocks, and gives the answers in any order.
+    /// Takes the records of the least keys out of the tree's contents, and puts them into the first places
+    /// of an area, in order. Answers how many: more than half as many as the area has places, or all that
+    /// there are. If nothing is left, that is a reset: the tree begins anew, with one empty leaf.
+    ///
+    /// `Full` comes only if all blocks are in use and, over a device that tells, an operation waited,
+    /// `Damaged` only over a device that doesn't tell, and `DeviceFault` only if the device's count of
+    /// faults rose; after a fault the tree may only be abandoned, and the area may hold anything.
+    pub fn take_first<D: Device>(
+        &mut self,
+        rig: &mut Rig<'_, D>,
+        into: &mut Area,
+    ) -> Result<usize, EmFault>
+        requires sound { Sound (seen D.state rig.old) }
+        requires ready { S.IsReady self.old.settle }
+        requires is { IsTrunk (S.key_of self.old.settle) (S.IsOp self.old.settle)
+            (S.IsKept self.old.settle) (seen D.state rig.old) self.old.trunk }
+        requires free { CanServe (seen D.state rig.old).pool }
+        requires area { length into.old ≡ load_of (seen D.state rig.old).pool.shape }
+        requires few { self.old.trunk.resets < 2 ^ 100 }
+        ensures rule { self.new.settle ≡ self.old.settle }
+        ensures len { length into.new ≡ length into.old }
+        ensures takes { TakesFirstTo (S.key_of self.old.settle) (S.step_of self.old.settle)
+            (S.IsOp self.old.settle) (S.IsKept self.old.settle) into.new (seen D.state rig.old)
+            (seen D.state rig.new) self.old.trunk self.new.trunk result }
+        ensures needs { IfErr result (FullIfWaits (seen D.state rig.old) self.old.trunk) }
+        ensures counts { CountsTake (seen D.state rig.old) (seen D.state rig.new) self.old.trunk
+            self.new.trunk result }
+    {
+        let before = rig.moves();
+        self.trunk.allow_steps(&rig.shape());
+        let taken = take_all_first(rig, &self.settle, &mut self.trunk, into);
+        self.trunk.count_moves(rig, before);
+        let Taken { count, reset } = taken?;
+        if !reset {
+            return Ok(count);
+        }
+        self.trunk.count_reset();
+        Ok(count)
+    }
+
+    /// Empties all buffers, releases the tree's blocks, and gives the answers in any order. `Full` comes only if
+    /// all blocks are in use then, and an operation was pushed.
     pub fn finish<D: Device>(self, rig: &mut Rig<'_, D>) -> Result<Chain, EmFault>
         requires sound { Sound (seen D.state rig.old) }
         requires ready { S.IsReady self.settle }
@@ -104,6 +158,7 @@ impl<S: Settle> Tree<S> {
             (seen D.state rig.old) self.trunk }
         requires free { CanServe (seen D.state rig.old).pool }
         requires few { self.trunk.settled < 2 ^ 100 }
+        ensures full { FullIfUsed self.trunk result }
         ensures finishes { FinishesTrunk (S.key_of self.settle) (S.step_of self.settle)
             (seen D.state rig.old) (seen D.state rig.new) self.trunk result }
         ensures costs { FinishCosts (seen D.state rig.old) (seen D.state rig.new) self.trunk }
@@ -124,6 +179,22 @@ impl<S: Settle> Tree<S> {
         ensures { result ≡ self.now.trunk.level }
     {
         self.trunk.level
+    }
+
+    /// Whether no operation was pushed since the last reset.
+    pub fn is_fresh(&self) -> bool
+        ensures { IsTrue result ↔ (self.now.trunk.since ≡ 0) }
+    {
+        self.trunk.since == 0
+    }
+
+    /// The fault of a tree that isn't as it was written: its root's block is damaged.
+    pub fn damaged(&self) -> EmFault
+        ensures { result ≡ Damaged self.now.trunk.root }
+    {
+        EmFault::Damaged {
+            block: self.trunk.root,
+        }
     }
 
     /// Gives the frames back, also after a fault. The blocks stay in use, and nothing is moved.

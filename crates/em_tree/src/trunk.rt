@@ -6,7 +6,7 @@ ghost use Rattle.em_space.specs.Rig.{Sound};
 ghost use Rattle.em_space.specs.Seen.{seen};
 ghost use Rattle.em_chain.specs.Writer.{IsWriter};
 ghost use Rattle.em_tree.specs.Calls.{LeavesTrunk};
-ghost use Rattle.em_tree.specs.Counting.{counted_moves, counted_push, counted_settling, with_steps};
+ghost use Rattle.em_tree.specs.Counting.{counted_moves, counted_push, counted_reset, counted_settling, with_steps};
 ghost use Rattle.em_tree.specs.Draining.{TakesAll};
 ghost use Rattle.em_tree.specs.Finishing.{GivesAnswers};
 ghost use Rattle.em_tree.specs.Loops.{StepsTo};
@@ -33,12 +33,14 @@ pub struct Trunk {
     pub(crate) answers: Writer,
     /// Operations pushed.
     pub(crate) pushed: u128,
-    /// The most of them between two resets, or since the last one. No call resets a tree yet.
+    /// The most of them between two resets, or since the last one.
     pub(crate) longest: u128,
     /// The number of them since the last reset.
     pub(crate) since: u128,
     /// Calls in which all buffers were emptied.
     pub(crate) settled: u128,
+    /// Resets: calls that took out all that there was.
+    pub(crate) resets: u128,
     /// Moves that were made in its calls.
     pub(crate) spent: u128,
     /// Steps that the running call may still take.
@@ -67,6 +69,7 @@ impl Trunk {
             longest: 0,
             since: 0,
             settled: 0,
+            resets: 0,
             spent,
             steps: 0,
         })
@@ -87,6 +90,7 @@ impl Trunk {
             longest: _,
             since: _,
             settled: _,
+            resets: _,
             spent: _,
             steps: _,
         } = self;
@@ -110,6 +114,7 @@ impl Trunk {
             longest: _,
             since: _,
             settled: _,
+            resets: _,
             spent: _,
             steps: _,
         } = self;
@@ -143,6 +148,15 @@ impl Trunk {
         self.allow_steps(shape);
     }
 
+    /// Counts a reset: nothing is left in the tree.
+    pub fn count_reset(&mut self)
+        requires room { self.old.resets < 2 ^ 100 }
+        ensures { self.new ≡ counted_reset self.old }
+    {
+        self.since = 0;
+        self.resets += 1;
+    }
+
     /// Counts the moves that were made since the rig's moves were `before`.
     pub fn count_moves<D: Device>(&mut self, rig: &Rig<'_, D>, before: u64)
         requires later { before ≤ (seen D.state rig.now).moves }
@@ -154,7 +168,7 @@ impl Trunk {
 
     /// The steps that a call takes at most: each makes a move, and these are no fewer than the moves that
     /// a call can be charged for.
-    fn allow_steps(&mut self, shape: &Shape)
+    pub fn allow_steps(&mut self, shape: &Shape)
         requires shape { IsShape shape.now }
         requires pushed { self.old.pushed ≤ 2 ^ 100 }
         requires longest { self.old.longest ≤ 2 ^ 100 }

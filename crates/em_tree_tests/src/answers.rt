@@ -5,18 +5,18 @@ use crate::scripts::{drawn, puts};
 use em_record::Shape;
 use std::test::Fail;
 
-/// Trees of three small shapes, which are settled twice on the way. 6000 operations fill 47
-/// blocks of 128 records, or 42 of 144, which is two levels at a fan-out of 16 or 18. So the share is
-/// at most (160 * 48 + 64 * 3 * 48) * 3 moves: two calls of `settle_all`, and `finish`. No block is in
+/// Trees of three small shapes, which are settled twice on the way. 16,000 operations fill 125
+/// blocks of 128 or 129 records, or 112 of 144, which is two levels at a fan-out of 16 or 18. So the share
+/// is at most (160 * 126 + 64 * 3 * 126) * 3 moves: two calls of `settle_all`, and `finish`. No block is in
 /// use after the answers were read.
 #[test]
 fn random_operations_are_answered_as_by_a_plain_map(rt: HostRuntime) -> Result<(), Fail> {
     for (block, frames) in [(128, 64), (129, 64), (144, 72)] {
         let shape = Shape::new(block, frames)?;
-        let script = drawn(rt.alloc(), 6000, block)?;
-        let (wrong, left, cost) = run(rt.alloc(), shape, 200, &[], script, 2500)?;
+        let script = drawn(rt.alloc(), 16_000, block)?;
+        let (wrong, left, cost) = run(rt.alloc(), shape, 1000, &[], script, 7000)?;
         assert_eq!(rt; (wrong, left, cost.0), (Ok(0), 0, 0), "block {block}");
-        assert!(rt; cost.2 <= (160 * 48 + 64 * 3 * 48) * 3, "block {block}");
+        assert!(rt; cost.2 <= (160 * 126 + 64 * 3 * 126) * 3, "block {block}");
     }
     Ok(())
 }

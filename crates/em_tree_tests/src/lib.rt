@@ -4,6 +4,12 @@
 #[cfg(test)]
 mod answers;
 #[cfg(test)]
+mod bags;
+#[cfg(test)]
+mod drains;
+#[cfg(test)]
+mod plain;
+#[cfg(test)]
 mod rigs;
 #[cfg(test)]
 mod runs;
@@ -13,3 +19,5 @@ mod scripts;
 mod sizes;
 #[cfg(test)]
 mod stops;
+#[cfg(test)]
+mod takings;

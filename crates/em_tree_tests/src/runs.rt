@@ -28,8 +28,8 @@ fn is_op(op: Record) -> bool
     op.b > 0 && op.c < 3
 }
 
-/// Whether all is settled after this number.
-fn settles_after(number: u64, every: u64) -> bool {
+/// Whether a number is a multiple of `every`, which isn't 0.
+pub fn divides(every: u64, number: u64) -> bool {
     every > 0 && number % every == 0
 }
 
@@ -44,7 +44,7 @@ fn settle_after<D: Device>(
     ensures { KeepsTree 1 (seen D.state rig.old) (seen D.state rig.new)
         tree.old.trunk tree.new.trunk result }
 {
-    if !settles_after(number, every) {
+    if !divides(every, number) {
         return Ok(());
     }
     tree.settle_all(rig)
@@ -130,7 +130,7 @@ fn strike_each<D: Device>(
 
 /// Strikes the answers of a chain off those that are wanted, and releases its blocks. The number of
 /// answers that weren't.
-fn strike_all<D: Device>(
+pub fn strike_all<D: Device>(
     rig: &mut Rig<'_, D>,
     chain: Chain,
     wanted: &mut [Record],

@@ -1,5 +1,7 @@
+use Rattle.std.proofs.Common.{IsTrue}
 use Rattle.em_space.specs.Seen.{seen}
-use Rattle.em_tree.proofs.LoadExits.{exit_splits, exit_split, exit_unloaded, exit_unsplit, exit_whole, loads_of}
+use Rattle.em_tree.specs.Emptying.{CanEmptyEntry, StopsHeld}
+use Rattle.em_tree.proofs.LoadExits.{exit_splits, exit_split, exit_unloaded, exit_unloaded_held, exit_unsplit, exit_unsplit_held, exit_whole, held_by, loads_of}
 use Rattle.em_tree.proofs.EntryConditions.{can_load}
 use Rattle.em_tree.proofs.entry.load_entry.Goals as goal
 
@@ -33,6 +35,20 @@ returns-in_err-low g c =
             stays_below = g.met.S.Settle.stays_below settle;
           }) c.requires.can spot c.load_leaf.new.answers c.in_err-low.ensures.frame
           c.in_err-low.ensures.loads);
+      held = held_by (IsTrue (seen g.D.Device.state c.args.rig.now).device.told
+          → (spot : CanEmptyEntry 0 c.args.node c.args.at (seen g.D.Device.state c.args.rig.now)
+          c.args.trunk.now) → StopsHeld c.args.at (seen g.D.Device.state c.args.rig.now)
+          (seen g.D.Device.state c.load_leaf.new.rig) c.args.trunk.now spot.spot.path)
+          c.from_residual.result (λ told spot. exit_unloaded_held
+          (g.S.Settle.key_of settle) (g.S.Settle.step_of settle) (g.S.Settle.IsOp settle)
+          (g.S.Settle.IsKept settle)
+          (record {
+            in_order = g.met.S.Settle.in_order settle;
+            keeps = g.met.S.Settle.keeps settle;
+            keeps_key = g.met.S.Settle.keeps_key settle;
+            stays_below = g.met.S.Settle.stays_below settle;
+          }) c.requires.can spot c.load_leaf.new.answers c.in_err-low.ensures.frame
+          c.in_err-low.ensures.loads told);
     }
 
 pub returns-in_default : goal.returns-in_default
@@ -47,6 +63,7 @@ returns-in_default g c =
             keeps_key = g.met.S.Settle.keeps_key settle;
             stays_below = g.met.S.Settle.stays_below settle;
           }) c.requires.can spot c.in_default.is c.in_ok-low.ensures.loads;
+      held = tt;
     }
 
 pub split_up-requires-clause-can : goal.split_up-requires-clause-can
@@ -78,6 +95,20 @@ returns-in_err-root g c =
             keeps_key = g.met.S.Settle.keeps_key settle;
             stays_below = g.met.S.Settle.stays_below settle;
           }) c.requires.can spot c.in-Some.is c.in_ok-low.ensures.loads c.in_err-root.ensures);
+      held = held_by (IsTrue (seen g.D.Device.state c.args.rig.now).device.told
+          → (spot : CanEmptyEntry 0 c.args.node c.args.at (seen g.D.Device.state c.args.rig.now)
+          c.args.trunk.now) → StopsHeld c.args.at (seen g.D.Device.state c.args.rig.now)
+          (seen g.D.Device.state c.split_up.new.rig) c.args.trunk.now spot.spot.path)
+          c.from_residual-in_err-root.result (λ told spot. exit_unsplit_held
+          (g.S.Settle.key_of settle) (g.S.Settle.step_of settle) (g.S.Settle.IsOp settle)
+          (g.S.Settle.IsKept settle)
+          (record {
+            in_order = g.met.S.Settle.in_order settle;
+            keeps = g.met.S.Settle.keeps settle;
+            keeps_key = g.met.S.Settle.keeps_key settle;
+            stays_below = g.met.S.Settle.stays_below settle;
+          }) c.requires.can spot c.in-Some.is c.in_ok-low.ensures.loads
+          c.in_err-root.ensures told);
     }
 
 pub returns : goal.returns
@@ -92,4 +123,5 @@ returns g c =
             keeps_key = g.met.S.Settle.keeps_key settle;
             stays_below = g.met.S.Settle.stays_below settle;
           }) c.requires.can spot c.in-Some.is c.in_ok-low.ensures.loads c.in_ok-root.ensures;
+      held = tt;
     }

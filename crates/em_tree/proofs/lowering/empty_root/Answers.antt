@@ -1,5 +1,6 @@
+use Rattle.std.proofs.Common.{◌∙◌, sym}
 use Rattle.em_space.specs.Seen.{seen}
-use Rattle.em_tree.proofs.RootDrains.{drain_can, drains_back, drains_err, drains_of, drains_ok}
+use Rattle.em_tree.proofs.RootDrains.{drain_can, drains_back, drains_err, drains_none, drains_of, drains_ok}
 use Rattle.em_tree.proofs.lowering.empty_root.Goals as goal
 
 pub returns-in_err-buffer : goal.returns-in_err-buffer
@@ -14,7 +15,7 @@ returns-in_err-buffer g c =
           (g.S.Settle.IsKept settle) s a v w c.from_residual.result c.in_err-buffer.field-0.0
           c.from_residual.ensures.1
           (drains_err (g.S.Settle.key_of settle) (g.S.Settle.step_of settle) (g.S.Settle.IsOp settle)
-          (g.S.Settle.IsKept settle) s a v w c.requires.can c.in_err-buffer.field-0.0
+          (g.S.Settle.IsKept settle) s a v w c.requires.can (λ e. c.if-count-eq0.false (c.len-count.ensures ∙ e)) c.in_err-buffer.field-0.0
           c.in_err-buffer.ensures);
     }
 
@@ -41,7 +42,7 @@ returns-in_err-empty_node g c =
           (g.S.Settle.IsKept settle) s t v w c.from_residual-in_err-empty_node.result fault
           c.from_residual-in_err-empty_node.ensures.1
           (drains_back (g.S.Settle.key_of settle) (g.S.Settle.step_of settle) (g.S.Settle.IsOp settle)
-          (g.S.Settle.IsKept settle) s a v w c.requires.can t c.in_ok-buffer.buffer fault
+          (g.S.Settle.IsKept settle) s a v w c.requires.can (λ e. c.if-count-eq0.false (c.len-count.ensures ∙ e)) t c.in_ok-buffer.buffer fault
           c.in_ok-buffer.ensures e.leaves e.costs e.cause);
     }
 
@@ -69,4 +70,12 @@ returns g c =
             costs = e.costs;
             frees = e.frees;
           });
+    }
+
+pub returns-then-count-eq0 : goal.returns-then-count-eq0
+returns-then-count-eq0 g c =
+    let settle = c.args.settle.now in
+    record {
+      drains = drains_none (g.S.Settle.key_of settle) (g.S.Settle.step_of settle) (g.S.Settle.IsOp settle)
+          (g.S.Settle.IsKept settle) c.requires.can c.requires.drain (sym c.len-count.ensures ∙ c.if-count-eq0.true);
     }

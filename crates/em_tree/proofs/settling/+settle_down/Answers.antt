@@ -1,4 +1,4 @@
-use Rattle.std.proofs.Common.{◌-◌, arith}
+use Rattle.std.proofs.Common.{arith}
 use Rattle.em_space.specs.Seen.{seen}
 use Rattle.em_tree.proofs.DownLevels.{down_can, down_level, down_next, down_none, down_to}
 use Rattle.em_tree.proofs.SettledTrees.{can_after}

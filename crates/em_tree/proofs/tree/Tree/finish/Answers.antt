@@ -1,5 +1,5 @@
 use Rattle.em_space.specs.Seen.{seen}
-use Rattle.em_tree.proofs.FinishCall.{call_given, call_given_costs, call_left, call_left_costs}
+use Rattle.em_tree.proofs.FinishCall.{call_given, call_given_costs, call_given_full, call_left, call_left_costs, call_left_full}
 use Rattle.em_tree.proofs.SettlingBegins.{begins_finishes, begins_works}
 use Rattle.em_tree.proofs.tree.Tree.finish.Goals as goal
 
@@ -12,6 +12,16 @@ pub finish_blocks-requires-clause-finish : goal.finish_blocks-requires-clause-fi
 finish_blocks-requires-clause-finish g c =
     begins_finishes c.shape.result c.shape.ensures c.count_settling.ensures c.requires.sound c.requires.is
 
+pub returns-in-Ok-clause-full : goal.returns-in-Ok-clause-full
+returns-in-Ok-clause-full g c =
+    let settle = c.args.self.settle in
+    call_given_full (g.S.Settle.key_of settle) (g.S.Settle.step_of settle) (g.S.Settle.IsOp settle)
+    (g.S.Settle.IsKept settle) (seen g.D.Device.state c.args.rig.now)
+    (seen g.D.Device.state c.finish_blocks.new.rig) (seen g.D.Device.state c.into_answers.new.rig)
+    c.args.self.trunk c.count_settling.new.self c.finish_blocks.new.trunk c.shape.result c.shape.ensures
+    c.count_settling.ensures c.requires.sound c.requires.few c.requires.is c.into_answers.result
+    c.in-Ok.ensures.finishes c.into_answers.ensures
+
 pub returns-in-Ok-clause-finishes : goal.returns-in-Ok-clause-finishes
 returns-in-Ok-clause-finishes g c =
     let settle = c.args.self.settle in
@@ -20,7 +30,7 @@ returns-in-Ok-clause-finishes g c =
     (seen g.D.Device.state c.finish_blocks.new.rig) (seen g.D.Device.state c.into_answers.new.rig)
     c.args.self.trunk c.count_settling.new.self c.finish_blocks.new.trunk c.shape.result c.shape.ensures
     c.count_settling.ensures c.requires.sound c.requires.few c.requires.is c.into_answers.result
-    c.in-Ok.ensures c.into_answers.ensures
+    c.in-Ok.ensures.finishes c.into_answers.ensures
 
 pub returns-in-Ok-clause-costs : goal.returns-in-Ok-clause-costs
 returns-in-Ok-clause-costs g c =
@@ -30,7 +40,17 @@ returns-in-Ok-clause-costs g c =
     (seen g.D.Device.state c.finish_blocks.new.rig) (seen g.D.Device.state c.into_answers.new.rig)
     c.args.self.trunk c.count_settling.new.self c.finish_blocks.new.trunk c.shape.result c.shape.ensures
     c.count_settling.ensures c.requires.sound c.requires.few c.requires.is c.into_answers.result
-    c.in-Ok.ensures c.into_answers.ensures
+    c.in-Ok.ensures.finishes c.into_answers.ensures c.in-Ok.ensures.unused
+
+pub returns-clause-full : goal.returns-clause-full
+returns-clause-full g c =
+    let settle = c.args.self.settle in
+    call_left_full (g.S.Settle.key_of settle) (g.S.Settle.step_of settle) (g.S.Settle.IsOp settle)
+    (g.S.Settle.IsKept settle) (seen g.D.Device.state c.args.rig.now)
+    (seen g.D.Device.state c.finish_blocks.new.rig) (seen g.D.Device.state c.abandon.new.rig)
+    c.args.self.trunk c.count_settling.new.self c.finish_blocks.new.trunk c.shape.result c.shape.ensures
+    c.count_settling.ensures c.requires.sound c.requires.few c.requires.is c.in-Err.fault c.in-Err.ensures.finishes
+    c.abandon.ensures c.in-Err.ensures.full
 
 pub returns-clause-finishes : goal.returns-clause-finishes
 returns-clause-finishes g c =
@@ -39,7 +59,7 @@ returns-clause-finishes g c =
     (g.S.Settle.IsKept settle) (seen g.D.Device.state c.args.rig.now)
     (seen g.D.Device.state c.finish_blocks.new.rig) (seen g.D.Device.state c.abandon.new.rig)
     c.args.self.trunk c.count_settling.new.self c.finish_blocks.new.trunk c.shape.result c.shape.ensures
-    c.count_settling.ensures c.requires.sound c.requires.few c.requires.is c.in-Err.fault c.in-Err.ensures
+    c.count_settling.ensures c.requires.sound c.requires.few c.requires.is c.in-Err.fault c.in-Err.ensures.finishes
     c.abandon.ensures
 
 pub returns-clause-costs : goal.returns-clause-costs
@@ -49,5 +69,5 @@ returns-clause-costs g c =
     (g.S.Settle.IsKept settle) (seen g.D.Device.state c.args.rig.now)
     (seen g.D.Device.state c.finish_blocks.new.rig) (seen g.D.Device.state c.abandon.new.rig)
     c.args.self.trunk c.count_settling.new.self c.finish_blocks.new.trunk c.shape.result c.shape.ensures
-    c.count_settling.ensures c.requires.sound c.requires.few c.requires.is c.in-Err.fault c.in-Err.ensures
-    c.abandon.ensures
+    c.count_settling.ensures c.requires.sound c.requires.few c.requires.is c.in-Err.fault c.in-Err.ensures.finishes
+    c.abandon.ensures c.in-Err.ensures.unused

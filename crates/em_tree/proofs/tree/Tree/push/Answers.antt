@@ -1,6 +1,6 @@
 use Rattle.em_space.specs.Seen.{seen}
 use Rattle.em_tree.proofs.PushBegins.{call_can, call_works}
-use Rattle.em_tree.proofs.PushEnds.{call_counts, call_pushes}
+use Rattle.em_tree.proofs.PushEnds.{call_counts, call_needs, call_pushes}
 use Rattle.em_tree.proofs.tree.Tree.push.Goals as goal
 
 pub push_op-pushed-requires-clause-can : goal.push_op-pushed-requires-clause-can
@@ -37,6 +37,16 @@ returns-clause-pushes g c =
       stays_below = g.met.S.Settle.stays_below settle;
     })
     c.requires.op c.requires.later
+
+pub returns-clause-needs : goal.returns-clause-needs
+returns-clause-needs g c =
+    let settle = c.args.self.now.settle in
+    call_needs (g.S.Settle.key_of settle) (g.S.Settle.step_of settle) (g.S.Settle.IsOp settle)
+    (g.S.Settle.IsKept settle) c.args.op (seen g.D.Device.state c.args.rig.now)
+    (seen g.D.Device.state c.push_op-pushed.new.rig) c.args.self.now.trunk c.push_op-pushed.new.trunk
+    c.requires.sound c.requires.few c.requires.is c.count_push.new.self c.count_moves.new.self
+    c.shape.result c.moves-before.result c.shape.ensures c.moves-before.ensures c.count_push.ensures
+    c.count_moves.ensures c.push_op-pushed.result c.push_op-pushed.ensures.pushes
 
 pub returns-clause-counts : goal.returns-clause-counts
 returns-clause-counts g c =

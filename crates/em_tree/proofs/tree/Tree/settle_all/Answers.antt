@@ -1,6 +1,6 @@
 use Rattle.std.proofs.Common.{refl}
 use Rattle.em_space.specs.Seen.{seen}
-use Rattle.em_tree.proofs.SettleCall.{call_counts, call_later, call_settles, call_spent}
+use Rattle.em_tree.proofs.SettleCall.{call_counts, call_later, call_needs, call_settles, call_spent}
 use Rattle.em_tree.proofs.SettlingBegins.{begins_settles, begins_works}
 use Rattle.em_tree.proofs.tree.Tree.settle_all.Goals as goal
 
@@ -48,6 +48,16 @@ pub returns-clause-counts : goal.returns-clause-counts
 returns-clause-counts g c =
     let settle = c.args.self.now.settle in
     call_counts (g.S.Settle.key_of settle) (g.S.Settle.step_of settle) (g.S.Settle.IsOp settle)
+    (g.S.Settle.IsKept settle) (seen g.D.Device.state c.args.rig.now)
+    (seen g.D.Device.state c.settle_tree-settled.new.rig) c.args.self.now.trunk c.count_settling.new.self
+    c.settle_tree-settled.new.trunk c.count_moves.new.self c.moves-before.result _ c.shape.result
+    c.shape.ensures c.count_settling.ensures c.moves-before.ensures c.requires.sound c.requires.is
+    c.settle_tree-settled.result c.settle_tree-settled.ensures.settles c.count_moves.ensures refl
+
+pub returns-clause-needs : goal.returns-clause-needs
+returns-clause-needs g c =
+    let settle = c.args.self.now.settle in
+    call_needs (g.S.Settle.key_of settle) (g.S.Settle.step_of settle) (g.S.Settle.IsOp settle)
     (g.S.Settle.IsKept settle) (seen g.D.Device.state c.args.rig.now)
     (seen g.D.Device.state c.settle_tree-settled.new.rig) c.args.self.now.trunk c.count_settling.new.self
     c.settle_tree-settled.new.trunk c.count_moves.new.self c.moves-before.result _ c.shape.result
