@@ -1,0 +1,17 @@
+pub mod EndCalls
+pub mod Endings
+pub mod Items
+pub mod Least
+pub mod Makes
+pub mod Overs
+pub mod Parts
+pub mod PopCalls
+pub mod PushCalls
+pub mod Pushed
+pub mod Puts
+pub mod Refills
+pub mod Rising
+pub mod Serves
+pub mod Shares
+pub mod Spills
+pub mod Working

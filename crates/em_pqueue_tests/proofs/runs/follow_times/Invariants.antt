@@ -1,0 +1,15 @@
+use Rattle.std.proofs.Common.{◌*◌, ◌^◌, ◌≤◌}
+use Rattle.std.specs.Prelude.{Ok}
+use Rattle.em_space.specs.Seen.{seen}
+use Rattle.em_pqueue_tests.specs.Ready.{KeepsQueue}
+use Rattle.em_pqueue_tests.proofs.runs.follow_times.Given as goal
+
+abbrev pub invariant-loop : goal.invariant-loop
+invariant-loop g l =
+    let now = seen g.D.Device.state l.rig in
+    record {
+      kept : KeepsQueue {T = Unit {0}} (2 ^ 20 * l.counter) (seen g.D.Device.state l.fn.rig) now
+          (g.Q.Queue.counts l.fn.queue) (g.Q.Queue.counts l.queue)
+          (g.Q.Queue.HasItsFrames l.queue now) (g.Q.Queue.IsQueue l.queue now) (Ok tt);
+      within : l.counter ≤ l.fn.times;
+    }
