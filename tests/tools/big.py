@@ -9,8 +9,8 @@ tests/tools/big.py --compare KIND COUNT       runs the baselines on such a file,
 tests/tools/big.py --plain KIND COUNT         compares the baselines with the plain answers of made.py and aiger.py, without the
                                               program; those that sort also with blocks of 4 records and 3 frames
 
-Options, anywhere: --asks=PERCENT of the commands are gets, pops or stabs (25); --keys=N, keys and points are below it (COUNT);
---start=N, another file of the same kind (1).
+Options, anywhere: --asks=PERCENT of the commands are gets, pops or stabs (25), also as 0.1; --keys=N, keys and points are below
+it (COUNT); --start=N, another file of the same kind (1).
 
 The program is the one that `rt ci` or `./emtool` built, or the one that EMTOOL names.
 """
@@ -189,7 +189,8 @@ def compare(kind, count, options, with_program):
 
 def main(words):
     try:
-        options = {name[2:]: int(it) for name, _, it in (word.partition("=") for word in words if "=" in word)}
+        options = {name[2:]: it for name, _, it in (word.partition("=") for word in words if "=" in word)}
+        options = {name: float(it) if name == "asks" else int(it) for name, it in options.items()}
         words = [word for word in words if "=" not in word]
         mode = words.pop(0) if words[0] in ("--compare", "--plain") else None
         kind, count, paths = words[0], int(words[1]), words[2:]

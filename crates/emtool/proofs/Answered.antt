@@ -9,7 +9,7 @@ use Rattle.em_model.specs.Stab.{stab_answers}
 use Rattle.em_model.specs.declared.command.Command.{Command}
 use Rattle.em_model.specs.declared.command.Command.TheVariants.{Put, Del, Get, Push, Pop, Interval, Stab}
 use Rattle.em_model.specs.MapAnswers.{answer_record, get_numbers, with_numbers}
-use Rattle.em_plain.specs.StabAnswers.{pair_record, pairs_from, stab_pairs}
+use Rattle.em_model.specs.StabAnswers.{pair_record, pairs_from, stab_pairs}
 use Rattle.emtool.specs.Answer.{map_text, stab_text, text_for}
 use Rattle.emtool.specs.Print.{answer_in, answers_in, groups_from, intervals_at, pairs_behind, records_text}
 use Rattle.emtool.specs.RunSize.{pairs_reported}

@@ -1,24 +1,20 @@
--- From a circuit's text to its graph: what is made is all that is on the rig, and has the room of an
--- evaluation that made no step.
+-- From a circuit's text to its graph: what is made, and a queue beside it, is all that is on the rig.
 use Rattle.std.proofs.Common.{◌≡◌, ℕ, ◌+◌, ◌-◌, ◌*◌, ◌<◌, ◌≤◌, ◌^◌, max, ◌⊎◌, inl, inr, ⊎_elim, Bool, List, [], ◌++◌, ap, sym, subst, ◌∙◌, arith, IsTrue, Ok, Err}
 use Rattle.em_record.specs.Shape.{ShapeNumbers, payload_of}
-use Rattle.em_frames.specs.Pool.{LentFrames}
 use Rattle.em_io.specs.declared.shelf.Slot.TheVariants.{First}
 use Rattle.em_space.specs.Ledger.{Session}
-use Rattle.em_space.specs.Queue.{Pays, QueueCounts}
+use Rattle.em_space.specs.Queue.{Pays, QueueCounts, Shares}
 use Rattle.em_space.specs.Rig.{Cause, Goes, Owes, RigState, Sound, Touches}
 use Rattle.em_space.specs.declared.fault.EmFault.{EmFault}
 use Rattle.em_space.specs.declared.fault.EmFault.TheVariants as em
+use Rattle.em_space.specs.declared.queue.Queue.{Ghosts as QueueGhosts}
 use Rattle.em_space.proofs.Held.{apart_none}
-use Rattle.em_space.proofs.Paying.{owes_of_pays, pays_kept, pays_of_owes, pays_then}
-use Rattle.em_space.proofs.Sessions.{session_as, session_still, session_trans}
+use Rattle.em_space.proofs.Paying.{owes_of_pays, pays_of_owes, pays_then}
+use Rattle.em_space.proofs.Sessions.{session_trans}
 use Rattle.em_space.proofs.Steps.{cause_after}
 use Rattle.em_space.proofs.Within.{touches_within}
 use Rattle.em_chain.specs.Chain.{payload_in}
 use Rattle.em_chain.specs.Counts.{ceiling}
-use Rattle.em_chain.specs.Effects.{LendsFrame, Unmoved}
-use Rattle.em_plain.specs.ScanQueue.{QueueHasFrame, counts_of, fresh_counts}
-use Rattle.em_plain.specs.declared.scan_queue.ScanQueue.{ScanQueue}
 use Rattle.aig_defs.specs.declared.circuit.Header.{Header}
 use Rattle.aig_defs.specs.Begun.{circuit_size, text_size}
 use Rattle.aig_defs.specs.Circuit.{Circuit}
@@ -34,26 +30,29 @@ use Rattle.aig_text.specs.declared.stop.AigStop.{AigStop}
 use Rattle.aig_text.specs.declared.stop.AigStop.TheVariants as stop
 use Rattle.aig_text.proofs.PartsLaws.{parts_of, parts_stay}
 use Rattle.aig_edges.specs.Build.{UsesUp, parts_size}
-use Rattle.aig_edges.specs.BuildGraph.{BuildsGraph, CalledInRuns, StopsBuilding, StoresSorted, sort_calls, sort_peak, sort_run}
+use Rattle.aig_edges.specs.BuildGraph.{BuildsGraph, StopsBuilding, StoresSorted}
 use Rattle.aig_edges.specs.Graph.{IsGraph, IsGraphOf, edge_count, graph_blocks, graph_size}
 use Rattle.aig_edges.specs.declared.graph.Graph.{Graph}
 use Rattle.aig_edges.proofs.GraphLaws.{GraphStays, graph_stays}
+use Rattle.aig_forward.specs.Evaluator.{without_frames}
 use Rattle.aig_order.specs.OrderGraph.{OfDefinedCircuit}
 use Rattle.aig_bin.specs.EitherForm.{ReadsEither, SpellsEither}
-use Rattle.emtool.specs.EvalSize.{eval_room, given_of}
+use Rattle.emtool.specs.EvalSize.{given_of}
 use Rattle.emtool.specs.Evaluation.{CircuitCause, FillsEval}
+use Rattle.emtool.specs.Queues.{FailsToMake, MakesQueue}
 use Rattle.emtool.specs.Service.{IsUnused}
 use Rattle.emtool.specs.Stop.{IfStopsFull, circuit_stop, fault_counts}
 use Rattle.emtool.specs.declared.stop.Stop.{Stop}
 use Rattle.emtool.specs.declared.stop.Stop.TheVariants.{Em}
 use Rattle.emtool.proofs.Circuit.{ReadsFrom, given_least, left_first, read_of, text_of}
-use Rattle.emtool.proofs.CircuitCosts.{GraphFills, build_fits, read_fits}
+use Rattle.emtool.proofs.CircuitCosts.{GraphFills, PartsFill}
+use Rattle.emtool.proofs.Queues.{frames_back, frames_lent, session_made}
 
 -- No edges were made, by the text at first and at the end.
 pub record StopsAt (tells : Bool) (a d : Source) (s t : RigState) (stop : Stop) : Type 0 where
   pub cause : CircuitCause tells (text_of a) (fault_counts a.faults 0) (fault_counts d.faults 0) s t
       stop
-  pub full : IfStopsFull stop (FillsEval tells (read_of a d) 0 t)
+  pub full : IfStopsFull stop (FillsEval t)
 
 -- a full rig on which few blocks weren't stored
 fills_paid : {s t : RigState} (n used : ℕ) → IsUnused s → Owes n s t → used ≡ t.used
@@ -67,10 +66,9 @@ fills_paid {s} {t} n used unused owes same few =
 -- a call on the rig gave up, on a rig of which no block was in use at first
 pub stops_em : {tells : Bool} {a d : Source} {s t : RigState} (n : ℕ) (fault : EmFault)
     → IsUnused s → Sound t → Cause s t fault → Owes n s t → n ≤ t.pool.shape.frames + 2
-    → (IsTrue tells → t.most ≤ eval_room t.pool.shape (read_of a d) 0)
     → StopsAt tells a d s t (Em fault)
-stops_em n em.DeviceFault unused sound cause owes few most = record { cause = cause; full = tt }
-stops_em {t = t} n (em.Full used) unused sound cause owes few most = record {
+stops_em n em.DeviceFault unused sound cause owes few = record { cause = cause; full = tt }
+stops_em {t = t} n (em.Full used) unused sound cause owes few = record {
   cause = cause;
   full =
       let all = cause.0 in
@@ -78,14 +76,22 @@ stops_em {t = t} n (em.Full used) unused sound cause owes few most = record {
       let low = sound.shape.frames_low in
       record {
         paid = fills_paid n used unused owes (omega (arith, all, full)) (omega (arith, few, low));
-        size_is = λ z. omega (arith, all, full, sound.numbers.used_most, most z);
       };
 }
-stops_em n (em.Damaged block) unused sound cause owes few most =
-    record { cause = cause; full = tt }
+stops_em n (em.Damaged block) unused sound cause owes few = record { cause = cause; full = tt }
+
+-- no queue was made beside what was made so far
+pub unmade_stops : {tells : Bool} {a d : Source} {s t u : RigState} (fault : EmFault) → IsUnused s
+    → Goes [] s t → Pays 0 0 s t → FailsToMake t u fault → StopsAt tells a d s u (Em fault)
+unmade_stops {s = s} {t = t} {u = u} fault unused goes pays stops =
+    let all = pays_then pays stops.pays stops.goes.touches.moves in
+    let low = stops.goes.sound.shape.frames_low in
+    stops_em 1 fault unused stops.goes.sound
+    (cause_after [] s t u fault goes.touches stops.cause) (owes_of_pays 0 1 1 all (omega arith))
+    (omega (arith, low))
 
 -- what was taken, by the size of what was read of the first slot
-takes_first : {tells : Bool} {a d : Source} {s t : RigState} → ReadsFrom tells a d
+pub takes_first : {tells : Bool} {a d : Source} {s t : RigState} → ReadsFrom tells a d
     → (IsTrue tells → (given : ℕ) → d.feed.place ≤ given
     → TakesAtMost (text_size given (left a)) s t)
     → IsTrue tells → TakesAtMost (read_of a d) s t
@@ -105,21 +111,7 @@ text_stops {tells} {a} {d} (stop.Fault kind place) unused r h = record {
 text_stops stop.Read unused r h = record { cause = h.read; full = tt }
 text_stops {tells} {a} {d} {s} {t} (stop.Em fault) unused r h =
     let low = h.goes.sound.shape.frames_low in
-    stops_em 3 fault unused h.goes.sound h.cause h.owes (omega (arith, low)) most
-  where
-    most : IsTrue tells → t.most ≤ eval_room t.pool.shape (read_of a d) 0
-    most z =
-        let takes = (takes_first r h.takes z).most in
-        let same : ceiling (read_of a d) (payload_in s) ≡ ceiling (read_of a d) (payload_in t) =
-        ap (λ (x : ShapeNumbers). ceiling (read_of a d) (payload_of x)) (sym h.goes.touches.shape) in
-        omega (arith, takes, same, unused.used, unused.none_ever, read_fits t.pool.shape (read_of a d))
-
--- The lists of a circuit's parts are packed.
-pub record PartsFill (u : RigState) (p : Parts) : Type 0 where
-  pub defs : p.defs.blocks
-      ≡ ceiling (p.header.inputs + p.header.latches + p.header.gates) (payload_in u)
-  pub gates : p.gates.blocks ≡ ceiling p.header.gates (payload_in u)
-  pub uses : p.uses.blocks ≡ ceiling (p.header.latches + p.header.outputs) (payload_in u)
+    stops_em 3 fault unused h.goes.sound h.cause h.owes (omega (arith, low))
 
 -- The text spells a circuit, which has the parts' header. If the device tells, they are its parts.
 pub record SpellsParts (told : Bool) (text : List ℕ) (u : RigState) (p : Parts) : Type 0 where
@@ -129,25 +121,25 @@ pub record SpellsParts (told : Bool) (text : List ℕ) (u : RigState) (p : Parts
   pub header : circuit.header ≡ p.header
   pub are : IsTrue told → ArePartsOf u p circuit
 
--- The parts were read from the whole text, and a frame was lent. Their blocks are all that is in use.
-pub record HasParts (tells : Bool) (a d : Source) (s u : RigState) (p : Parts) : Type 0 where
+-- The parts were read from the whole text, and a queue with these numbers and blocks was made. Its blocks
+-- and theirs are all that is in use.
+pub record HasParts (tells : Bool) (a d : Source) (s u : RigState) (p : Parts) (c : QueueCounts)
+    (ks : List ℕ) : Type 0 where
   pub sound : Sound u
   pub is : IsParts u p
   pub fill : PartsFill u p
-  pub session : Session [] s u (parts_blocks u p)
-  pub frames : LentFrames 1 s.pool u.pool
-  pub used : u.used ≡ parts_size p
-  pub pays : Pays 0 0 s u
-  pub most : IsTrue tells → u.most ≤ ceiling (circuit_size p.header) (payload_in u) + 2
+  pub session : Session [] s u (ks ++ parts_blocks u p)
+  pub frames : Shares (without_frames c) c s.pool u.pool
+  pub used : u.used ≡ c.blocks + parts_size p
+  pub pays : Pays 0 c.unstored s u
   pub spells : IsTrue tells → SpellsParts s.device.told (text_of a) u p
   pub size : IsTrue tells → read_of a d ≡ circuit_size p.header
 
 module _ {tells : Bool} {a d : Source} {s t u : RigState} (p : Parts) (unused : IsUnused s)
-    (r : ReadsFrom tells a d) (h : ReadsEither tells a d s t (Ok p)) (lends : LendsFrame t u)
-    (unmoved : Unmoved t u) where
+    (r : ReadsFrom tells a d) (h : ReadsEither tells a d s t (Ok p)) (touches : Touches [] t u) where
   -- a block has as many records as before
   same_payload : payload_in t ≡ payload_in u
-  same_payload = ap (λ (x : ShapeNumbers). payload_of x) (sym lends.touches.shape)
+  same_payload = ap (λ (x : ShapeNumbers). payload_of x) (sym touches.shape)
 
   -- what the first slot's text spells
   spells_first : IsTrue tells → SpellsEither (text_of a) d t p
@@ -158,23 +150,11 @@ module _ {tells : Bool} {a d : Source} {s t u : RigState} (p : Parts) (unused : 
   read_whole z =
       (spells_first z).size (given_of (d.stand.slot First) (text_of a)) (given_least r z)
 
-  -- at no moment more blocks were in use than its lists may take
-  parts_most : IsTrue tells → u.most ≤ ceiling (circuit_size p.header) (payload_in u) + 2
-  parts_most z =
-      let takes = (takes_first r h.takes z).most in
-      let same : ceiling (read_of a d) (payload_in s)
-      ≡ ceiling (circuit_size p.header) (payload_in u) =
-      ap (λ (n : ℕ). ceiling n (payload_in s)) (read_whole z)
-      ∙ ap (λ (x : ShapeNumbers). ceiling (circuit_size p.header) (payload_of x))
-      (sym h.goes.touches.shape)
-      ∙ ap (λ (k : ℕ). ceiling (circuit_size p.header) k) same_payload in
-      omega (arith, takes, same, unused.used, unused.none_ever, unmoved.same.most)
-
   -- the parts are those of the circuit that the text spells
   parts_spelled : IsTrue tells → SpellsParts s.device.told (text_of a) u p
   parts_spelled z =
       let g = spells_first z in
-      let kept = parts_stay [] t u p lends.touches (λ w. apart_none (parts_blocks t p))
+      let kept = parts_stay [] t u p touches (λ w. apart_none (parts_blocks t p))
       (parts_of h.parts) in
       record {
         circuit = g.circuit;
@@ -186,16 +166,15 @@ module _ {tells : Bool} {a d : Source} {s t u : RigState} (p : Parts) (unused : 
             kept.are still g.circuit (g.are still);
       }
 
-  -- The parts were read.
-  pub has_parts : HasParts tells a d s u p
-  has_parts =
+  -- The parts were read, and a queue was made.
+  pub has_parts : {Q : Type 0} {queue : QueueGhosts Q} {q : Q} → MakesQueue queue t u q
+      → HasParts tells a d s u p (queue.counts q) (queue.blocks q u)
+  has_parts {queue = queue} {q = q} m =
       let g = h.parts in
-      let kept = parts_stay [] t u p lends.touches (λ w. apart_none (parts_blocks t p)) (parts_of g) in
-      let x = h.goes.frames in
-      let y = lends.frames in
+      let kept = parts_stay [] t u p touches (λ w. apart_none (parts_blocks t p)) (parts_of g) in
       let told = g.blocks.touches.told in
       record {
-        sound = lends.sound;
+        sound = m.session.sound;
         is = kept.is;
         fill = record {
           defs = g.defs.blocks_is
@@ -205,101 +184,45 @@ module _ {tells : Bool} {a d : Source} {s t u : RigState} (p : Parts) (unused : 
           uses = g.uses.blocks_is
               ∙ ap (λ (k : ℕ). ceiling (p.header.latches + p.header.outputs) k) same_payload;
         };
-        session = session_as (parts_blocks u p)
-            (session_trans g.blocks (session_still (parts_blocks t p) lends.sound lends.touches
-            (λ z. g.blocks.holds (sym told ∙ z))))
-            (λ z. kept.blocks (told ∙ z));
-        frames = record {
-          shape = y.shape ∙ x.shape;
-          free = y.free ∙ x.free;
-          rack = y.rack ∙ x.rack;
-          free_areas = y.free_areas ∙ x.free_areas;
-          peak = omega (arith, x.peak, y.peak);
-        };
-        used = omega (arith, unmoved.same.used, g.used, unused.used);
-        pays = pays_then (pays_of_owes 0 0 0 h.owes (omega arith))
-            (pays_kept 0 (omega (arith, unmoved.same.used)) (omega (arith, unmoved.moves)))
-            (omega (arith, unmoved.moves));
-        most = parts_most;
+        session = session_made (queue.blocks q u) (parts_blocks t p) (parts_blocks u p) g.blocks
+            m.session (λ z. kept.blocks (told ∙ z));
+        frames = frames_lent (queue.counts q) s.pool t.pool u.pool h.goes.frames m.frames;
+        used = omega (arith, m.used, g.used, unused.used);
+        pays = pays_then (pays_of_owes 0 0 0 h.owes (omega arith)) m.pays m.session.touches.moves;
         spells = parts_spelled;
         size = read_whole;
       }
 
--- A queue that was lent a frame was used up: all frames are back, and no block that was in use at first
--- was changed.
-pub ends_goes : {s u v : RigState} {ks : List ℕ} (c : QueueCounts) (js : List ℕ)
-    → c ≡ fresh_counts 1 0 → ks ≡ [] → Session [] s u js → LentFrames 1 s.pool u.pool
-    → UsesUp (ks ++ js) c u v → Goes [] s v
-ends_goes {s} {u} {v} c js fresh none session x up =
-    let touches : Touches js u v = subst (λ (l : List ℕ). Touches (l ++ js) u v) none up.touches in
-    let y = up.frames in
-    let frames : c.frames ≡ 1 = ap (λ (k : QueueCounts). k.frames) fresh in
-    let areas : c.areas ≡ 0 = ap (λ (k : QueueCounts). k.areas) fresh in
-    record {
-      sound = up.sound;
-      touches = touches_within s u v [] js session.touches session.within touches;
-      frames = record {
-        shape = y.shape ∙ x.shape;
-        free = omega (arith, x.free, y.free, frames);
-        rack = y.rack ∙ x.rack;
-        free_areas = omega (arith, x.free_areas, y.areas, areas);
-        peak = omega (arith, x.peak, y.peak);
-      };
-    }
-
--- The most that was held until the queue was used up.
-pub build_most : {tells : Bool} {a d : Source} {s u : RigState} {p : Parts} (v : RigState)
-    (last : ScanQueue) (then : RigState) (c : QueueCounts) → HasParts tells a d s u p
-    → c ≡ fresh_counts 1 0
-    → QueueHasFrame then last → then.pool.shape ≡ u.pool.shape
-    → CalledInRuns (sort_calls p.header) (sort_run p.header) c (counts_of last)
-    → v.most + (c.blocks + parts_size p) ≤ max (u.most + (c.blocks + parts_size p))
-    (u.used + (last.most + sort_peak u p))
-    → v.pool.shape ≡ u.pool.shape → IsTrue tells
-    → v.most ≤ eval_room v.pool.shape (read_of a d) 0
-build_most {tells} {a} {d} {s} {u} {p} v last then c h fresh frame shape called most same z =
-    let low = h.sound.shape.block_low in
-    let some : 0 < payload_of u.pool.shape = omega (arith, low) in
-    let k : c.k ≡ 0 = ap (λ (x : QueueCounts). x.k) fresh in
-    let since : c.since ≡ 0 = ap (λ (x : QueueCounts). x.since) fresh in
-    let few : last.longest ≤ sort_run p.header = omega (arith, called.k, k, since) in
-    let fits = build_fits u.pool.shape p.header some last.longest p.defs.blocks p.gates.blocks
-    p.uses.blocks few h.fill.defs h.fill.gates h.fill.uses in
-    let held : last.most ≤ ceiling last.longest (payload_of u.pool.shape) + 1 =
-    subst (λ (x : ShapeNumbers). last.most ≤ ceiling last.longest (payload_of x) + 1) shape
-    frame.most_most in
-    let room : eval_room v.pool.shape (read_of a d) 0
-    ≡ eval_room u.pool.shape (circuit_size p.header) 0 =
-    ap (λ (x : ShapeNumbers). eval_room x (read_of a d) 0) same
-    ∙ ap (λ (k : ℕ). eval_room u.pool.shape k 0) (h.size z) in
-    let first = read_fits u.pool.shape (circuit_size p.header) in
-    omega (arith, fits, held, room, first, h.most z, h.used, most)
+-- A queue that was made was used up: all frames are back, and no block that was in use at first was
+-- changed.
+pub ends_goes : {s u v : RigState} (c : QueueCounts) (held : List ℕ) → Session [] s u held
+    → Shares (without_frames c) c s.pool u.pool → UsesUp held c u v → Goes [] s v
+ends_goes {s} {u} {v} c held session lent up = record {
+  sound = up.sound;
+  touches = touches_within s u v [] held session.touches session.within up.touches;
+  frames = frames_back c s.pool u.pool v.pool lent up.frames;
+}
 
 -- a call that used a queue up gave up on the rig
 pub used_up_stops : {tells : Bool} {a d : Source} {s u v : RigState} {held : List ℕ} (c : QueueCounts)
-    (fault : EmFault) → IsUnused s → Touches [] s u → Pays 0 0 s u → c ≡ fresh_counts 1 0
+    (fault : EmFault) → IsUnused s → Touches [] s u → Pays 0 c.unstored s u
     → UsesUp held c u v → Cause u v fault → Pays c.unstored (u.pool.shape.frames + 2) u v
-    → (IsTrue tells → v.most ≤ eval_room v.pool.shape (read_of a d) 0)
     → StopsAt tells a d s v (Em fault)
-used_up_stops {s = s} {u = u} {v = v} c fault unused touches first fresh up cause pays most =
-    let none : c.unstored ≡ 0 = ap (λ (x : QueueCounts). x.unstored) fresh in
-    let own : Pays 0 (u.pool.shape.frames + 2) u v =
-    subst (λ (n : ℕ). Pays n (u.pool.shape.frames + 2) u v) none pays in
-    let all = pays_then first own up.touches.moves in
+used_up_stops {s = s} {u = u} {v = v} c fault unused touches first up cause pays =
+    let all = pays_then first pays up.touches.moves in
     let frames : v.pool.shape.frames ≡ u.pool.shape.frames =
     ap (λ (x : ShapeNumbers). x.frames) up.touches.shape in
     stops_em (u.pool.shape.frames + 2) fault unused up.sound (cause_after [] s u v fault touches cause)
     (owes_of_pays 0 (u.pool.shape.frames + 2) (u.pool.shape.frames + 2) all (omega arith))
-    (omega (arith, frames)) most
+    (omega (arith, frames))
 
 -- no graph was made
 pub build_stops : {tells : Bool} {a d : Source} {s u v : RigState} {p : Parts} {held : List ℕ}
-    (c : QueueCounts) (e : AigStop) → IsUnused s → HasParts tells a d s u p
-    → c ≡ fresh_counts 1 0 → UsesUp held c u v → StopsBuilding u p (Err e)
+    {ks : List ℕ} (c : QueueCounts) (e : AigStop) → IsUnused s → HasParts tells a d s u p c ks
+    → UsesUp held c u v → StopsBuilding u p (Err e)
     → IfEm {A = Graph} (Err e) (Cause u v) → Pays c.unstored (u.pool.shape.frames + 2) u v
-    → (IsTrue tells → v.most ≤ eval_room v.pool.shape (read_of a d) 0)
     → StopsAt tells a d s v (circuit_stop e)
-build_stops {a = a} {u = u} {p = p} c (stop.Fault kind place) unused h fresh up stops cause pays most =
+build_stops {a = a} {u = u} {p = p} c (stop.Fault kind place) unused h up stops cause pays =
     record {
       cause = λ z told.
           let sp = h.spells z in
@@ -307,9 +230,9 @@ build_stops {a = a} {u = u} {p = p} c (stop.Fault kind place) unused h fresh up 
           (stops.found (h.session.touches.told ∙ told) sp.circuit (sp.are told));
       full = tt;
     }
-build_stops c stop.Read unused h fresh up stops cause pays most = absurd stops
-build_stops c (stop.Em fault) unused h fresh up stops cause pays most =
-    used_up_stops c fault unused h.session.touches h.pays fresh up cause pays most
+build_stops c stop.Read unused h up stops cause pays = absurd stops
+build_stops c (stop.Em fault) unused h up stops cause pays =
+    used_up_stops c fault unused h.session.touches h.pays up cause pays
 
 -- The text spells a circuit, which has the graph's header. If the device tells, nothing in it is defined
 -- twice or used undefined, and the graph is its own.
@@ -321,45 +244,42 @@ pub record SpellsGraph (told : Bool) (text : List ℕ) (w : RigState) (g : Graph
   pub defined : IsTrue told → IsDefined circuit
   pub is : IsTrue told → IsGraphOf w g circuit
 
--- The graph was made, and a frame was lent. Its blocks are all that is in use.
-pub record HasGraph (tells : Bool) (a d : Source) (s w : RigState) (g : Graph) : Type 0 where
+-- The graph was made, and then a queue with these numbers and blocks. Their blocks are all that is in use.
+pub record HasGraph (tells : Bool) (a d : Source) (s w : RigState) (g : Graph) (c : QueueCounts)
+    (ks : List ℕ) : Type 0 where
   pub sound : Sound w
   pub is : IsGraph w g
   pub fill : GraphFills w g
-  pub session : Session [] s w (graph_blocks w g)
-  pub frames : LentFrames 1 s.pool w.pool
-  pub used : w.used ≡ graph_size g
-  pub pays : Pays 0 0 s w
-  pub most : IsTrue tells → w.most ≤ eval_room w.pool.shape (read_of a d) 0
+  pub session : Session [] s w (ks ++ graph_blocks w g)
+  pub frames : Shares (without_frames c) c s.pool w.pool
+  pub used : w.used ≡ c.blocks + graph_size g
+  pub pays : Pays 0 c.unstored s w
   pub spells : IsTrue tells → SpellsGraph s.device.told (text_of a) w g
   pub defined : IsTrue w.device.told → OfDefinedCircuit w g
   pub size : IsTrue tells → read_of a d ≡ circuit_size g.header
 
 -- The queue was used up: all frames are back, and no block that was in use at first was changed.
-pub graph_goes : {tells : Bool} {a d : Source} {s u v : RigState} {p : Parts} {ks : List ℕ}
-    (c : QueueCounts) → HasParts tells a d s u p → c ≡ fresh_counts 1 0 → ks ≡ []
-    → UsesUp (ks ++ parts_blocks u p) c u v → Goes [] s v
-graph_goes {s = s} {u = u} {p = p} c h fresh none up =
-    ends_goes c (parts_blocks u p) fresh none h.session h.frames up
+pub graph_goes : {tells : Bool} {a d : Source} {s u v : RigState} {p : Parts} (c : QueueCounts)
+    (ks : List ℕ) → HasParts tells a d s u p c ks → UsesUp (ks ++ parts_blocks u p) c u v
+    → Goes [] s v
+graph_goes {u = u} {p = p} c ks h up = ends_goes c (ks ++ parts_blocks u p) h.session h.frames up
 
-module _ {tells : Bool} {a d : Source} {s u v w : RigState} {p : Parts} {ks : List ℕ}
-    (c : QueueCounts) (g : Graph) (h : HasParts tells a d s u p) (fresh : c ≡ fresh_counts 1 0)
-    (none : ks ≡ []) (up : UsesUp (ks ++ parts_blocks u p) c u v)
-    (builds : BuildsGraph (ks ++ parts_blocks u p) u v p g)
-    (lends : LendsFrame v w) (unmoved : Unmoved v w) where
+module _ {tells : Bool} {a d : Source} {s u v w : RigState} {p : Parts} (c : QueueCounts)
+    (ks : List ℕ) (g : Graph) (h : HasParts tells a d s u p c ks)
+    (up : UsesUp (ks ++ parts_blocks u p) c u v)
+    (builds : BuildsGraph (ks ++ parts_blocks u p) u v p g) (touches : Touches [] v w) where
   -- a block has as many records as before
   graph_payload : payload_in u ≡ payload_in w
   graph_payload =
-      ap (λ (x : ShapeNumbers). payload_of x) (sym (lends.touches.shape ∙ up.touches.shape))
+      ap (λ (x : ShapeNumbers). payload_of x) (sym (touches.shape ∙ up.touches.shape))
 
   -- its blocks weren't in use at first
   graph_session : Session [] s v (graph_blocks v g)
-  graph_session = session_trans h.session
-      (subst (λ (l : List ℕ). Session (l ++ parts_blocks u p) u v (graph_blocks v g)) none builds.blocks)
+  graph_session = session_trans h.session builds.blocks
 
-  -- it stays while the frame is lent
+  -- it stays while another queue is made
   graph_kept : GraphStays v w g
-  graph_kept = graph_stays [] v w g lends.touches (λ z. apart_none (graph_blocks v g)) builds.is
+  graph_kept = graph_stays [] v w g touches (λ z. apart_none (graph_blocks v g)) builds.is
 
   -- its lists are packed
   graph_fills : GraphFills w g
@@ -395,7 +315,7 @@ module _ {tells : Bool} {a d : Source} {s u v w : RigState} {p : Parts} {ks : Li
   -- in that circuit nothing is defined twice or used undefined
   graph_defined : IsTrue w.device.told → OfDefinedCircuit w g
   graph_defined told =
-      let then : IsTrue v.device.told = sym lends.touches.told ∙ told in
+      let then : IsTrue v.device.told = sym touches.told ∙ told in
       let before : IsTrue u.device.told = sym up.touches.told ∙ then in
       let some = h.is.stands before in
       let stands = builds.stands before in
@@ -405,42 +325,23 @@ module _ {tells : Bool} {a d : Source} {s u v w : RigState} {p : Parts} {ks : Li
         defined = stands.defined some.circuit some.are;
       }
 
-  -- The graph was made.
-  pub has_graph : StoresSorted c u v p (Ok g)
-      → (IsTrue tells → v.most ≤ eval_room v.pool.shape (read_of a d) 0)
-      → HasGraph tells a d s w g
-  has_graph stores most =
+  -- The graph was made, and then another queue.
+  pub has_graph : {Q : Type 0} {queue : QueueGhosts Q} {q : Q} → MakesQueue queue v w q
+      → StoresSorted c u v p (Ok g)
+      → HasGraph tells a d s w g (queue.counts q) (queue.blocks q w)
+  has_graph {queue = queue} {q = q} m stores =
       let used = stores.0 in
-      let blocks : c.blocks ≡ 0 = ap (λ (k : QueueCounts). k.blocks) fresh in
-      let unstored : c.unstored ≡ 0 = ap (λ (k : QueueCounts). k.unstored) fresh in
-      let goes = graph_goes c h fresh none up in
+      let goes = graph_goes c ks h up in
       let told = graph_session.touches.told in
-      let x = goes.frames in
-      let y = lends.frames in
       record {
-        sound = lends.sound;
+        sound = m.session.sound;
         is = graph_kept.is;
         fill = graph_fills;
-        session = session_as (graph_blocks w g)
-            (session_trans graph_session (session_still (graph_blocks v g) lends.sound lends.touches
-            (λ z. graph_session.holds (sym told ∙ z))))
-            (λ z. graph_kept.blocks (told ∙ z));
-        frames = record {
-          shape = y.shape ∙ x.shape;
-          free = y.free ∙ x.free;
-          rack = y.rack ∙ x.rack;
-          free_areas = y.free_areas ∙ x.free_areas;
-          peak = omega (arith, x.peak, y.peak);
-        };
-        used = omega (arith, used, blocks, h.used, unmoved.same.used);
-        pays = pays_then
-            (pays_then h.pays (subst (λ (n : ℕ). Pays n 0 u v) unstored stores.1) up.touches.moves)
-            (pays_kept 0 (omega (arith, unmoved.same.used)) (omega (arith, unmoved.moves)))
-            (omega (arith, unmoved.moves));
-        most = λ z.
-            let room : eval_room w.pool.shape (read_of a d) 0 ≡ eval_room v.pool.shape (read_of a d) 0 =
-            ap (λ (x : ShapeNumbers). eval_room x (read_of a d) 0) lends.touches.shape in
-            omega (arith, room, most z, unmoved.same.most);
+        session = session_made (queue.blocks q w) (graph_blocks v g) (graph_blocks w g) graph_session
+            m.session (λ z. graph_kept.blocks (told ∙ z));
+        frames = frames_lent (queue.counts q) s.pool v.pool w.pool goes.frames m.frames;
+        used = omega (arith, used, h.used, m.used);
+        pays = pays_then (pays_then h.pays stores.1 up.touches.moves) m.pays m.session.touches.moves;
         spells = graph_spelled;
         defined = graph_defined;
         size = λ z. h.size z ∙ ap (λ (k : Header). circuit_size k) (sym builds.header);

@@ -1,14 +1,15 @@
 -- How a run ends.
-use Rattle.std.proofs.Common.{◌≡◌, ℕ, ◌<◌, ◌≤◌, Bool, true, false, List, [], ap, sym, subst, ◌∙◌, arith, IsTrue, IsFalse}
+use Rattle.std.proofs.Common.{◌≡◌, ℕ, ◌+◌, ◌-◌, ◌*◌, ◌^◌, ◌⊎◌, ◌<◌, ◌≤◌, Bool, true, false, List, [], Option, Some, None, IfSome, ap, sym, subst, ◌∙◌, arith, IsTrue, IsFalse}
 use Rattle.em_record.specs.Shape.{ShapeNumbers}
+use Rattle.em_io.specs.Shelf.{SlotState}
+use Rattle.em_io.specs.declared.shelf.Slot.{Slot}
 use Rattle.em_io.specs.declared.shelf.Slot.TheVariants.{First}
 use Rattle.em_io.specs.Sink.{IsRule, SentPart}
 use Rattle.em_io.proofs.Sent.{part-of, sent-nothing}
 use Rattle.em_frames.specs.Device.{DeviceState}
 use Rattle.em_space.specs.Rig.{RigState, Sound, Touches}
 use Rattle.em_space.specs.declared.fault.EmFault.TheVariants as em
-use Rattle.em_plain.specs.Room.{plain_room}
-use Rattle.emtool.specs.Asked.{Asked, ToldIf, asked_of_file, counts_pairs}
+use Rattle.emtool.specs.Asked.{Asked, ToldIf, asked_of_file, limits_of}
 use Rattle.emtool.specs.FileDue.{due_status, output_text}
 use Rattle.emtool.specs.Run.{Ended, Outside, stop_status}
 use Rattle.emtool.specs.RunSize.{run_size}
@@ -45,19 +46,32 @@ pub told_if : (needed told : Bool) → IsTrue told → ToldIf needed told
 told_if true told d = d
 told_if false told d = tt
 
--- So the output is all that has to be shown.
+-- the moves of a run are those that it is held to, if a device that tells is known to tell
+abbrev pub KeepsMoves : Bool → Asked → ShapeNumbers → Outside → Outside → Type 0
+KeepsMoves tells asked shape old new = IsTrue tells → IsTrue old.device.told → IfSome asked.moves
+    (λ f. new.device.moves ≤ old.device.moves + f shape new.stand.slot)
+
+-- no move was made
+pub none_moved : (moves : Option (ShapeNumbers → (Slot → SlotState) → ℕ)) (shape : ShapeNumbers)
+    (old new : Outside) → new.device.moves ≡ old.device.moves
+    → IfSome moves (λ f. new.device.moves ≤ old.device.moves + f shape new.stand.slot)
+none_moved None shape old new same = tt
+none_moved (Some f) shape old new same = omega (arith, same)
+
+-- So the output and the moves are all that has to be shown.
 ended_plain : (tells : Bool) (took : List ℕ → List ℕ → List ℕ) (asked : Asked)
     (shape : ShapeNumbers) (blocks : ℕ) (old new : Outside) (status : Status) → Plain status
     → (IsTrue tells → IsTrue old.device.told
     → SentPart took old.output asked.output new.output)
-    → Ended tells took asked shape blocks old new status
-ended_plain tells took asked shape blocks old new status plain part = record {
+    → KeepsMoves tells asked shape old new → Ended tells took asked shape blocks old new status
+ended_plain tells took asked shape blocks old new status plain part moves = record {
   answers = λ t d. plain.on_end _;
   due = λ t d. plain.on_end _;
   prefix = part;
   full = plain.full _;
   paid = plain.full _;
   size = λ t c. plain.full _;
+  moves = moves;
   damaged = plain.damaged _;
 }
 
@@ -73,29 +87,31 @@ done_whole = record { on_end = λ P p. p; full = λ P. tt; damaged = λ P. tt }
 malformed_whole : (kind : Malform) (place : ℕ) → Whole (Malformed kind place)
 malformed_whole kind place = record { on_end = λ P p. p; full = λ P. tt; damaged = λ P. tt }
 
--- So status and output are all that has to be shown.
+-- So status, output and moves are all that has to be shown.
 pub ended_due : {tells : Bool} {took : List ℕ → List ℕ → List ℕ} (asked : Asked)
     {shape : ShapeNumbers} {blocks : ℕ} {old new : Outside} (status : Status) → Whole status
     → (IsTrue tells → ToldIf asked.status_told old.device.told → status ≡ asked.status)
     → (IsTrue tells → IsTrue old.device.told → new.output ≡ took old.output asked.output)
     → (IsTrue tells → IsTrue old.device.told → SentPart took old.output asked.output new.output)
-    → Ended tells took asked shape blocks old new status
-ended_due asked {old = old} status whole due all part = record {
+    → KeepsMoves tells asked shape old new → Ended tells took asked shape blocks old new status
+ended_due asked {old = old} status whole due all part moves = record {
   answers = λ t d. whole.on_end _ (due t (told_if asked.status_told old.device.told d), all t d);
   due = λ t d. whole.on_end _ (due t d);
   prefix = part;
   full = whole.full _;
   paid = whole.full _;
   size = λ t c. whole.full _;
+  moves = moves;
   damaged = whole.damaged _;
 }
 
 module _ {IsState : List ℕ → Type 0} {took : List ℕ → List ℕ → List ℕ} (rule : IsRule IsState took)
     (tells : Bool) (asked : Asked) (shape : ShapeNumbers) (blocks : ℕ)
-    (old new : Outside) (ok : IsState old.output) (same : new.output ≡ old.output) where
+    (old new : Outside) (ok : IsState old.output) (same : new.output ≡ old.output)
+    (moves : KeepsMoves tells asked shape old new) where
   quiet : (status : Status) → Plain status → Ended tells took asked shape blocks old new status
   quiet status plain = ended_plain tells took asked shape blocks old new status plain
-      (λ t d. part-of (sent-nothing rule ok asked.output same))
+      (λ t d. part-of (sent-nothing rule ok asked.output same)) moves
 
   -- the shelf failed, and nothing was printed
   pub ended_read : Ended tells took asked shape blocks old new ReadFault
@@ -109,6 +125,23 @@ module _ {IsState : List ℕ → Type 0} {took : List ℕ → List ℕ → List 
   pub ended_no_memory : Ended tells took asked shape blocks old new NoMemory
   ended_no_memory = quiet NoMemory memory_plain
 
+-- The same where the device moved nothing.
+module _ {IsState : List ℕ → Type 0} {took : List ℕ → List ℕ → List ℕ} (rule : IsRule IsState took)
+    (tells : Bool) (asked : Asked) (shape : ShapeNumbers) (blocks : ℕ)
+    (old new : Outside) (ok : IsState old.output) (same : new.output ≡ old.output)
+    (still : new.device.moves ≡ old.device.moves) where
+  none : KeepsMoves tells asked shape old new
+  none t d = none_moved asked.moves shape old new still
+
+  pub unmoved_read : Ended tells took asked shape blocks old new ReadFault
+  unmoved_read = ended_read rule tells asked shape blocks old new ok same none
+
+  pub unmoved_device : Ended tells took asked shape blocks old new DeviceFault
+  unmoved_device = ended_device rule tells asked shape blocks old new ok same none
+
+  pub unmoved_memory : Ended tells took asked shape blocks old new NoMemory
+  unmoved_memory = ended_no_memory rule tells asked shape blocks old new ok same none
+
 -- What a run that stopped left: a front of what is due went out, and all of it at a fault of the
 -- input.
 pub record Stopped (tells : Bool) (took : List ℕ → List ℕ → List ℕ) (asked : Asked)
@@ -119,9 +152,9 @@ pub record Stopped (tells : Bool) (took : List ℕ → List ℕ → List ℕ) (a
       → SentPart took old.output asked.output new.output
 
 -- the device didn't tell its contents from the start, and the block is one of it
-untold : (old : DeviceState) (a c : RigState) → Touches [] a c → old ≡ a.device → (k : ℕ)
-    → IsFalse c.device.told × (k < c.blocks) → IsFalse old.told × (k < a.blocks)
-untold old a c touches before k h = (
+untold : (held : List ℕ) (old : DeviceState) (a c : RigState) → Touches held a c → old ≡ a.device
+    → (k : ℕ) → IsFalse c.device.told × (k < c.blocks) → IsFalse old.told × (k < a.blocks)
+untold held old a c touches before k h = (
   ap (λ (d : DeviceState). d.told) before ∙ sym touches.told ∙ h.0,
   omega (arith, h.1, touches.blocks),
 )
@@ -131,9 +164,10 @@ told_first : (old : Outside) (a : RigState) → old.device ≡ a.device
     → old.device.told ≡ a.device.told
 told_first old a before = ap (λ (d : DeviceState). d.told) before
 
-module _ {took : List ℕ → List ℕ → List ℕ} (tells : Bool) (asked : Asked) (old new : Outside)
-    (a c : RigState) (touches : Touches [] a c) (sound : Sound c)
-    (before : old.device ≡ a.device) (after : new.device ≡ c.device) where
+module _ {took : List ℕ → List ℕ → List ℕ} {held : List ℕ} (tells : Bool) (asked : Asked)
+    (old new : Outside) (a c : RigState) (touches : Touches held a c) (sound : Sound c)
+    (before : old.device ≡ a.device) (after : new.device ≡ c.device)
+    (kept : KeepsMoves tells asked a.pool.shape old new) where
   -- The run stopped.
   pub ended_stop : (stop : Stop) (faults later : Faults)
       → RunCause tells asked faults later a c stop
@@ -143,13 +177,16 @@ module _ {took : List ℕ → List ℕ → List ℕ} (tells : Bool) (asked : Ask
   ended_stop (Fault kind place) faults later cause full s =
       ended_due asked (Malformed kind place) (malformed_whole kind place)
       (λ t d. sym (cause t (subst (λ (b : Bool). ToldIf asked.status_told b) (told_first old a before) d)))
-      s.fault s.part
+      s.fault s.part kept
   ended_stop Read faults later cause full s =
       ended_plain tells took asked a.pool.shape a.blocks old new ReadFault read_plain s.part
+      kept
   ended_stop Write faults later cause full s =
       ended_plain tells took asked a.pool.shape a.blocks old new WriteFault write_plain s.part
+      kept
   ended_stop (Em em.DeviceFault) faults later cause full s =
       ended_plain tells took asked a.pool.shape a.blocks old new DeviceFault device_plain s.part
+      kept
   ended_stop (Em (em.Damaged k)) faults later cause full s = record {
     answers = λ t d. tt;
     due = λ t d. tt;
@@ -157,7 +194,8 @@ module _ {took : List ℕ → List ℕ → List ℕ} (tells : Bool) (asked : Ask
     full = tt;
     paid = tt;
     size = λ t c. tt;
-    damaged = untold old.device a c touches before k cause;
+    moves = kept;
+    damaged = untold held old.device a c touches before k cause;
   }
   ended_stop (Em (em.Full used)) faults later cause full s =
       let moves : new.device.moves ≡ c.moves =
@@ -171,6 +209,7 @@ module _ {took : List ℕ → List ℕ → List ℕ} (tells : Bool) (asked : Ask
         paid = rw (moves, ← touches.shape) full.paid;
         size = λ t d. rw (← touches.shape)
             (full.size t (subst (λ (b : Bool). ToldIf asked.most_told b) told d));
+        moves = kept;
         damaged = tt;
       }
 
@@ -198,8 +237,41 @@ ended_as {took} tells kind x y shape blocks old mid new status device output e r
       full = r.full;
       paid = r.paid;
       size = λ t d. subst (λ (z : List ℕ). IfEndsFull status
-          (λ used. used ≤ plain_room shape (run_size kind z (new.stand.slot First).left))) (e t)
-          (r.size t (subst (λ (v : DeviceState). ToldIf (counts_pairs kind) v.told) (sym device) d));
+          (λ used. used ≤ (limits_of kind).most shape (run_size kind z (new.stand.slot First).left)))
+          (e t) (r.size t (subst (λ (v : DeviceState). ToldIf (limits_of kind).most_told v.told)
+          (sym device) d));
+      moves = λ t d. subst (λ (z : List ℕ). IfSome (asked_of_file kind z).moves
+          (λ f. new.device.moves ≤ old.device.moves + f shape new.stand.slot)) (e t)
+          (subst (λ (v : DeviceState). IfSome (asked_of_file kind x).moves
+          (λ f. new.device.moves ≤ v.moves + f shape new.stand.slot)) device (r.moves t (back d)));
       damaged = subst (λ (v : DeviceState). IfEndsDamaged status
           (λ at. IsFalse v.told × (at < blocks))) device r.damaged;
+    }
+
+-- The same end, as seen from before the rig was opened: the device tells the same, and has moved as much.
+pub ended_opened : {took : List ℕ → List ℕ → List ℕ} (tells : Bool) (asked : Asked)
+    (shape first : ShapeNumbers) (blocks count : ℕ) (old mid new : Outside) (status : Status)
+    → shape ≡ first → blocks ≡ count → mid.device.told ≡ old.device.told
+    → mid.device.moves ≡ old.device.moves → mid.output ≡ old.output
+    → Ended tells took asked shape blocks mid new status
+    → Ended tells took asked first count old new status
+ended_opened {took} tells asked shape first blocks count old mid new status same many told still output r =
+    record {
+      answers = λ t d. subst (λ (o : List ℕ). OnEnd status
+          ((status ≡ asked.status) × (new.output ≡ took o asked.output))) output (r.answers t (told ∙ d));
+      due = λ t d. r.due t (subst (λ (b : Bool). ToldIf asked.status_told b) (sym told) d);
+      prefix = λ t d. subst (λ (o : List ℕ). SentPart took o asked.output new.output) output
+          (r.prefix t (told ∙ d));
+      full = subst (λ (n : ℕ). IfEndsFull status (λ used. used ≡ n)) many r.full;
+      paid = subst (λ (p : ShapeNumbers). IfEndsFull status (λ used. (2 ^ 64 - 1 ≤ new.device.moves)
+          ⊎ (used ≤ new.device.moves + 2 * p.frames))) same r.paid;
+      size = λ t d. subst (λ (p : ShapeNumbers). IfEndsFull status
+          (λ used. used ≤ asked.most p new.stand.slot)) same
+          (r.size t (subst (λ (b : Bool). ToldIf asked.most_told b) (sym told) d));
+      moves = λ t d. subst (λ (p : ShapeNumbers). IfSome asked.moves
+          (λ f. new.device.moves ≤ old.device.moves + f p new.stand.slot)) same
+          (subst (λ (n : ℕ). IfSome asked.moves (λ f. new.device.moves ≤ n + f shape new.stand.slot)) still
+          (r.moves t (told ∙ d)));
+      damaged = subst (λ (n : ℕ). IfEndsDamaged status (λ at. IsFalse old.device.told × (at < n))) many
+          (subst (λ (b : Bool). IfEndsDamaged status (λ at. IsFalse b × (at < blocks))) told r.damaged);
     }

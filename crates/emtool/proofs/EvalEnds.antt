@@ -1,49 +1,45 @@
--- How the steps of an evaluation end: its rig, what went out, why it stopped, and its blocks.
+-- How the steps of an evaluation end: its rig, what went out, and why it stopped.
 use Rattle.std.proofs.Common.{◌≡◌, ℕ, ◌+◌, ◌-◌, ◌*◌, ◌<◌, ◌≤◌, ◌^◌, ◌⊎◌, max, Bool, false, replicate, List, [], ◌++◌, length, ap, sym, subst, ◌∙◌, refl, arith, IsTrue, inl, inr, ⊎_elim, Result, Ok, Err, IfErr, OnOk}
 use Rattle.em_record.specs.Count.{Rose}
-use Rattle.em_record.specs.Shape.{ShapeNumbers, fan_of, payload_of}
+use Rattle.em_record.specs.Shape.{ShapeNumbers, fan_of}
 use Rattle.em_io.specs.Sink.{IsRule, Sent, SentPart}
 use Rattle.em_io.specs.declared.shelf.Shelf.{Ghosts as ShelfGhosts}
 use Rattle.em_io.specs.declared.shelf.Slot.TheVariants.{Second}
 use Rattle.em_io.specs.declared.sink.Sink.{Ghosts as SinkGhosts}
 use Rattle.em_io.proofs.Sent.{all-sent, part-more, part-of, part-rest, sent-all, sent-nothing, sent-rest}
-use Rattle.em_frames.specs.Pool.{LentFrames, PoolCounts, SameFrames}
-use Rattle.em_space.specs.Free.{Off}
 use Rattle.em_space.specs.Held.{Holds}
-use Rattle.em_space.specs.Queue.{Leaves, QueueCounts, Shares}
+use Rattle.em_space.specs.Ledger.{Session}
+use Rattle.em_space.specs.Queue.{Leaves, Pays, QueueCounts, Shares}
 use Rattle.em_space.specs.Rig.{RigState, Cause, Goes, Sound, Touches}
 use Rattle.em_space.specs.declared.fault.EmFault.{EmFault}
 use Rattle.em_space.specs.declared.fault.EmFault.TheVariants as em
 use Rattle.em_space.specs.declared.queue.Queue.{Ghosts as QueueGhosts}
 use Rattle.em_space.proofs.Held.{apart_none}
-use Rattle.em_space.proofs.Steps.{cause_after, touches_then, touches_trans}
-use Rattle.em_space.proofs.Within.{touches_within}
-use Rattle.em_chain.specs.Chain.{ChainStays, chain_blocks, payload_in}
-use Rattle.em_chain.specs.Counts.{ceiling}
-use Rattle.em_chain.specs.Effects.{LendsFrame, Unmoved}
-use Rattle.em_chain.proofs.Keeps.{touches_none}
+use Rattle.em_space.proofs.Paying.{pays_more, pays_then}
+use Rattle.em_space.proofs.Sessions.{session_none, session_trans}
+use Rattle.em_space.proofs.Steps.{cause_after, touches_then}
+use Rattle.em_space.proofs.Within.{goes_wider, touches_within}
+use Rattle.em_chain.specs.Chain.{ChainStays, chain_blocks}
 use Rattle.em_chain.proofs.Laws.{chain_stays}
-use Rattle.em_chain.proofs.Sessions.{ceiling_rises}
-use Rattle.em_plain.specs.ScanQueue.{fresh_counts}
 use Rattle.aig_defs.specs.declared.circuit.Gate.{Gate}
 use Rattle.aig_defs.specs.declared.circuit.Header.{Header}
 use Rattle.aig_defs.specs.Begun.{circuit_size}
 use Rattle.aig_defs.specs.Circuit.{Circuit}
 use Rattle.aig_defs.specs.Stimulus.{output_lines, stimulus_of}
 use Rattle.aig_defs.specs.Value.{run_of}
-use Rattle.aig_edges.specs.Graph.{IsOrdered, IsOrderedOf, edge_count, ordered_blocks}
+use Rattle.aig_edges.specs.Graph.{IsOrdered, IsOrderedOf, ordered_blocks}
 use Rattle.aig_edges.specs.declared.graph.Ordered.{Ordered}
-use Rattle.aig_forward.specs.Evaluator.{BeginsEvaluator, BeginsFor, Evaluates, FailsToBegin, evaluator_blocks, without_frames}
+use Rattle.aig_forward.specs.Evaluator.{BeginsEvaluator, BeginsFor, Evaluates, FailsToBegin, evaluator_blocks}
 use Rattle.aig_forward.specs.Outputs.{KeepsFront}
-use Rattle.aig_forward.specs.Step.{step_room}
 use Rattle.aig_forward.specs.declared.evaluator.Evaluator.{Evaluator}
-use Rattle.emtool.specs.EvalSize.{eval_room}
-use Rattle.emtool.specs.Evaluation.{CanBegin, CanRunSteps, EndsAs, EndsSteps, FillsSteps, OnDue, PrintsAll, PrintsLines, PrintsSteps, RunsSteps, SendsRest, StepsCause, UnlessWrite, steps_of}
+use Rattle.emtool.specs.EvalMoves.{steps_moves}
+use Rattle.emtool.specs.Evaluation.{CanBegin, CanRunSteps, EndsAs, EndsSteps, FillsEval, OnDue, PrintsAll, PrintsLines, PrintsSteps, RunsSteps, SendsRest, StepsCause, UnlessWrite, steps_of}
 use Rattle.emtool.specs.Opens.{IsAllRead}
+use Rattle.emtool.specs.Queues.{FailsToMake, MakesQueue}
 use Rattle.emtool.specs.Stop.{Faults, IfStopsFull, fault_counts}
 use Rattle.emtool.specs.declared.stop.Stop.{Stop}
 use Rattle.emtool.specs.declared.stop.Stop.TheVariants.{Fault, Read, Write, Em}
-use Rattle.emtool.proofs.RoomLaws.{times_rises}
+use Rattle.emtool.proofs.Queues.{frames_back, session_made}
 
 -- What holds at the end of the steps, and after a failure of the output, holds of the answer.
 pub ends_by : (P : Result (Unit {0}) Stop → Type 0) (done result : Result (Unit {0}) Stop)
@@ -125,73 +121,15 @@ full_due P faults after a b (Err (Em em.DeviceFault)) x p = tt
 full_due P faults after a b (Err (Em (em.Full used))) x p = p used (x.0 ∙ sym x.1)
 full_due P faults after a b (Err (Em (em.Damaged block))) x p = tt
 
--- the blocks of an evaluation: b of its edges, l of the latches' bits, i of the inputs', q of the queue
-room_begun : (b l c n : ℕ) → b ≤ c → l ≤ c → b + 1 + l ≤ 3 * (n + 2) + 8 * (c + 2)
-room_begun b l c n x y = omega arith
-
--- and while steps are made, with the lists of edges that they were split into
-room_run : (b l i q c n lists : ℕ) → b ≤ c → l ≤ c → i ≤ c → q ≤ n + 1 → lists ≤ b + 1
-    → l + lists + (q + (i + 2 * l + lists)) ≤ 3 * (n + 2) + 8 * (c + 2)
-room_run b l i q c n lists x y z w v = omega arith
-
--- a step more makes no fewer calls
-one_more : (k z : ℕ) → k * z ≤ (k + 1) * z
-one_more k z = omega arith
-
--- the calls of some steps
-turned : (e steps : ℕ) → 2 * e * steps ≡ steps * (2 * e)
-turned e steps = omega arith
-
--- More edges, and so more calls, are in no less room.
-module _ (shape : ShapeNumbers) (h : Header) (steps : ℕ) (some : 0 < payload_of shape) where
-  -- the blocks of the queue's calls
-  calls_rise : (calls : ℕ) → calls ≤ 2 * edge_count h * steps
-      → ceiling calls (payload_of shape)
-      ≤ ceiling ((steps + 1) * (2 * circuit_size h)) (payload_of shape)
-  calls_rise calls few =
-      let a = times_rises steps (2 * edge_count h) (2 * circuit_size h) (omega arith) in
-      let more : calls ≤ (steps + 1) * (2 * circuit_size h) =
-      omega (arith, few, turned (edge_count h) steps, a, one_more steps (2 * circuit_size h)) in
-      ceiling_rises calls ((steps + 1) * (2 * circuit_size h)) (payload_of shape) some more
-
-  -- the blocks while an evaluator is made, if the edges have b
-  pub begin_fits : (b : ℕ) → b ≤ ceiling (edge_count h) (payload_of shape)
-      → b + 1 + ceiling h.latches (payload_of shape) ≤ eval_room shape (circuit_size h) steps
-  begin_fits b packed =
-      let p = payload_of shape in
-      let size = circuit_size h in
-      let edges = ceiling_rises (edge_count h) size p some (omega arith) in
-      let latches = ceiling_rises h.latches size p some (omega arith) in
-      room_begun b (ceiling h.latches p) (ceiling size p) (ceiling ((steps + 1) * (2 * size)) p)
-      (omega (arith, packed, edges)) latches
-
-  -- the blocks of steps that make this many calls of a queue
-  pub steps_fit : (b lists calls q : ℕ) → b ≤ ceiling (edge_count h) (payload_of shape)
-      → lists ≤ b + 1 → calls ≤ 2 * edge_count h * steps
-      → q ≤ ceiling calls (payload_of shape) + 1
-      → ceiling h.latches (payload_of shape) + lists + (q + (ceiling h.inputs (payload_of shape)
-      + 2 * ceiling h.latches (payload_of shape) + lists))
-      ≤ eval_room shape (circuit_size h) steps
-  steps_fit b lists calls q packed held few most =
-      let p = payload_of shape in
-      let size = circuit_size h in
-      let edges = ceiling_rises (edge_count h) size p some (omega arith) in
-      let latches = ceiling_rises h.latches size p some (omega arith) in
-      let inputs = ceiling_rises h.inputs size p some (omega arith) in
-      let rise = calls_rise calls few in
-      room_run b (ceiling h.latches p) (ceiling h.inputs p) q (ceiling size p)
-      (ceiling ((steps + 1) * (2 * size)) p) lists (omega (arith, packed, edges)) latches inputs
-      (omega (arith, most, rise)) held
-
--- Edges stay as they are while a frame is lent.
-pub edges_stay : {s m : RigState} {o : Ordered} → IsOrdered s o → LendsFrame s m
+-- Edges stay as they are while a queue is made.
+pub edges_stay : {s m : RigState} {o : Ordered} → IsOrdered s o → Touches [] s m
     → ChainStays s m o.edges
 edges_stay {s} {m} {o} is l =
-    chain_stays [] s m o.edges l.touches (λ z. apart_none (chain_blocks s o.edges)) is.edges.is
+    chain_stays [] s m o.edges l (λ z. apart_none (chain_blocks s o.edges)) is.edges.is
 
 -- they are still those of this circuit and order,
 pub ordered_of : {s m : RigState} {o : Ordered} (c : Circuit) (order : List Gate)
-    → IsOrdered s o → LendsFrame s m → IsTrue s.device.told → IsOrderedOf s o c order
+    → IsOrdered s o → Touches [] s m → IsTrue s.device.told → IsOrderedOf s o c order
     → IsOrderedOf m o c order
 ordered_of c order is l z i = record {
   header = i.header;
@@ -201,13 +139,13 @@ ordered_of c order is l z i = record {
 }
 
 -- and of some one, if they were before
-pub still_ordered : {s m : RigState} {o : Ordered} → IsOrdered s o → LendsFrame s m
+pub still_ordered : {s m : RigState} {o : Ordered} → IsOrdered s o → Touches [] s m
     → IsOrdered m o
 still_ordered is l = record {
   header = is.header;
   edges = record { is = (edges_stay is l).is; count_is = is.edges.count_is };
   stands = λ z.
-      let told = sym l.touches.told ∙ z in
+      let told = sym l.told ∙ z in
       let some = is.stands told in
       record {
         circuit = some.circuit;
@@ -216,192 +154,132 @@ still_ordered is l = record {
       };
 }
 
--- A queue with no block, and edges: what an evaluator is made of.
-pub can_make : {s m : RigState} {o : Ordered} (ks : List ℕ) → IsOrdered s o → LendsFrame s m
-    → ks ≡ [] → IsTrue m.device.told → Holds m (ks ++ ordered_blocks m o)
-can_make {s} {m} {o} ks is l none z =
-    rw none ((edges_stay is l).is.told z).holds
+-- Edges, and then a queue: what an evaluator is made of.
+pub session_beside_edges : {Q : Type 0} {queue : QueueGhosts Q} {s m : RigState} {o : Ordered} {q : Q}
+    → Sound s → IsOrdered s o → MakesQueue queue s m q
+    → Session (ordered_blocks s o) s m (queue.blocks q m ++ ordered_blocks m o)
+session_beside_edges {queue = queue} {s = s} {m = m} {o = o} {q = q} sound is makes =
+    session_made (queue.blocks q m) (ordered_blocks s o) (ordered_blocks m o)
+    (session_none s (ordered_blocks s o) sound (λ z. (is.edges.is.told z).holds)) makes.session
+    (λ z. (edges_stay is makes.session.touches).blocks z)
 
--- what was held when it was made are the edges
-held_same : {s m : RigState} {o : Ordered} (ks : List ℕ) → IsOrdered s o → LendsFrame s m
-    → ks ≡ [] → IsTrue s.device.told → ks ++ ordered_blocks m o ≡ ordered_blocks s o
-held_same {s} {m} {o} ks is l none z = rw none ((edges_stay is l).blocks z)
-
--- A call after a frame was lent may change the edges' blocks alone.
-pub touches_lent : {s m t : RigState} {o : Ordered} (ks : List ℕ) → IsOrdered s o
-    → LendsFrame s m → ks ≡ [] → Touches (ks ++ ordered_blocks m o) m t
-    → Touches (ordered_blocks s o) s t
-touches_lent {s} {m} {t} {o} ks is l none h =
-    touches_trans (ordered_blocks s o) (ks ++ ordered_blocks m o) s m t
-    (touches_none (ordered_blocks s o) s m l.touches) h
-    (λ z k u off. subst (λ (js : List ℕ). Off k js) (sym (held_same ks is l none z)) off)
+-- all their blocks are apart
+pub can_make : {Q : Type 0} {queue : QueueGhosts Q} {s m : RigState} {o : Ordered} {q : Q}
+    → Sound s → IsOrdered s o → MakesQueue queue s m q → IsTrue m.device.told
+    → Holds m (queue.blocks q m ++ ordered_blocks m o)
+can_make sound is makes z =
+    (session_beside_edges sound is makes).holds (sym makes.session.touches.told ∙ z)
 
 -- It wasn't made.
 pub record Unmade {Q : Type 0} (queue : QueueGhosts Q) (s m t : RigState) (o : Ordered) (q : Q)
     (fault : EmFault) : Type 0 where
   pub can : CanBegin s o
-  pub lends : LendsFrame s m
-  pub unmoved : Unmoved s m
-  pub fresh : queue.counts q ≡ fresh_counts 1 0
-  pub none : queue.blocks q m ≡ []
+  pub makes : MakesQueue queue s m q
   pub fails : FailsToBegin queue m t o q fault
-
--- the frames of a queue that has one and no area
-one_back : (c : QueueCounts) (p q r : PoolCounts) → LentFrames 1 p q → Shares c (without_frames c) q r
-    → c ≡ fresh_counts 1 0 → SameFrames p r
-one_back c p q r l x fresh =
-    let single = ap (λ (z : QueueCounts). z.frames) fresh in
-    let area = ap (λ (z : QueueCounts). z.areas) fresh in
-    record {
-      shape = x.shape ∙ l.shape;
-      free = omega (arith, x.free, l.free, single);
-      rack = x.rack ∙ l.rack;
-      free_areas = omega (arith, x.areas, l.free_areas, area);
-      peak = omega (arith, x.peak, l.peak);
-    }
 
 -- from what the calls say
 pub unmade_by : {Q : Type 0} {queue : QueueGhosts Q} {s m t : RigState} {o : Ordered} {q : Q}
-    {fault : EmFault} → CanBegin s o → LendsFrame s m → Unmoved s m
-    → queue.counts q ≡ fresh_counts 1 0 → queue.blocks q m ≡ []
-    → FailsToBegin queue m t o q fault → Unmade queue s m t o q fault
-unmade_by can lends unmoved fresh none fails = record {
-  can = can;
-  lends = lends;
-  unmoved = unmoved;
-  fresh = fresh;
-  none = none;
-  fails = fails;
-}
+    {fault : EmFault} → CanBegin s o → MakesQueue queue s m q → FailsToBegin queue m t o q fault
+    → Unmade queue s m t o q fault
+unmade_by can makes fails = record { can = can; makes = makes; fails = fails }
 
 module _ {Q : Type 0} {queue : QueueGhosts Q} {s m t : RigState} {o : Ordered} {q : Q}
     {fault : EmFault} (u : Unmade queue s m t o q fault) where
   -- only the edges' blocks may have changed
   pub unmade_goes : Goes (ordered_blocks s o) s t
-  unmade_goes = record {
-    sound = u.fails.halted.sound;
-    touches = touches_lent (queue.blocks q m) u.can.is u.lends u.none u.fails.halted.touches;
-    frames = one_back (queue.counts q) s.pool m.pool t.pool u.lends.frames u.fails.halted.frames
-        u.fresh;
-  }
+  unmade_goes =
+      let held = queue.blocks q m ++ ordered_blocks m o in
+      let first = session_beside_edges u.can.sound u.can.is u.makes in
+      record {
+        sound = u.fails.halted.sound;
+        touches = touches_within s m t (ordered_blocks s o) held first.touches first.within
+            u.fails.halted.touches;
+        frames = frames_back (queue.counts q) s.pool m.pool t.pool u.makes.frames
+            u.fails.halted.frames;
+      }
 
   -- why it wasn't made
   pub unmade_cause : Cause s t fault
-  unmade_cause = cause_after [] s m t fault u.lends.touches u.fails.cause
+  unmade_cause = cause_after [] s m t fault u.makes.session.touches u.fails.cause
 
   -- all blocks but a few were moved
-  unmade_paid : (2 ^ 64 - 1 ≤ t.moves) ⊎ (t.used ≤ t.moves + 2 * t.pool.shape.frames)
+  pub unmade_paid : (2 ^ 64 - 1 ≤ t.moves) ⊎ (t.used ≤ t.moves + 2 * t.pool.shape.frames)
   unmade_paid =
       let h = u.fails.halted in
-      let none = ap (λ (c : QueueCounts). c.unstored) u.fresh in
+      let n = (queue.counts q).unstored in
       let frames : t.pool.shape.frames ≡ m.pool.shape.frames =
       ap (λ (z : ShapeNumbers). z.frames) h.touches.shape in
       let some = h.sound.shape.frames_low in
-      let later = h.touches.moves in
-      let moves = u.unmoved.moves in
-      let used = u.unmoved.same.used in
+      let later = u.makes.session.touches.moves in
+      let then = h.touches.moves in
+      let own : Pays n (m.pool.shape.frames + 1) m t = pays_more h.pays (omega arith) in
+      let all : Pays 0 (m.pool.shape.frames + 1) s t = pays_then u.makes.pays own then in
       ⊎_elim
-      (λ (x : 2 ^ 64 - 1 ≤ s.moves). inl (omega (arith, x, later, moves)))
+      (λ (x : 2 ^ 64 - 1 ≤ s.moves). inl (omega (arith, x, later, then)))
       (λ (x : s.used ≤ s.moves). ⊎_elim
       (λ (y : 2 ^ 64 - 1 ≤ t.moves). inl y)
-      (λ (y : t.used + m.moves + ((queue.counts q).unstored + 0)
-      ≤ m.used + t.moves + (m.pool.shape.frames + 1)).
-      inr (omega (arith, x, y, none, frames, some, moves, used)))
-      h.pays.is)
+      (λ (y : t.used + s.moves + 0 ≤ s.used + t.moves + (m.pool.shape.frames + 1)).
+      inr (omega (arith, x, y, frames, some)))
+      all.is)
       u.can.paid
 
-  -- the most blocks in use
-  unmade_most : t.most ≤ max s.most (o.edges.blocks + 1 + ceiling o.header.latches (payload_in s))
-  unmade_most =
-      let h = u.fails.halted in
-      let blocks = ap (λ (c : QueueCounts). c.blocks) u.fresh in
-      let most = ap (λ (c : QueueCounts). c.most) u.fresh in
-      let room = ap (λ (z : ShapeNumbers). ceiling o.header.latches (payload_of z))
-      u.lends.frames.shape in
-      let used = u.unmoved.same.used in
-      let before = u.unmoved.same.most in
-      let alone = u.can.alone in
-      omega (arith, h.most, blocks, most, room, used, before, alone)
-
-  -- what a full device says, if the edges are packed
-  pub unmade_fills : (tells : Bool) (steps used : ℕ)
-      → o.edges.blocks ≤ ceiling (edge_count o.header) (payload_in s) → used ≡ t.used
-      → FillsSteps tells s.most (circuit_size o.header) steps t used
-  unmade_fills tells steps used packed is =
-      let shape : t.pool.shape ≡ s.pool.shape =
-      u.fails.halted.touches.shape ∙ u.lends.frames.shape in
-      let low = u.fails.halted.sound.shape.block_low in
-      let some : 0 < payload_in s = rw (← shape) (omega (arith, low)) in
-      let fits = begin_fits s.pool.shape o.header steps some o.edges.blocks packed in
-      let full = u.fails.halted.sound.numbers.used_most in
-      let most = unmade_most in
-      record {
-        paid = rw is unmade_paid;
-        size_is = λ z. rw shape (omega (arith, fits, full, most, is));
-      }
-
--- An evaluator was made on a rig of which no other block is in use, by a queue that had no block.
+-- An evaluator was made on a rig of which no other block is in use.
 pub record Made {Q : Type 0} (queue : QueueGhosts Q) (s m a : RigState) (o : Ordered) (q : Q)
     (e : Evaluator Q) : Type 0 where
   pub can : CanBegin s o
-  pub lends : LendsFrame s m
-  pub unmoved : Unmoved s m
-  pub fresh : queue.counts q ≡ fresh_counts 1 0
-  pub none : queue.blocks q m ≡ []
+  pub makes : MakesQueue queue s m q
   pub begins : BeginsEvaluator queue m a o q e
 
 -- from what the calls say
 pub made_by : {Q : Type 0} {queue : QueueGhosts Q} {s m a : RigState} {o : Ordered} {q : Q}
-    {e : Evaluator Q} → CanBegin s o → LendsFrame s m → Unmoved s m
-    → queue.counts q ≡ fresh_counts 1 0 → queue.blocks q m ≡ [] → BeginsEvaluator queue m a o q e
+    {e : Evaluator Q} → CanBegin s o → MakesQueue queue s m q → BeginsEvaluator queue m a o q e
     → Made queue s m a o q e
-made_by can lends unmoved fresh none begins = record {
-  can = can;
-  lends = lends;
-  unmoved = unmoved;
-  fresh = fresh;
-  none = none;
-  begins = begins;
-}
+made_by can makes begins = record { can = can; makes = makes; begins = begins }
 
 module _ {Q : Type 0} {queue : QueueGhosts Q} {s m a : RigState} {o : Ordered} {q : Q}
     {e : Evaluator Q} (u : Made queue s m a o q e) where
+  -- what is held is the edges', or wasn't in use
+  made_session : Session (ordered_blocks s o) s a (evaluator_blocks queue a e)
+  made_session = session_trans (session_beside_edges u.can.sound u.can.is u.makes)
+      u.begins.runs.runs.session
+
   -- only the edges' blocks may have changed
   pub made_touches : Touches (ordered_blocks s o) s a
-  made_touches = touches_lent (queue.blocks q m) u.can.is u.lends u.none
-      u.begins.runs.runs.session.touches
+  made_touches = made_session.touches
 
   -- no call of its queue came
-  counts_fresh : queue.counts e.queue ≡ fresh_counts 1 0
-  counts_fresh = ap queue.counts u.begins.queue_is ∙ u.fresh
+  pub counts_same : queue.counts e.queue ≡ queue.counts q
+  counts_same = ap queue.counts u.begins.queue_is
 
   -- it can make steps
   pub can_run : CanRunSteps queue a e
   can_run =
       let r = u.begins.runs.runs in
-      let shape = ap fan_of (r.frames.shape ∙ u.lends.frames.shape) in
+      let n = (queue.counts q).unstored in
+      let shape = ap fan_of (r.frames.shape ∙ u.makes.frames.shape) in
       let ready = u.can.ready in
-      let blocks = ap (λ (c : QueueCounts). c.blocks) u.fresh in
-      let unstored = ap (λ (c : QueueCounts). c.unstored) u.fresh in
-      let moves = u.unmoved.moves in
-      let used = u.unmoved.same.used in
-      let later = r.spends.later in
+      let lent = u.makes.frames in
+      let blocks = ap (λ (c : QueueCounts). c.blocks) counts_same in
+      let unstored = ap (λ (c : QueueCounts). c.unstored) counts_same in
+      let later = u.makes.session.touches.moves in
+      let then = r.spends.later in
+      let own : Pays n n m a = pays_more r.spends.pays (omega arith) in
+      let all : Pays 0 n s a = pays_then u.makes.pays own then in
       record {
         sound = r.session.sound;
         is = u.begins.is;
-        free = omega (arith, shape, r.frames.free, u.lends.frames.free, ready.singles);
-        areas = omega (arith, r.frames.free_areas, u.lends.frames.free_areas, ready.areas);
-        rack = r.frames.rack ∙ u.lends.frames.rack ∙ ready.rack;
-        new = ap (λ (c : QueueCounts). c.n) counts_fresh;
-        alone = omega (arith, r.spends.used, blocks, used, u.can.alone);
+        free = omega (arith, shape, r.frames.free, lent.free, u.makes.few, ready.singles);
+        areas = omega (arith, r.frames.free_areas, lent.areas, u.makes.area, ready.areas);
+        rack = r.frames.rack ∙ lent.rack ∙ ready.rack;
+        new = ap (λ (c : QueueCounts). c.n) counts_same ∙ u.makes.new.n;
+        alone = omega (arith, r.spends.used, blocks, u.makes.used, u.can.alone);
         paid = ⊎_elim
-            (λ (x : 2 ^ 64 - 1 ≤ s.moves). inl (omega (arith, x, later, moves)))
+            (λ (x : 2 ^ 64 - 1 ≤ s.moves). inl (omega (arith, x, later, then)))
             (λ (x : s.used ≤ s.moves). ⊎_elim
             (λ (y : 2 ^ 64 - 1 ≤ a.moves). inl y)
-            (λ (y : a.used + m.moves + ((queue.counts q).unstored + 0)
-            ≤ m.used + a.moves + ((queue.counts q).unstored + 0)).
-            inr (omega (arith, x, y, moves, used)))
-            r.spends.pays.is)
+            (λ (y : a.used + s.moves + 0 ≤ s.used + a.moves + n).
+            inr (omega (arith, x, y, unstored)))
+            all.is)
             u.can.paid;
       }
 
@@ -413,7 +291,6 @@ pub record Ran {Q : Type 0} (queue : QueueGhosts Q) (s m a b t : RigState) (o : 
   pub touches : Touches (evaluator_blocks queue a e) a b
   pub shares : Shares (queue.counts e.queue) (queue.counts d.queue) a.pool b.pool
   pub leaves : Leaves (queue.counts d.queue) b t
-  pub most : b.most ≤ max a.most (a.used + ((queue.counts d.queue).most + step_room a e))
   pub paid : (2 ^ 64 - 1 ≤ b.moves) ⊎ (b.used ≤ b.moves + 2 * b.pool.shape.frames)
 
 module _ {Q : Type 0} {queue : QueueGhosts Q} {s m a b t : RigState} {o : Ordered} {q : Q}
@@ -426,117 +303,32 @@ module _ {Q : Type 0} {queue : QueueGhosts Q} {s m a b t : RigState} {o : Ordere
   pub ran_goes : Goes (ordered_blocks s o) s t
   ran_goes =
       let u = r.made in
-      let held = queue.blocks q m ++ ordered_blocks m o in
-      let first = u.begins.runs.runs in
-      let steps = touches_within m a b held (evaluator_blocks queue a e) first.session.touches
-      first.session.within r.touches in
+      let held = made_session u in
+      let first = u.begins.runs.runs.frames in
+      let lent = u.makes.frames in
+      let steps = touches_within s a b (ordered_blocks s o) (evaluator_blocks queue a e) held.touches
+      held.within r.touches in
       let x = r.shares in
       let y = r.leaves.frames in
-      let single = ap (λ (z : QueueCounts). z.frames) (counts_fresh u) in
-      let area = ap (λ (z : QueueCounts). z.areas) (counts_fresh u) in
+      let single = ap (λ (z : QueueCounts). z.frames) (counts_same u) in
+      let area = ap (λ (z : QueueCounts). z.areas) (counts_same u) in
       record {
         sound = r.leaves.sound;
-        touches = touches_lent (queue.blocks q m) u.can.is u.lends u.none
-            (touches_then held m b t steps r.leaves.touches);
+        touches = touches_then (ordered_blocks s o) s b t steps r.leaves.touches;
         frames = record {
           shape = shape_kept;
-          free = omega (arith, x.free, y.free, first.frames.free, u.lends.frames.free, single);
-          rack = y.rack ∙ x.rack ∙ first.frames.rack ∙ u.lends.frames.rack;
-          free_areas = omega (
-            arith,
-            x.areas,
-            y.areas,
-            first.frames.free_areas,
-            u.lends.frames.free_areas,
-            area,
-          );
-          peak = omega (arith, x.peak, y.peak, first.frames.peak, u.lends.frames.peak);
+          free = omega (arith, x.free, y.free, first.free, lent.free, single);
+          rack = y.rack ∙ x.rack ∙ first.rack ∙ lent.rack;
+          free_areas = omega (arith, x.areas, y.areas, first.free_areas, lent.areas, area);
+          peak = omega (arith, x.peak, y.peak, first.peak, lent.peak);
         };
       }
 
   -- all blocks but a few were moved
-  ran_paid : (2 ^ 64 - 1 ≤ t.moves) ⊎ (t.used ≤ t.moves + 2 * t.pool.shape.frames)
+  pub ran_paid : (2 ^ 64 - 1 ≤ t.moves) ⊎ (t.used ≤ t.moves + 2 * t.pool.shape.frames)
   ran_paid = subst (λ (z : RigState).
       (2 ^ 64 - 1 ≤ z.moves) ⊎ (z.used ≤ z.moves + 2 * z.pool.shape.frames))
       (sym r.leaves.same) (rw (← r.leaves.touches.shape) at r.paid)
-
-  -- the blocks of one list of bits
-  room_kept : (n : Header → ℕ)
-      → ceiling (n e.header) (payload_in a) ≡ ceiling (n o.header) (payload_in s)
-  room_kept n =
-      let u = r.made in
-      ap (λ (h : Header). ceiling (n h) (payload_in a)) u.begins.header
-      ∙ ap (λ (z : ShapeNumbers). ceiling (n o.header) (payload_of z)) (made_touches u).shape
-
-  -- the edges are split in two
-  lists_held : e.given.blocks + e.gates.blocks ≤ o.edges.blocks + 1
-  lists_held =
-      let u = r.made in
-      let held = u.begins.runs.runs.spends.held in
-      let blocks = ap (λ (c : QueueCounts). c.blocks) u.fresh in
-      let most = ap (λ (c : QueueCounts). c.most) u.fresh in
-      let state = u.begins.is.state_blocks in
-      let after = room_kept (λ h. h.latches) in
-      let before = ap (λ (z : ShapeNumbers). ceiling o.header.latches (payload_of z))
-      u.lends.frames.shape in
-      omega (arith, held, blocks, most, state, after, before)
-
-  -- the most blocks in use before the steps,
-  made_most : a.most ≤ max s.most (o.edges.blocks + 1 + ceiling o.header.latches (payload_in s))
-  made_most =
-      let u = r.made in
-      let h = u.begins.runs.runs.spends in
-      let blocks = ap (λ (c : QueueCounts). c.blocks) u.fresh in
-      let most = ap (λ (c : QueueCounts). c.most) u.fresh in
-      let room = ap (λ (z : ShapeNumbers). ceiling o.header.latches (payload_of z))
-      u.lends.frames.shape in
-      let used = u.unmoved.same.used in
-      let before = u.unmoved.same.most in
-      let alone = u.can.alone in
-      omega (arith, h.most, blocks, most, room, used, before, alone)
-
-  -- and at any time
-  ran_most : b.most ≤ max s.most (max
-      (o.edges.blocks + 1 + ceiling o.header.latches (payload_in s))
-      (ceiling o.header.latches (payload_in s) + (e.given.blocks + e.gates.blocks)
-      + ((queue.counts d.queue).most + (ceiling o.header.inputs (payload_in s)
-      + 2 * ceiling o.header.latches (payload_in s) + (e.given.blocks + e.gates.blocks)))))
-  ran_most =
-      let latches = room_kept (λ h. h.latches) in
-      let inputs = room_kept (λ h. h.inputs) in
-      let state = r.made.begins.is.state_blocks in
-      let alone = (can_run r.made).alone in
-      let most = r.most in
-      omega (arith, latches, inputs, state, alone, most, made_most)
-
-  -- what a full device says, if the edges are packed
-  pub ran_fills : (tells : Bool) (steps used : ℕ)
-      → o.edges.blocks ≤ ceiling (edge_count o.header) (payload_in s)
-      → (IsTrue tells → (queue.counts d.queue).n ≤ 2 * edge_count e.header * steps)
-      → (queue.counts d.queue).most
-      ≤ ceiling (queue.counts d.queue).n (payload_of b.pool.shape) + 1 → used ≡ b.used
-      → FillsSteps tells s.most (circuit_size o.header) steps t used
-  ran_fills tells steps used packed few most is =
-      let u = r.made in
-      let c = queue.counts d.queue in
-      let shape : b.pool.shape ≡ s.pool.shape = r.touches.shape ∙ (made_touches u).shape in
-      let low = r.sound.shape.block_low in
-      let some : 0 < payload_in s = rw (← shape) (omega (arith, low)) in
-      let same : t.used ≡ b.used = ap (λ (z : RigState). z.used) r.leaves.same in
-      let first = begin_fits s.pool.shape o.header steps some o.edges.blocks packed in
-      let full = r.sound.numbers.used_most in
-      let all = ran_most in
-      let calls : c.most ≤ ceiling c.n (payload_in s) + 1 =
-      subst (λ (z : ShapeNumbers). c.most ≤ ceiling c.n (payload_of z) + 1) shape most in
-      record {
-        paid = rw (is, ← same) ran_paid;
-        size_is = λ z.
-            let number : c.n ≤ 2 * edge_count o.header * steps =
-            subst (λ (h : Header). c.n ≤ 2 * edge_count h * steps) u.begins.header (few z) in
-            let fits = steps_fit s.pool.shape o.header steps some o.edges.blocks
-            (e.given.blocks + e.gates.blocks) c.n c.most packed lists_held number calls in
-            rw (shape_kept) (omega (arith, first, fits, full, all, is));
-      }
 
 -- At first an evaluator evaluates each circuit whose edges these are, from the state of zeros.
 pub evaluates_first : {Q : Type 0} {queue : QueueGhosts Q} {s m a : RigState} {o : Ordered} {q : Q}
@@ -548,7 +340,14 @@ evaluates_first {queue = queue} {a = a} {e = e} u meaning z c order is =
     ap (λ (h : Header). h.latches) (u.begins.header ∙ sym is.header)
     ∙ sym is.is.lengths.latches in
     subst (λ (n : ℕ). Evaluates queue a e c order (replicate n false)) latches
-    (meaning (u.lends.touches.told ∙ z) c order (ordered_of c order u.can.is u.lends z is))
+    (meaning (u.makes.session.touches.told ∙ z) c order
+    (ordered_of c order u.can.is u.makes.session.touches z is))
+
+-- The moves of an evaluation are those of the steps that were begun.
+abbrev pub KeepsSteps : {H : Type 0} → ShelfGhosts H → RigState → RigState → Ordered → H → H → Type 0
+KeepsSteps h s t o shelf shelf_after = IsTrue h.tells → IsTrue s.device.told → t.moves
+    ≤ s.moves + steps_moves s.pool.shape (circuit_size o.header)
+    (steps_of o.header.inputs ((h.stand shelf).slot Second).left ((h.stand shelf_after).slot Second))
 
 -- An evaluator was made, its steps were made, its frames came back, and what was pending was sent.
 pub record Evaluated {H W Q : Type 0} (h : ShelfGhosts H) (w : SinkGhosts W) (queue : QueueGhosts Q)
@@ -599,7 +398,6 @@ module _ {H W Q : Type 0} {h : ShelfGhosts H} {w : SinkGhosts W} {queue : QueueG
       touches = v.steps.touches;
       shares = v.steps.shares;
       leaves = v.leaves;
-      most = v.steps.most;
       paid = v.steps.paid;
     }
 
@@ -651,33 +449,23 @@ module _ {H W Q : Type 0} {h : ShelfGhosts H} {w : SinkGhosts W} {queue : QueueG
         (made_touches v.made) v.leaves v.sends.later v.steps.cause)
         (λ rose. let later = v.steps.write_later in omega (arith, rose, later))
 
-    -- what a full device says, if the edges are packed, and the queue held few blocks
-    pub full_all : o.edges.blocks ≤ ceiling (edge_count o.header) (payload_in s)
-        → (queue.counts d.queue).most
-        ≤ ceiling (queue.counts d.queue).n (payload_of b.pool.shape) + 1
-        → IfErr result (λ stop. IfStopsFull stop (FillsSteps h.tells s.most (circuit_size o.header)
-        (steps_of o.header.inputs text ((h.stand shelf_after).slot Second)) t))
-    full_all packed most =
-        let steps = steps_of o.header.inputs text ((h.stand shelf_after).slot Second) in
-        let few : IsTrue h.tells → (queue.counts d.queue).n ≤ 2 * edge_count e.header * steps =
-        λ z. subst (λ (n : Header). (queue.counts d.queue).n ≤ 2 * edge_count e.header
-        * steps_of n.inputs text ((h.stand shelf_after).slot Second)) v.made.begins.header
-        (v.steps.called z) in
-        ends_by (λ r. IfErr r (λ stop. IfStopsFull stop
-        (FillsSteps h.tells s.most (circuit_size o.header) steps t))) done result
+    -- what a full device says
+    fills_all : (used : ℕ) → used ≡ b.used → FillsEval t used
+    fills_all used is =
+        let same : t.used ≡ b.used = ap (λ (z : RigState). z.used) v.leaves.same in
+        record { paid = rw (is, ← same) (ran_paid ran) }
+
+    pub full_all : IfErr result (λ stop. IfStopsFull stop (FillsEval t))
+    full_all = ends_by (λ r. IfErr r (λ stop. IfStopsFull stop (FillsEval t))) done result
         (w.faults mid) (w.faults out_after) v.sends.ends
-        (full_due (FillsSteps h.tells s.most (circuit_size o.header) steps t)
-        (fault_counts (h.faults shelf) (w.faults out))
-        (fault_counts (h.faults shelf_after) (w.faults mid)) a b done v.steps.cause
-        (λ used is. ran_fills ran h.tells steps used packed few most is))
+        (full_due (FillsEval t) (fault_counts (h.faults shelf) (w.faults out))
+        (fault_counts (h.faults shelf_after) (w.faults mid)) a b done v.steps.cause fills_all)
         (λ rose. tt)
 
-    -- So the evaluation ended as promised.
-    pub runs_all : o.edges.blocks ≤ ceiling (edge_count o.header) (payload_in s)
-        → (queue.counts d.queue).most
-        ≤ ceiling (queue.counts d.queue).n (payload_of b.pool.shape) + 1
+    -- So the evaluation ended as promised, if its moves are those of its steps.
+    pub runs_all : KeepsSteps h s t o shelf shelf_after
         → RunsSteps h w s t o shelf shelf_after out out_after result
-    runs_all packed most = record {
+    runs_all moves = record {
       goes = ran_goes ran;
       reads = v.steps.reads;
       read_later = v.steps.read_later;
@@ -689,17 +477,18 @@ module _ {H W Q : Type 0} {h : ShelfGhosts H} {w : SinkGhosts W} {queue : QueueG
       end = end_due;
       prints = prints_due;
       cause = cause_all;
-      full = full_all packed most;
+      full = full_all;
+      moves = moves;
     }
 
--- No step was made, since an evaluator couldn't be.
-pub runs_none : {H W Q : Type 0} (h : ShelfGhosts H) (w : SinkGhosts W) {queue : QueueGhosts Q}
-    {s m t : RigState} {o : Ordered} {q : Q} {fault : EmFault} (shelf : H) (out : W)
-    → IsRule w.IsState w.took → w.IsState (w.state out) → Unmade queue s m t o q fault
-    → o.edges.blocks ≤ ceiling (edge_count o.header) (payload_in s)
-    → RunsSteps h w s t o shelf shelf out out (Err (Em fault))
-runs_none h w {s = s} {t = t} {o = o} {fault = fault} shelf out rule ok u packed = record {
-  goes = unmade_goes u;
+-- No step was made, since the rig gave up before.
+pub runs_none : {H W : Type 0} (h : ShelfGhosts H) (w : SinkGhosts W) {s t : RigState} {o : Ordered}
+    {fault : EmFault} (shelf : H) (out : W) → IsRule w.IsState w.took → w.IsState (w.state out)
+    → Goes (ordered_blocks s o) s t → Cause s t fault
+    → (2 ^ 64 - 1 ≤ t.moves) ⊎ (t.used ≤ t.moves + 2 * t.pool.shape.frames)
+    → KeepsSteps h s t o shelf shelf → RunsSteps h w s t o shelf shelf out out (Err (Em fault))
+runs_none h w {s = s} {t = t} {fault = fault} shelf out rule ok goes cause paid moves = record {
+  goes = goes;
   reads = record {
     leaves = record { text = refl; others = λ k e. refl };
     opened = refl;
@@ -711,10 +500,28 @@ runs_none h w {s = s} {t = t} {o = o} {fault = fault} shelf out rule ok u packed
   ends = λ z. tt;
   end = tt;
   prints = λ z y c order is. record { all = tt; part = part-of (sent-nothing rule ok _ refl) };
-  cause = unmade_cause u;
-  full = full_due (FillsSteps h.tells s.most (circuit_size o.header)
-      (steps_of o.header.inputs ((h.stand shelf).slot Second).left ((h.stand shelf).slot Second)) t)
-      (fault_counts (h.faults shelf) (w.faults out)) (fault_counts (h.faults shelf) (w.faults out))
-      s t (Err (Em fault)) (unmade_cause u)
-      (λ used is. unmade_fills u h.tells _ used packed is);
+  cause = cause;
+  full = full_due (FillsEval t) (fault_counts (h.faults shelf) (w.faults out))
+      (fault_counts (h.faults shelf) (w.faults out)) s t (Err (Em fault)) cause
+      (λ used is. record { paid = rw is paid });
+  moves = moves;
 }
+
+-- No queue was made: only the edges' blocks may have changed, which none did,
+pub refused_goes : {s t : RigState} {fault : EmFault} (o : Ordered) → FailsToMake s t fault
+    → Goes (ordered_blocks s o) s t
+refused_goes {s} {t} o f = goes_wider (ordered_blocks s o) [] s t (record { off = λ z j u x. tt }) f.goes
+
+-- and all blocks but a few were moved.
+pub refused_paid : {s t : RigState} {o : Ordered} {fault : EmFault} → CanBegin s o
+    → FailsToMake s t fault → (2 ^ 64 - 1 ≤ t.moves) ⊎ (t.used ≤ t.moves + 2 * t.pool.shape.frames)
+refused_paid {s} {t} can f =
+    let low = f.goes.sound.shape.frames_low in
+    let later = f.goes.touches.moves in
+    ⊎_elim
+    (λ (x : 2 ^ 64 - 1 ≤ s.moves). inl (omega (arith, x, later)))
+    (λ (x : s.used ≤ s.moves). ⊎_elim
+    (λ (y : 2 ^ 64 - 1 ≤ t.moves). inl y)
+    (λ (y : t.used + s.moves + 0 ≤ s.used + t.moves + 1). inr (omega (arith, x, y, low)))
+    f.pays.is)
+    can.paid

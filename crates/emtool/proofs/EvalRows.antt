@@ -3,7 +3,7 @@ use Rattle.std.specs.Prelude.{◌≡◌, ℕ, List, [], ◌∷◌, ◌++◌, tru
 use Rattle.em_io.specs.Shelf.{SlotState}
 use Rattle.aig_defs.specs.declared.fault.AigKind.TheVariants.{BadDelta, BadSymbol, Cyclic, Extension, LiteralRange, StimLength, Twice, Undefined}
 use Rattle.emtool.specs.EvalDue.{eval_output, eval_status}
-use Rattle.emtool.specs.EvalSize.{circuit_read, eval_cost, eval_room, passes_read, steps_read}
+use Rattle.emtool.specs.EvalSize.{circuit_read, eval_cost, passes_read, steps_read}
 use Rattle.emtool.specs.declared.status.Malform.TheVariants.{Aig}
 use Rattle.emtool.specs.declared.status.Status.{Status}
 use Rattle.emtool.specs.declared.status.Status.TheVariants.{Done, Malformed}
@@ -108,15 +108,17 @@ passes_of_rows : map passes_read (greater ∷ report_adder ∷ late_line ∷ cyc
 passes_of_rows = refl
 
 -- The report's half adder has two inputs, two outputs and three gates. At the default shape four steps
--- and two passes cost 8 times 4096 moves at most, and 33 blocks.
+-- and two passes cost 8 times 4096 moves at most.
 size_of_report_adder : circuit_read (slot_with []) report_adder ≡ 10
 size_of_report_adder = refl
 
 cost_of_report_adder : eval_cost (record { block = 1024; frames = 256 }) 10 4 2 ≡ 32768
 cost_of_report_adder = refl
 
-room_of_report_adder : eval_room (record { block = 1024; frames = 256 }) 10 4 ≡ 33
-room_of_report_adder = refl
+-- At 128 records and 64 frames a circuit of size 100 has 200 calls between two moments at which a queue is
+-- empty: they fill two blocks, on one level, and cost 3 times 4096 moves, here 8 times.
+cost_of_two_blocks : eval_cost (record { block = 128; frames = 64 }) 100 4 2 ≡ 98304
+cost_of_two_blocks = refl
 
 -- the header's line and the first byte of the next one were given: one input
 size_of_a_front : circuit_read (slot_with (codes "\n4\n6\n6 2 4\n")) conjunction ≡ 1

@@ -1,13 +1,13 @@
 -- How an evaluation ends, from what its parts say.
-use Rattle.std.proofs.Common.{◌≡◌, ℕ, ◌<◌, ◌≤◌, Bool, true, List, [], ap, sym, subst, ◌∙◌, arith, IsTrue, Option, Some, None, Ok, Err}
-use Rattle.em_record.specs.Shape.{ShapeNumbers, payload_of}
+use Rattle.std.proofs.Common.{◌≡◌, ℕ, ◌+◌, ◌<◌, ◌≤◌, Bool, true, List, [], ap, sym, subst, ◌∙◌, arith, IsTrue, Option, Some, None, Ok, Err}
+use Rattle.em_record.specs.Shape.{IsShape, ShapeNumbers, payload_of}
 use Rattle.em_io.specs.Shelf.{IsUnopened, SlotState}
 use Rattle.em_io.specs.declared.shelf.Slot.{Slot}
 use Rattle.em_io.specs.declared.shelf.Slot.TheVariants.{First, Second}
 use Rattle.em_io.specs.Sink.{IsRule, SentPart}
 use Rattle.em_io.proofs.Sent.{part-of, sent-nothing}
 use Rattle.em_frames.specs.Device.{DeviceState}
-use Rattle.em_space.specs.Rig.{RigState, Touches}
+use Rattle.em_space.specs.Rig.{RigState, Sound, Touches}
 use Rattle.em_space.specs.declared.fault.EmFault.TheVariants as em
 use Rattle.em_space.proofs.Steps.{cause_after}
 use Rattle.aig_defs.specs.declared.circuit.Header.{Header}
@@ -20,9 +20,10 @@ use Rattle.aig_defs.proofs.EitherText.{text_none}
 use Rattle.aig_defs.specs.Begun.{circuit_size}
 use Rattle.aig_edges.specs.declared.graph.Ordered.{Ordered}
 use Rattle.emtool.specs.Asked.{asked_of_eval}
+use Rattle.emtool.specs.EvalMoves.{circuit_moves, steps_moves}
 use Rattle.emtool.specs.EvalDue.{aig_status, eval_output, eval_status}
-use Rattle.emtool.specs.EvalSize.{circuit_read, eval_room, given_of, steps_read}
-use Rattle.emtool.specs.Evaluation.{CircuitCause, EndsSteps, FillsEval, FillsSteps, PrintsAll, SpellsEdges, StepsCause, steps_of}
+use Rattle.emtool.specs.EvalSize.{circuit_read, eval_cost, given_of, passes_read, steps_read}
+use Rattle.emtool.specs.Evaluation.{CircuitCause, EndsSteps, FillsEval, PrintsAll, SpellsEdges, StepsCause, steps_of}
 use Rattle.emtool.specs.Run.{Caused, Ended, GoesOn, Outside, stop_status}
 use Rattle.emtool.specs.RunStop.{FillsRun, RunCause}
 use Rattle.emtool.specs.Stop.{Faults, IfStopsFull, OnFault, fault_counts}
@@ -30,8 +31,10 @@ use Rattle.emtool.specs.declared.status.Malform.TheVariants.{Text, Aig}
 use Rattle.emtool.specs.declared.status.Status.TheVariants.{Done}
 use Rattle.emtool.specs.declared.stop.Stop.{Stop}
 use Rattle.emtool.specs.declared.stop.Stop.TheVariants.{Fault, Read, Write, Em}
-use Rattle.emtool.proofs.EndLaws.{Stopped, done_whole, ended_due}
-use Rattle.emtool.proofs.Evaluating.{eval_room_grows, eval_room_rises, fault_due, lines_due, nothing_due, steps_counted, steps_due}
+use Rattle.emtool.proofs.EndLaws.{KeepsMoves, Stopped, done_whole, ended_due}
+use Rattle.emtool.proofs.EvalCosts.{evaluation_within, steps_moves_rise}
+use Rattle.emtool.proofs.Evaluating.{fault_due, lines_due, nothing_due, steps_counted, steps_due}
+use Rattle.emtool.proofs.Moves.{full_by_moves}
 
 -- a slot that is as one that wasn't opened is neither open nor lost
 pub still_unopened : (x y : SlotState) → x ≡ y → IsUnopened y → x.opened ≡ true → ⊥
@@ -41,6 +44,55 @@ still_unopened x y e u h =
 pub still_there : (x y : SlotState) → x ≡ y → IsUnopened y → x.lost ≡ true → ⊥
 still_there x y e u h =
     let z : y.lost ≡ true = subst (λ (v : SlotState). v.lost ≡ true) e h in cc (z, u.lost)
+
+-- The moves of a run are within its transfer cost.
+abbrev pub KeepsEval : Bool → List ℕ → List ℕ → (Slot → SlotState) → RigState → RigState → Type 0
+KeepsEval tells circuit stimulus slots a c = IsTrue tells → IsTrue a.device.told
+    → c.moves ≤ a.moves + eval_cost a.pool.shape (circuit_read (slots First) circuit)
+    (steps_read circuit (slots Second) stimulus) (passes_read circuit)
+
+-- its device was moved as often
+pub device_keeps : {a c : RigState} (n : ℕ) → Sound a → Sound c → c.moves ≤ a.moves + n
+    → c.device.moves ≤ a.device.moves + n
+device_keeps n old new h = omega (arith, h, old.moves_is, new.moves_is)
+
+-- none were moved
+pub none_more : (m n : ℕ) → m ≤ m + n
+none_more m n = omega arith
+
+-- a part of the moves of an evaluation, or both parts
+part_within : (u s a b c : ℕ) → u ≤ s + a → a + b ≤ c → u ≤ s + c
+part_within u s a b c h k = omega (arith, h, k)
+
+both_within : (u t s a few b c : ℕ) → t ≤ s + a → u ≤ t + few → few ≤ b → a + b ≤ c → u ≤ s + c
+both_within u t s a few b c g h i k = omega (arith, g, h, i, k)
+
+-- What a full device says: it has few blocks, since few were moved.
+pub eval_fills : (tells : Bool) (y w : List ℕ) (slots : Slot → SlotState) {a c : RigState}
+    (stop : Stop) → a.moves ≡ 0 → Touches [] a c → Sound c
+    → IfStopsFull stop (λ used. used ≡ c.blocks) → KeepsEval tells y w slots a c
+    → IfStopsFull stop (FillsEval c) → IfStopsFull stop (FillsRun tells (asked_of_eval y w) slots c)
+eval_fills tells y w slots (Fault kind place) none touches sound all keeps f = tt
+eval_fills tells y w slots Read none touches sound all keeps f = tt
+eval_fills tells y w slots Write none touches sound all keeps f = tt
+eval_fills tells y w slots (Em em.DeviceFault) none touches sound all keeps f = tt
+eval_fills tells y w slots (Em (em.Damaged block)) none touches sound all keeps f = tt
+eval_fills tells y w slots {a} {c} (Em (em.Full used)) none touches sound all keeps f = record {
+  paid = f.paid;
+  size = λ t d.
+      let size = circuit_read (slots First) y in
+      let steps = steps_read y (slots Second) w in
+      let passes = passes_read y in
+      let few : c.moves ≤ a.moves + eval_cost c.pool.shape size steps passes =
+      subst (λ (v : ShapeNumbers). c.moves ≤ a.moves + eval_cost v size steps passes)
+      (sym touches.shape) (keeps t (sym touches.told ∙ d)) in
+      full_by_moves c.blocks used c.moves (eval_cost c.pool.shape size steps passes)
+      c.pool.shape.frames sound.numbers.blocks_high all
+      (none_before c.moves a.moves (eval_cost c.pool.shape size steps passes) none few) f.paid;
+}
+  where
+    none_before : (u s n : ℕ) → s ≡ 0 → u ≤ s + n → u ≤ n
+    none_before u s n none h = omega (arith, none, h)
 
 -- The circuit wasn't read, or has a fault. `x` is what the slot had left when it was opened, and `y`
 -- the file's text.
@@ -56,26 +108,31 @@ module _ (tells : Bool) (x y stimulus : List ℕ) (e : IsTrue tells → x ≡ y)
   circuit_cause faults later a c Write cause = absurd cause
   circuit_cause faults later a c (Em fault) cause = cause
 
-  pub circuit_fills : (slots : Slot → SlotState) (c : RigState) (stop : Stop)
-      → 0 < payload_of c.pool.shape
-      → IfStopsFull stop (FillsEval tells (circuit_read (slots First) x) 0 c)
-      → IfStopsFull stop (FillsRun tells (asked_of_eval y stimulus) slots c)
-  circuit_fills slots c (Fault kind place) some f = tt
-  circuit_fills slots c Read some f = tt
-  circuit_fills slots c Write some f = tt
-  circuit_fills slots c (Em em.DeviceFault) some f = tt
-  circuit_fills slots c (Em (em.Damaged block)) some f = tt
-  circuit_fills slots c (Em (em.Full used)) some f = record {
-    paid = f.paid;
-    size = λ t d.
-        let size = circuit_read (slots First) y in
-        let more = eval_room_rises c.pool.shape size 0 (steps_read y (slots Second) stimulus) some
-        (omega arith) in
-        let most : used ≤ eval_room c.pool.shape size 0 =
-        subst (λ (v : List ℕ). used ≤ eval_room c.pool.shape (circuit_read (slots First) v) 0) (e t)
-        (f.size_is t) in
-        omega (arith, more, most);
-  }
+  pub circuit_full : (faults later : Faults) (a c : RigState) (stop : Stop)
+      → CircuitCause tells x faults later a c stop
+      → IfStopsFull stop (λ used. used ≡ c.blocks)
+  circuit_full faults later a c (Fault kind place) cause = tt
+  circuit_full faults later a c Read cause = tt
+  circuit_full faults later a c Write cause = tt
+  circuit_full faults later a c (Em em.DeviceFault) cause = tt
+  circuit_full faults later a c (Em (em.Full used)) cause = cause.0
+  circuit_full faults later a c (Em (em.Damaged block)) cause = tt
+
+  -- what was moved until then, by the transfer cost
+  pub circuit_keeps : (slots : Slot → SlotState) (a c : RigState) → IsShape a.pool.shape
+      → (IsTrue tells → IsTrue a.device.told → c.moves ≤ a.moves
+      + circuit_moves a.pool.shape (circuit_read (slots First) x) (passes_read x))
+      → KeepsEval tells y stimulus slots a c
+  circuit_keeps slots a c is moves = λ t d.
+      let size = circuit_read (slots First) y in
+      let steps = steps_read y (slots Second) stimulus in
+      let passes = passes_read y in
+      let own : c.moves ≤ a.moves + circuit_moves a.pool.shape size passes =
+      subst (λ (v : List ℕ). c.moves ≤ a.moves
+      + circuit_moves a.pool.shape (circuit_read (slots First) v) (passes_read v)) (e t) (moves t d) in
+      part_within c.moves a.moves (circuit_moves a.pool.shape size passes)
+      (steps_moves a.pool.shape size steps) (eval_cost a.pool.shape size steps passes) own
+      (evaluation_within a.pool.shape size passes steps is)
 
   module _ {IsState : List ℕ → Type 0} {took : List ℕ → List ℕ → List ℕ}
       (rule : IsRule IsState took) (old new : Outside) (ok : IsState old.output)
@@ -152,38 +209,50 @@ module _ (tells told : Bool) (x y z w : List ℕ) (m : RigState) (o : Ordered)
   steps_cause faults later a c (Em fault) same touches ends cause =
       cause_after [] a m c fault touches cause
 
-  pub steps_fills : (slots : Slot → SlotState) (c : RigState) (stop : Stop)
-      → 0 < payload_of c.pool.shape
+  pub steps_full : (faults later : Faults) (c : RigState) (stop : Stop)
+      → StepsCause faults later m c stop → IfStopsFull stop (λ used. used ≡ c.blocks)
+  steps_full faults later c (Fault kind place) cause = tt
+  steps_full faults later c Read cause = tt
+  steps_full faults later c Write cause = tt
+  steps_full faults later c (Em em.DeviceFault) cause = tt
+  steps_full faults later c (Em (em.Full used)) cause = cause.0
+  steps_full faults later c (Em (em.Damaged block)) cause = tt
+
+  -- what was moved, by the transfer cost
+  pub steps_keep : (slots : Slot → SlotState) (a c : RigState) → Sound a → Touches [] a m
       → (IsTrue tells → circuit_size o.header ≤ circuit_read (slots First) x)
-      → (IsTrue tells → m.most ≤ eval_room c.pool.shape (circuit_read (slots First) x) 0)
-      → IfStopsFull stop (FillsSteps tells m.most (circuit_size o.header)
-      (steps_of o.header.inputs z (slots Second)) c)
-      → IfStopsFull stop (FillsRun tells (asked_of_eval y w) slots c)
-  steps_fills slots c (Fault kind place) some size before p = tt
-  steps_fills slots c Read some size before p = tt
-  steps_fills slots c Write some size before p = tt
-  steps_fills slots c (Em em.DeviceFault) some size before p = tt
-  steps_fills slots c (Em (em.Damaged block)) some size before p = tt
-  steps_fills slots c (Em (em.Full used)) some size before p = record {
-    paid = p.paid;
-    size = λ t d.
-        let slot = slots Second in
-        let n = steps_of o.header.inputs z slot in
-        let count : steps_read y slot w ≡ n =
-        steps_counted y w (spells t).circuit (spells t).place [] slot (reads_file t)
-        ∙ ap (λ (v : Header). steps_begun v.inputs (given_of slot w) w) (spells t).header
-        ∙ ap (λ (v : List ℕ). steps_of o.header.inputs v slot) (sym (f t)) in
-        let large : circuit_size o.header ≤ circuit_read (slots First) y =
-        subst (λ (v : List ℕ). circuit_size o.header ≤ circuit_read (slots First) v) (e t) (size t) in
-        let read = circuit_read (slots First) y in
-        let grows = eval_room_grows c.pool.shape (circuit_size o.header) read n some large in
-        let rises = eval_room_rises c.pool.shape read 0 n some (omega arith) in
-        let first : m.most ≤ eval_room c.pool.shape read 0 =
-        subst (λ (v : List ℕ). m.most ≤ eval_room c.pool.shape (circuit_read (slots First) v) 0) (e t)
-        (before t) in
-        let most = p.size_is t in
-        rw count (omega (arith, grows, rises, first, most));
-  }
+      → (IsTrue tells → IsTrue a.device.told → m.moves ≤ a.moves
+      + circuit_moves a.pool.shape (circuit_read (slots First) x) (passes_read x))
+      → (IsTrue tells → IsTrue m.device.told → c.moves ≤ m.moves
+      + steps_moves m.pool.shape (circuit_size o.header)
+      (steps_of o.header.inputs z (slots Second)))
+      → KeepsEval tells y w slots a c
+  steps_keep slots a c sound touches small first then = λ t d.
+      let slot = slots Second in
+      let n = steps_of o.header.inputs z slot in
+      let read = circuit_read (slots First) y in
+      let passes = passes_read y in
+      let shape = a.pool.shape in
+      let count : steps_read y slot w ≡ n =
+      steps_counted y w (spells t).circuit (spells t).place [] slot (reads_file t)
+      ∙ ap (λ (v : Header). steps_begun v.inputs (given_of slot w) w) (spells t).header
+      ∙ ap (λ (v : List ℕ). steps_of o.header.inputs v slot) (sym (f t)) in
+      let large : circuit_size o.header ≤ read =
+      subst (λ (v : List ℕ). circuit_size o.header ≤ circuit_read (slots First) v) (e t) (small t) in
+      let low = sound.shape.block_low in
+      let some : 0 < payload_of shape = omega (arith, low) in
+      let own : m.moves ≤ a.moves + circuit_moves shape read passes =
+      subst (λ (v : List ℕ). m.moves ≤ a.moves
+      + circuit_moves shape (circuit_read (slots First) v) (passes_read v)) (e t) (first t d) in
+      let steps : c.moves ≤ m.moves + steps_moves shape (circuit_size o.header) n =
+      subst (λ (v : ShapeNumbers). c.moves ≤ m.moves + steps_moves v (circuit_size o.header) n)
+      touches.shape (then t (touches.told ∙ d)) in
+      subst (λ (k : ℕ). c.moves ≤ a.moves + eval_cost shape read k passes) (sym count)
+      (both_within c.moves m.moves a.moves (circuit_moves shape read passes)
+      (steps_moves shape (circuit_size o.header) n) (steps_moves shape read n)
+      (eval_cost shape read n passes) own steps
+      (steps_moves_rise shape (circuit_size o.header) read n some large)
+      (evaluation_within shape read passes n sound.shape))
 
   told_here : (old : Outside) → old.device.told ≡ told → IsTrue old.device.told → IsTrue told
   told_here old same d = subst (λ (b : Bool). IsTrue b) same d
@@ -206,13 +275,24 @@ module _ (tells told : Bool) (x y z w : List ℕ) (m : RigState) (o : Ordered)
         (output_lines (run_of (spells t).circuit (stimulus_of o.header.inputs z).steps))
         old.output new.output (Ok tt))
         → (IsTrue tells → EndsSteps (stimulus_of o.header.inputs z) (Ok tt))
+        → KeepsMoves tells (asked_of_eval y w) shape old new
         → Ended tells took (asked_of_eval y w) shape blocks old new Done
-    steps_done p ends = ended_due (asked_of_eval y w) Done done_whole
+    steps_done p ends kept = ended_due (asked_of_eval y w) Done done_whole
         (λ t d. sym (status_after None t (told_here old same d) (ends t)))
         (λ t d. subst (λ (v : List ℕ). new.output ≡ took old.output v)
         (sym (lines_after t (told_here old same d))) (p t (told_here old same d)).all)
         (λ t d. subst (λ (v : List ℕ). SentPart took old.output v new.output)
         (sym (lines_after t (told_here old same d))) (p t (told_here old same d)).part)
+        kept
+
+-- An evaluation that was done names no cause.
+pub done_caused : (old new : Outside) → GoesOn old new → Caused old new Done
+done_caused old new on = record {
+  goes_on = on;
+  read = λ f. absurd (cc);
+  write = λ f. absurd (cc);
+  device = λ f. absurd (cc);
+}
 
 -- An evaluation that stopped has its cause outside, if it names one. `m` is the rig before the steps.
 pub steps_caused : (old new : Outside) (read write : ℕ) (m c : RigState) (stop : Stop)

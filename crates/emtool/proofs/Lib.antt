@@ -1,30 +1,43 @@
+pub mod AnswerOrder
 pub mod Answered
+pub mod BatchAnswers
+pub mod Batching
 pub mod Circuit
 pub mod CircuitCosts
 pub mod CircuitEdges
 pub mod CircuitMade
+pub mod CircuitMoves
 pub mod EndLaws
+pub mod EvalCosts
 pub mod EvalEnds
+pub mod EvalMoves
 mod EvalRows
-mod JobRows
 pub mod Evaluated
 pub mod Evaluating
+pub mod InOrder
+mod JobRows
 pub mod LineLemmas
 pub mod Listing
 pub mod LoopEnds
 pub mod LoopPrints
 pub mod MadeRuns
+pub mod Moves
 pub mod NumberLemmas
 pub mod Opening
-pub mod Origins
 pub mod OptionLemmas
+pub mod OrderedBatch
+pub mod Origins
 pub mod PairLaws
 pub mod Printing
 pub mod QueueModel
+pub mod Queues
 pub mod ReadLaws
+pub mod ReadingStops
 pub mod RefusalLaws
 pub mod RoomLaws
 pub mod Running
+pub mod Scanning
+pub mod ServiceMoves
 pub mod Serving
 pub mod StepLoop
 pub mod Stepping

@@ -37,7 +37,7 @@ use Rattle.emtool.specs.Opens.{IsAllRead}
 use Rattle.emtool.specs.Stop.{fault_counts, step_stop}
 use Rattle.emtool.specs.declared.stop.Stop.{Stop}
 use Rattle.emtool.proofs.RoomLaws.{times_rises}
-use Rattle.emtool.proofs.StepLoop.{FollowsLines, MadeSteps, beside_owing, calls_more, calls_most, room_kept, size_kept}
+use Rattle.emtool.proofs.StepLoop.{FollowsLines, MadeSteps, beside_owing, calls_more, calls_most, moves_kept, size_kept}
 use Rattle.emtool.proofs.Stepping.{begun_here, begun_next, fault_here}
 
 -- the result of the loop, by that of the last step
@@ -115,6 +115,13 @@ last_idle {Q} queue old new (Ok End) last costs idle =
     inl (omega (arith, same))
 last_idle queue old new (Err stopped) last costs idle = idle
 
+-- the moves of some steps and of one more, by how many were begun
+moves_few : (steps begun each owed now before spent after later : ℕ) → steps ≤ begun
+    → owed ≡ steps * each → now ≡ each → later + (before + 0) ≤ spent + ((owed + now) + after)
+    → later + before ≤ spent + after + (1 + begun) * each
+moves_few steps begun each owed now before spent after later few e f h =
+    let rises = times_rises each steps begun few in omega (arith, rises, e, f, h)
+
 module _ {Q : Type 0} {queue : QueueGhosts Q} {tells : Bool} {took : List ℕ → List ℕ → List ℕ}
     {first mid : Scene Q} (m : MadeSteps queue tells took first mid)
     (is : IsEvaluator queue first.rig first.evaluator) where
@@ -138,32 +145,54 @@ module _ {Q : Type 0} {queue : QueueGhosts Q} {tells : Bool} {took : List ℕ �
       1 (evaluator_blocks queue mid.rig mid.evaluator) (lists_account n moves)
       (queue.counts mid.evaluator.queue) (queue.counts f.queue) mid.rig t) size own)
 
-  -- the last one needs as much room as the first one
-  pub last_room : step_room mid.rig mid.evaluator ≡ step_room first.rig first.evaluator
-  last_room = room_kept queue first.rig mid.rig first.evaluator mid.evaluator m.keeps
-      m.runs.runs.session.touches.shape
-
-  -- and makes at most two calls of the queue for each edge
+  -- The last one makes at most two calls of the queue for each edge.
   pub last_calls : step_calls mid.evaluator.header ≤ 2 * edge_count first.evaluator.header
   last_calls =
       let same : edge_count mid.evaluator.header ≡ edge_count first.evaluator.header =
       ap (λ (x : Header). edge_count x) m.keeps.header in
       omega (arith, same, calls_most mid.evaluator.header)
 
--- Blocks that were stored at first are stored but for those in frames.
-pub steps_paid : (s t : RigState) (before : ℕ) → Sound s
-    → (2 ^ 64 - 1 ≤ s.moves) ⊎ (s.used ≤ s.moves) → Pays before (s.pool.shape.frames + 1) s t
+  -- So the queue's calls between two moments at which it is empty are those of one step,
+  pub last_run : (t : RigState) (f : Evaluator Q) (r : Result StepEnd StepStop) → IsLast r
+      → StepCosts queue mid.rig t mid.evaluator f r
+      → (queue.counts mid.evaluator.queue).unstored ≤ mid.rig.pool.shape.frames
+      → (queue.counts mid.evaluator.queue).since ≡ 0
+      → (queue.counts f.queue).k
+      ≤ max (queue.counts first.evaluator.queue).k (2 * edge_count first.evaluator.header)
+  last_run t f r last costs stored since =
+      let own = last_halted queue mid.evaluator f r last costs m.runs.runs.session.sound stored in
+      omega (arith, own.called.k, since, m.run, last_calls)
+
+  -- and the moves beside the queue's are those of the steps that were begun, and of one more.
+  pub last_moves : (t : RigState) (f : Evaluator Q) (r : Result StepEnd StepStop) (begun : ℕ)
+      → IsLast r → StepCosts queue mid.rig t mid.evaluator f r
+      → (queue.counts mid.evaluator.queue).unstored ≤ mid.rig.pool.shape.frames → m.steps ≤ begun
+      → t.moves + (queue.counts first.evaluator.queue).spent
+      ≤ first.rig.moves + (queue.counts f.queue).spent
+      + (1 + begun) * step_moves first.rig first.evaluator
+  last_moves t f r begun last costs stored few =
+      let all = steps_halted t f r last costs stored in
+      let each = moves_kept queue first.rig mid.rig first.evaluator mid.evaluator m.keeps
+      m.runs.runs.session.touches.shape in
+      moves_few m.steps begun (step_moves first.rig first.evaluator) m.owed
+      (step_moves mid.rig mid.evaluator) (queue.counts first.evaluator.queue).spent first.rig.moves
+      (queue.counts f.queue).spent t.moves few m.owed_is each all.moves
+
+-- Blocks of which all but some were stored at first are stored but for those in frames.
+pub steps_paid : (s t : RigState) (own before : ℕ) → Sound s
+    → (2 ^ 64 - 1 ≤ s.moves) ⊎ (s.used ≤ s.moves + own) → own ≤ before
+    → Pays before (s.pool.shape.frames + 1) s t
     → s.moves ≤ t.moves → t.pool.shape ≡ s.pool.shape
     → (2 ^ 64 - 1 ≤ t.moves) ⊎ (t.used ≤ t.moves + 2 * t.pool.shape.frames)
-steps_paid s t before sound paid pays later shape =
+steps_paid s t own before sound paid few pays later shape =
     let frames : t.pool.shape.frames ≡ s.pool.shape.frames =
     ap (λ (n : ShapeNumbers). n.frames) shape in
     let low = sound.shape.frames_low in
     ⊎_elim (λ (a : 2 ^ 64 - 1 ≤ s.moves). inl (omega (arith, a, later)))
-    (λ (a : s.used ≤ s.moves).
+    (λ (a : s.used ≤ s.moves + own).
     ⊎_elim (λ (b : 2 ^ 64 - 1 ≤ t.moves). inl b)
     (λ (b : t.used + s.moves + before ≤ s.used + t.moves + (s.pool.shape.frames + 1)).
-    inr (omega (arith, a, b, frames, low))) pays.is) paid
+    inr (omega (arith, a, b, few, frames, low))) pays.is) paid
 
 -- why steps stopped, by the cause of the last one
 pub cause_of : (old mid new out middle after : ℕ) (s t u : RigState) (held : List ℕ)
@@ -265,6 +294,15 @@ line_begun {inputs = inputs} {mid = mid} given z f a less low =
     let some : left mid ≡ [] → ⊥ = λ e.
     let none = ap (λ (x : List ℕ). length x) e in absurd (omega (arith, whole, none, less)) in
     line_taken given (line_at inputs mid) refl f some (omega (arith, less, low))
+
+-- The steps that were made were begun.
+pub steps_begun_few : {tells : Bool} {inputs steps : ℕ} {first mid new : Source} (given : ℕ)
+    → FollowsLines inputs steps first mid → Advances tells mid new → new.feed.place ≤ given
+    → steps ≤ begun_from inputs given first.feed.place (left first)
+steps_begun_few given f a low =
+    let forward = a.steady.forward in
+    let here = f.begun given (omega (arith, low, forward)) in
+    omega (arith, here)
 
 -- All calls of the queue are two at most for each edge and each line that was begun.
 pub calls_begun : {tells : Bool} {inputs steps : ℕ} {first mid new : Source} (given x i j n : ℕ)

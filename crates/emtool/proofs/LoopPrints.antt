@@ -27,8 +27,8 @@ use Rattle.aig_forward.specs.declared.evaluator.Evaluator.{Evaluator}
 use Rattle.aig_forward.specs.declared.step_end.StepEnd.{StepEnd}
 use Rattle.aig_forward.specs.declared.step_end.StepEnd.TheVariants.{Printed, End}
 use Rattle.emtool.specs.EvalSize.{given_of}
-use Rattle.emtool.specs.Evaluation.{CanRunSteps, PrintsLines, PrintsSteps}
-use Rattle.emtool.proofs.LoopEnds.{IsLast, all_read, calls_begun, cause_of, ends_of, given_least, last_calls, last_idle, last_room, reads_second, result_of, steps_halted, steps_paid}
+use Rattle.emtool.specs.Evaluation.{CanRunSteps, PrintsLines, PrintsSteps, steps_of}
+use Rattle.emtool.proofs.LoopEnds.{IsLast, all_read, calls_begun, cause_of, ends_of, given_least, last_calls, last_idle, last_moves, last_run, reads_second, result_of, steps_begun_few, steps_halted, steps_paid}
 use Rattle.emtool.proofs.Printing.{part_step}
 use Rattle.emtool.proofs.StepLoop.{MadeSteps, PrintsRun, StepSays, first_scene}
 use Rattle.emtool.proofs.Stepping.{lines_left, lines_next, lines_stop}
@@ -186,16 +186,16 @@ module _ {H W Q : Type 0} (h : ShelfGhosts H) (w : SinkGhosts W) (queue : QueueG
       (shelf_after : H) (out_after : W) (pending : List ℕ) (r : Result StepEnd StepStop) → IsLast r
       → MadeSteps queue h.tells w.took (first_scene h w s e shelf out) mid → w.faults out ≤ middle
       → (queue.counts mid.evaluator.queue).unstored ≤ mid.rig.pool.shape.frames
+      → (queue.counts mid.evaluator.queue).since ≡ 0
       → StepSays queue w.took h.tells mid
       (scene t d (source h feed shelf_after) (w.state out_after) pending) middle
       (w.faults out_after) r
       → PrintsSteps h w queue s t e d shelf shelf_after out out_after pending (result_of r)
-  steps_ended mid middle t d feed shelf_after out_after pending r last m before stored y =
+  steps_ended mid middle t d feed shelf_after out_after pending r last m before stored since y =
       let first = first_scene h w s e shelf out in
       let new = scene t d (source h feed shelf_after) (w.state out_after) pending in
       let all = advances_then m.reads y.reads in
       let k = steps_halted m can.is t d r last y.costs stored in
-      let room = last_room m can.is in
       let text = λ (z : IsTrue h.tells).
       subst (λ (x : Header). FollowsText x.inputs mid.text new.text r) m.keeps.header
       (y.follows z) in
@@ -229,7 +229,12 @@ module _ {H W Q : Type 0} (h : ShelfGhosts H) (w : SinkGhosts W) (queue : QueueG
             (queue.counts d.queue).n z (m.follows z) y.reads (given_least z all refl ready refl)
             (omega (arith, begun, can.new)) (omega (arith, calls, can.new)) (last_calls m can.is)
             (last_idle queue mid new r last y.costs y.idle);
-        most = omega (arith, k.most, room);
-        paid = steps_paid s t ((queue.counts e.queue).unstored + 0) can.sound can.paid k.pays
-            k.touches.moves k.touches.shape;
+        run = last_run m can.is t d r last y.costs stored since;
+        moves = λ z. last_moves m can.is t d r (steps_of e.header.inputs
+            ((h.stand shelf).slot Second).left ((h.stand shelf_after).slot Second)) last y.costs stored
+            (steps_begun_few (given_of ((h.stand shelf_after).slot Second)
+            ((h.stand shelf).slot Second).left) (m.follows z) y.reads
+            (given_least z all refl ready refl));
+        paid = steps_paid s t (queue.counts e.queue).unstored ((queue.counts e.queue).unstored + 0)
+            can.sound can.paid (omega arith) k.pays k.touches.moves k.touches.shape;
       }

@@ -23,7 +23,7 @@ use Rattle.emtool.specs.declared.status.Status.{Status}
 use Rattle.emtool.specs.declared.status.Status.TheVariants.{Done, Malformed, ReadFault, WriteFault, DeviceFault, Full, NoMemory, Damaged}
 use Rattle.emtool.specs.declared.status.Status.TheVariants as status
 use Rattle.emtool.proofs.Summed.{ends_cut, ends_summed, ends_unsummed}
-use Rattle.emtool.proofs.WholeTexts.{most_rises}
+use Rattle.emtool.proofs.WholeTexts.{most_rises, moves_rise}
 
 -- the shelf that makes texts for a task
 abbrev made_shelf : Task → ℕ → ℕ → GenState
@@ -119,7 +119,8 @@ module _ {W : Type 0} (w : SinkGhosts W) {IsState : List ℕ → Type 0} (rule :
     ended = λ stand faults. ends_unsummed rule task count (asked_of task (made_texts task start count))
         s.pool.shape s.blocks (beside stand faults w s.device out) (beside stand faults w t.device out)
         (stand_of shelf) (stand_of after) (tallied last []) ok status n (λ x. never (c.write x)) u
-        (most_rises task (made_texts task start count) s.pool.shape (stand_of after).slot some) refl e;
+        (most_rises task (made_texts task start count) s.pool.shape (stand_of after).slot some)
+        (moves_rise task (made_texts task start count) s.pool.shape (stand_of after).slot) refl e;
     caused = λ stand faults. record {
       goes_on = record {
         told = c.goes_on.told;
@@ -147,7 +148,8 @@ module _ {W : Type 0} (w : SinkGhosts W) {IsState : List ℕ → Type 0} (rule :
     ended = λ stand faults. ends_summed rule task count (asked_of task (made_texts task start count))
         s.pool.shape s.blocks (beside stand faults w s.device out)
         (beside stand faults w t.device out_after) (stand_of shelf) (stand_of after) (tallied last [])
-        ok (subst (λ (z : Status). RunEnded z) d e) all;
+        ok (moves_rise task (made_texts task start count) s.pool.shape (stand_of after).slot)
+        (subst (λ (z : Status). RunEnded z) d e) all;
     caused = λ stand faults. record {
       goes_on = record {
         told = c.goes_on.told;
@@ -176,7 +178,8 @@ module _ {W : Type 0} (w : SinkGhosts W) {IsState : List ℕ → Type 0} (rule :
     ended = λ stand faults. ends_cut rule task count (asked_of task (made_texts task start count))
         s.pool.shape s.blocks (beside stand faults w s.device out)
         (beside stand faults w t.device out_after) (stand_of shelf) (stand_of after) (tallied last [])
-        ok (subst (λ (z : Status). RunEnded z) d e) part;
+        ok (moves_rise task (made_texts task start count) s.pool.shape (stand_of after).slot)
+        (subst (λ (z : Status). RunEnded z) d e) part;
     caused = λ stand faults. record {
       goes_on = record {
         told = c.goes_on.told;

@@ -6,7 +6,6 @@ use Rattle.em_record.specs.Cost.{blocks_of, lev, cost}
 use Rattle.em_record.specs.Shape.{ShapeNumbers, IsShape, payload_of}
 use Rattle.em_chain.specs.Counts.{ceiling}
 use Rattle.em_plain.specs.Room.{plain_room}
-use Rattle.emtool.specs.EvalSize.{eval_cost, eval_room}
 
 -- n records take at most this many blocks, where they fit
 pub ceiling_most : (n p b : ℕ) → 0 < p → n ≤ b * p → ceiling n p ≤ b
@@ -17,14 +16,14 @@ ceiling_most n p b pos h =
     mul_next : (b p : ℕ) → (b + 1) * p ≡ b * p + p
     mul_next b p = omega arith
 
-more_times : (x y : ℕ) → x ≤ x * (1 + y)
+pub more_times : (x y : ℕ) → x ≤ x * (1 + y)
 more_times x y = omega arith
 
 twice : (q y : ℕ) → q * (2 + y) ≤ (2 * q) * (1 + y)
 twice q y = omega arith
 
 -- n records fit into twice as many payloads as the blocks that they fill
-fits_payloads : (shape : ShapeNumbers) (n : ℕ) → IsShape shape
+pub fits_payloads : (shape : ShapeNumbers) (n : ℕ) → IsShape shape
     → n ≤ (2 * blocks_of shape n) * payload_of shape
 fits_payloads shape n is =
     let low : 0 < shape.block = omega (arith, is.block_low) in
@@ -55,30 +54,3 @@ pub times_rises : (k x z : ℕ) → x ≤ z → k * x ≤ k * z
 times_rises k x z h =
     let e : x + (z - x) ≡ z = omega (arith, h) in
     subst (λ (w : ℕ). k * x ≤ k * w) e (times_more k x (z - x))
-
-together : (k q p : ℕ) → k * ((2 * q) * p) ≡ (2 * q * k) * p
-together k q p = omega arith
-
-few : (q t : ℕ) → 3 * (2 * q * (t + 1) + 2) + 8 * (2 * q + 2) < (t + 2) * (2048 * (q + 1))
-few q t = omega arith
-
-wide : (t r a l : ℕ) → (t + 2) * a ≤ (t + r + 2) * (a * (1 + l))
-wide t r a l = omega arith
-
--- the blocks that an evaluation may hold are fewer than its cost, by any shape
-pub eval_small : (shape : ShapeNumbers) (used size steps passes : ℕ) → IsShape shape
-    → used ≤ eval_room shape size steps → used < eval_cost shape size steps passes
-eval_small shape used size steps passes is h =
-    let p = payload_of shape in
-    let q = blocks_of shape (2 * size) in
-    let some : 0 < p = omega (arith, is.block_low) in
-    let fits : 2 * size ≤ (2 * q) * p = fits_payloads shape (2 * size) is in
-    let once : ceiling size p ≤ 2 * q = ceiling_most size p (2 * q) some (omega (arith, fits)) in
-    let all : (steps + 1) * (2 * size) ≤ (2 * q * (steps + 1)) * p =
-    let rises = times_rises (steps + 1) (2 * size) ((2 * q) * p) fits in
-    subst (λ (z : ℕ). (steps + 1) * (2 * size) ≤ z) (together (steps + 1) q p) rises in
-    let calls : ceiling ((steps + 1) * (2 * size)) p ≤ 2 * q * (steps + 1) =
-    ceiling_most ((steps + 1) * (2 * size)) p (2 * q * (steps + 1)) some all in
-    let less = few q steps in
-    let cost_most = wide steps passes (2048 * (q + 1)) (lev shape q) in
-    omega (arith, once, calls, less, cost_most, h)

@@ -1,6 +1,6 @@
 -- A run over a service or a queue.
-use Rattle.std.proofs.Common.{◌≡◌, ◌≢◌, ℕ, ◌+◌, ◌-◌, ◌<◌, ◌≤◌, ◌^◌, List, [], ◌∷◌, ◌++◌, length, ap, sym, subst, ◌∙◌, refl, arith, Bool, true, IsTrue, Result, Some, None, inl, inr, ⊎_elim}
-use Rattle.em_record.specs.Shape.{ShapeNumbers, payload_of}
+use Rattle.std.proofs.Common.{◌≡◌, ◌≢◌, ℕ, ◌+◌, ◌-◌, ◌*◌, ◌<◌, ◌≤◌, ◌^◌, List, [], ◌∷◌, ◌++◌, length, ap, sym, subst, ◌∙◌, refl, arith, Bool, true, IsTrue, Result, Some, None, inl, inr, ⊎_elim}
+use Rattle.em_record.specs.Shape.{ShapeNumbers}
 use Rattle.em_io.specs.Feed.{Fed, rest}
 use Rattle.em_io.specs.Shelf.{SlotState, Stand}
 use Rattle.em_io.specs.declared.shelf.Slot.{Slot}
@@ -10,46 +10,34 @@ use Rattle.em_io.proofs.Sent.{part-of, sent-nothing}
 use Rattle.em_record.specs.declared.record.Record.{Record}
 use Rattle.em_model.specs.Stab.{stab_answers}
 use Rattle.em_space.specs.Queue.{QueueCounts, Leaves}
-use Rattle.em_space.specs.Rig.{RigState, Cause, Sound, Touches}
+use Rattle.em_space.specs.Rig.{RigState, Cause, Goes, Touches}
 use Rattle.em_space.specs.declared.fault.EmFault.TheVariants as em
-use Rattle.em_space.proofs.Steps.{cause_after, goes_nothing}
-use Rattle.em_space.proofs.Within.{touches_within, within_none}
-use Rattle.em_chain.specs.Counts.{ceiling}
-use Rattle.em_plain.specs.QueueLaws.{blocks_is}
-use Rattle.em_plain.specs.ScanQueue.{IsScanQueue, counts_of, fresh_counts, queue_blocks}
-use Rattle.em_plain.specs.declared.scan_queue.ScanQueue.{ScanQueue}
+use Rattle.em_space.specs.declared.queue.Queue.{Ghosts as QueueGhosts}
+use Rattle.em_space.proofs.Queues.{shares_then}
+use Rattle.em_space.proofs.Steps.{cause_after, touches_then}
+use Rattle.em_space.proofs.Within.{touches_within}
+use Rattle.aig_forward.specs.Evaluator.{without_frames}
 use Rattle.emtool.specs.CommandLine.{first_fault, good_commands}
-use Rattle.emtool.specs.Asked.{asked_of_file}
+use Rattle.emtool.specs.Asked.{Limits, asked_by}
 use Rattle.emtool.specs.FileDue.{output_text, status_for, text_unless}
 use Rattle.emtool.specs.Answer.{text_for}
 use Rattle.emtool.specs.Reads.{Reads}
 use Rattle.emtool.specs.Opens.{IsAllRead}
 use Rattle.emtool.specs.Run.{Outside}
-use Rattle.emtool.specs.RunSize.{commands_taken}
-use Rattle.emtool.specs.Serve.{Answers, IsAlone, IsFilledBy}
+use Rattle.emtool.specs.Queues.{GivesUp, MakesQueue, queue_limits}
+use Rattle.emtool.specs.Serve.{Answers, CallsOnly, IsAlone, IsFilledBy}
 use Rattle.emtool.specs.Print.{records_text}
-use Rattle.emtool.specs.Service.{IsFilled, kind_is, records_for}
+use Rattle.emtool.specs.Service.{IsFilled, records_for}
 use Rattle.emtool.specs.RunStop.{FillsRun, RunCause}
 use Rattle.emtool.specs.Stop.{Faults, IfStopsFull, OnFault, PrintCause, ReadsAll, StopCause}
 use Rattle.emtool.specs.declared.status.Malform.TheVariants.{Text, Aig}
-use Rattle.emtool.specs.declared.service.Service.{Service}
-use Rattle.emtool.specs.declared.service.Service.TheVariants as service
 use Rattle.emtool.specs.declared.stop.Stop.{Stop}
 use Rattle.emtool.specs.declared.stop.Stop.TheVariants.{Fault, Read, Write, Em}
 use Rattle.emtool.specs.declared.text.FileKind.{FileKind}
 use Rattle.emtool.specs.declared.text.FileKind.TheVariants as kind
 use Rattle.emtool.proofs.Answered.{text_same}
 use Rattle.emtool.proofs.EndLaws.{Stopped}
-use Rattle.emtool.proofs.Listing.{room_rises}
-
--- a service answers no queue file
-pub no_queue : (s : Service) (k : FileKind) → kind_is s ≡ k → k ≢ kind.Queue
-no_queue (service.Map map) kind.Queue e = cc
-no_queue (service.Map map) kind.Map e = λ x. cc
-no_queue (service.Map map) kind.Stab e = λ x. cc
-no_queue (service.Stab stab) kind.Queue e = cc
-no_queue (service.Stab stab) kind.Map e = λ x. cc
-no_queue (service.Stab stab) kind.Stab e = λ x. cc
+use Rattle.emtool.proofs.Queues.{frames_back}
 
 -- where a line is faulty such a file is due no text
 none_due : (k : FileKind) (text : List ℕ) (fault : _) → k ≢ kind.Queue
@@ -71,11 +59,12 @@ all_due kind.Stab text e =
 
 -- The reading stopped, and nothing was printed.
 pub stopped_reading : {IsState : List ℕ → Type 0} {took : List ℕ → List ℕ → List ℕ}
-    (rule : IsRule IsState took) (tells : Bool) (k : FileKind) (text : List ℕ) (old new : Outside)
+    (rule : IsRule IsState took) (limits : Limits) (tells : Bool) (k : FileKind)
+    (text : List ℕ) (old new : Outside)
     (faults later : Faults) (a c : RigState) (stop : Stop) → IsState old.output
     → new.output ≡ old.output → k ≢ kind.Queue → StopCause tells k text faults later a c stop
-    → Stopped tells took (asked_of_file k text) old new stop
-stopped_reading {took = took} rule tells k text old new faults later a c (Fault (Text fault) line) ok
+    → Stopped tells took (asked_by limits k text) old new stop
+stopped_reading {took = took} rule limits tells k text old new faults later a c (Fault (Text fault) line) ok
     same n cause =
     record {
       fault = λ t d.
@@ -83,33 +72,33 @@ stopped_reading {took = took} rule tells k text old new faults later a c (Fault 
           ∙ ap (took old.output) (sym (none_due k text (fault, line) n (cause t)));
       part = λ t d. part-of (sent-nothing rule ok (output_text k text) same);
     }
-stopped_reading rule tells k text old new faults later a c (Fault (Aig fault) place) ok same n cause =
+stopped_reading rule limits tells k text old new faults later a c (Fault (Aig fault) place) ok same n cause =
     absurd cause
-stopped_reading rule tells k text old new faults later a c Read ok same n cause = record {
+stopped_reading rule limits tells k text old new faults later a c Read ok same n cause = record {
   fault = λ t d. tt;
   part = λ t d. part-of (sent-nothing rule ok (output_text k text) same);
 }
-stopped_reading rule tells k text old new faults later a c Write ok same n cause = record {
+stopped_reading rule limits tells k text old new faults later a c Write ok same n cause = record {
   fault = λ t d. tt;
   part = λ t d. part-of (sent-nothing rule ok (output_text k text) same);
 }
-stopped_reading rule tells k text old new faults later a c (Em fault) ok same n cause = record {
+stopped_reading rule limits tells k text old new faults later a c (Em fault) ok same n cause = record {
   fault = λ t d. tt;
   part = λ t d. part-of (sent-nothing rule ok (output_text k text) same);
 }
 
 -- A call that prints stops at no fault of the text, and needed no block.
-pub print_stops : (tells : Bool) (k : FileKind) (text left : List ℕ) (faults later : Faults)
-    (a b c : RigState) (stop : Stop) → PrintCause faults.write later.write b c stop
+pub print_stops : (limits : Limits) (tells : Bool) (k : FileKind) (text left : List ℕ)
+    (faults later : Faults) (a b c : RigState) (stop : Stop) → PrintCause faults.write later.write b c stop
     → Touches [] a b
-    → StopCause tells k text faults later a c stop × IfStopsFull stop (IsFilled tells k text left c)
-print_stops tells k text left faults later a b c (Fault fault place) cause t = absurd cause
-print_stops tells k text left faults later a b c Read cause t = absurd cause
-print_stops tells k text left faults later a b c Write cause t = (cause, tt)
-print_stops tells k text left faults later a b c (Em em.DeviceFault) cause t =
+    → StopCause tells k text faults later a c stop × IfStopsFull stop (IsFilled limits tells k text left c)
+print_stops limits tells k text left faults later a b c (Fault fault place) cause t = absurd cause
+print_stops limits tells k text left faults later a b c Read cause t = absurd cause
+print_stops limits tells k text left faults later a b c Write cause t = (cause, tt)
+print_stops limits tells k text left faults later a b c (Em em.DeviceFault) cause t =
     (cause_after [] a b c em.DeviceFault t cause, tt)
-print_stops tells k text left faults later a b c (Em (em.Full used)) cause t = absurd cause
-print_stops tells k text left faults later a b c (Em (em.Damaged block)) cause t =
+print_stops limits tells k text left faults later a b c (Em (em.Full used)) cause t = absurd cause
+print_stops limits tells k text left faults later a b c (Em (em.Damaged block)) cause t =
     (cause_after [] a b c (em.Damaged block) t cause, tt)
 
 pub print_no_fault : (faults later : ℕ) (b c : RigState) (stop : Stop) (P : Type 0)
@@ -169,12 +158,10 @@ pub answers_of : {tells told : Bool} {T : Type 0} {took : List ℕ → List ℕ 
 answers_of {tells} {told} {T} {took} k feed stand text old new result e a t d =
     subst (λ (s : List ℕ). Answers took (text_for k (good_commands k s)) old new result) e (a t d)
 
-filled_alone : (tells : Bool) (text left : List ℕ) (s t : RigState) (c : QueueCounts) (used : ℕ)
-    → 0 < payload_of s.pool.shape → Leaves c s t → IsFilledBy c s used
-    → c.most ≤ ceiling c.n (payload_of s.pool.shape) + 1
-    → (IsTrue tells → c.n ≤ commands_taken kind.Queue text left)
-    → IsFilled tells kind.Queue text left t used
-filled_alone tells text left s t c used some l full most n = record {
+filled_alone : (tells : Bool) (text left : List ℕ) (blocks : ℕ) (s t : RigState)
+    (c : QueueCounts) (used : ℕ) → Leaves c s t → IsFilledBy c s used → used ≡ blocks
+    → IsFilled (queue_limits blocks) tells kind.Queue text left t used
+filled_alone tells text left blocks s t c used l full all = record {
   paid =
       let moves : t.moves ≡ s.moves = ap (λ (r : RigState). r.moves) l.same in
       let f = ap (λ (x : ShapeNumbers). x.frames) l.touches.shape in
@@ -182,43 +169,62 @@ filled_alone tells text left s t c used some l full most n = record {
       (λ (h : 2 ^ 64 - 1 ≤ s.moves). inl (omega (arith, h, moves)))
       (λ (h : used ≤ s.moves + s.pool.shape.frames). inr (omega (arith, h, moves, f)))
       full.paid;
-  size = λ told d.
-      let rises = room_rises s.pool.shape c.n (commands_taken kind.Queue text left) some (n told) in
-      let u = full.most in
-      rw (l.touches.shape) (omega (arith, rises, u, most));
+  size = λ told d. omega (arith, all);
 }
 
--- a new queue is alone on a rig of which no block is or was in use, and that moved none,
-pub alone_fresh : (s : RigState) (c : QueueCounts) (frames areas : ℕ)
-    → c ≡ fresh_counts frames areas → s.used ≡ 0 → s.most ≡ 0 → s.moves ≡ 0 → IsAlone s c
-alone_fresh s c frames areas e used most none = rw e (record {
-  used = used;
-  most = omega (arith, most);
-  paid = inr (omega (arith, used));
-  moved = omega (arith, none);
-})
+-- A new queue is alone on a rig of which no block is or was in use, and that moved none.
+pub alone_new : {Q : Type 0} {queue : QueueGhosts Q} {s t : RigState} {q : Q}
+    → MakesQueue queue s t q → t.most ≤ (queue.counts q).most → s.used ≡ 0 → s.moves ≡ 0
+    → IsAlone t (queue.counts q)
+alone_new {queue = queue} {s = s} {t = t} {q = q} m most none still = record {
+  used = omega (arith, m.used, none);
+  most = most;
+  paid = ⊎_elim
+      (λ (h : 2 ^ 64 - 1 ≤ t.moves). inl h)
+      (λ (h : t.used + s.moves + 0 ≤ s.used + t.moves + (queue.counts q).unstored).
+      inr (omega (arith, h, none, still)))
+      m.pays.is;
+  moved = omega (arith, m.spent, still);
+}
 
--- and has no block that a call of its own could change
-pub touches_fresh : (s t : RigState) (q : ScanQueue) → Sound s → IsScanQueue s q
-    → counts_of q ≡ fresh_counts 1 0 → Touches (queue_blocks s q) s t → Touches [] s t
-touches_fresh s t q sound i e h =
-    touches_within s s t [] (queue_blocks s q) (goes_nothing s sound).touches
-    (within_none s [] (queue_blocks s q)
-    (λ z. sym (ap (λ (c : QueueCounts). c.blocks) e) ∙ blocks_is q s i z)) h
+-- Calls of a queue, and then it was given up.
+pub gives_up : {Q : Type 0} (queue : QueueGhosts Q) (q : Q) (d : QueueCounts) (s t u : RigState)
+    → CallsOnly (queue.blocks q s) (queue.counts q) d s t → Leaves d t u → GivesUp queue q s u
+gives_up queue q d s t u c l =
+    let y = shares_then (queue.counts q) d (without_frames d) s.pool t.pool u.pool c.shares l.frames in
+    record {
+      sound = l.sound;
+      touches = touches_then (queue.blocks q s) s t u c.touches l.touches;
+      frames = record {
+        shape = y.shape;
+        free = y.free;
+        areas = y.areas;
+        rack = y.rack;
+        peak = y.peak;
+      };
+    }
+
+-- A queue that was made and given up leaves as many frames free as before.
+pub goes_given_up : {Q : Type 0} {queue : QueueGhosts Q} {s t u : RigState} {q : Q}
+    → MakesQueue queue s t q → GivesUp queue q t u → Goes [] s u
+goes_given_up {queue = queue} {s = s} {t = t} {u = u} {q = q} m x = record {
+  sound = x.sound;
+  touches = touches_within s t u [] (queue.blocks q t) m.session.touches m.session.within x.touches;
+  frames = frames_back (queue.counts q) s.pool t.pool u.pool m.frames x.frames;
+}
 
 -- A queue that was alone on a full device gave its frames back.
-pub queue_filled : (tells : Bool) (text left : List ℕ) (s t : RigState) (c : QueueCounts)
-    (stop : Stop) → 0 < payload_of s.pool.shape → Leaves c s t
-    → IfStopsFull stop (IsFilledBy c s) → c.most ≤ ceiling c.n (payload_of s.pool.shape) + 1
-    → (IsTrue tells → c.n ≤ commands_taken kind.Queue text left)
-    → IfStopsFull stop (IsFilled tells kind.Queue text left t)
-queue_filled tells text left s t c (Fault fault place) some l full most n = tt
-queue_filled tells text left s t c Read some l full most n = tt
-queue_filled tells text left s t c Write some l full most n = tt
-queue_filled tells text left s t c (Em em.DeviceFault) some l full most n = tt
-queue_filled tells text left s t c (Em (em.Damaged block)) some l full most n = tt
-queue_filled tells text left s t c (Em (em.Full used)) some l full most n =
-    filled_alone tells text left s t c used some l full most n
+pub queue_filled : (tells : Bool) (text left : List ℕ) (a s t : RigState) (c : QueueCounts)
+    (faults later : Faults) (stop : Stop) → Leaves c s t → IfStopsFull stop (IsFilledBy c s)
+    → StopCause tells kind.Queue text faults later a s stop → s.blocks ≡ a.blocks
+    → IfStopsFull stop (IsFilled (queue_limits a.blocks) tells kind.Queue text left t)
+queue_filled tells text left a s t c faults later (Fault fault place) l full cause same = tt
+queue_filled tells text left a s t c faults later Read l full cause same = tt
+queue_filled tells text left a s t c faults later Write l full cause same = tt
+queue_filled tells text left a s t c faults later (Em em.DeviceFault) l full cause same = tt
+queue_filled tells text left a s t c faults later (Em (em.Damaged block)) l full cause same = tt
+queue_filled tells text left a s t c faults later (Em (em.Full used)) l full cause same =
+    filled_alone tells text left a.blocks s t c used l full (cause.0 ∙ same)
 
 -- why it stopped is as it was before
 pub queue_stops : (tells : Bool) (k : FileKind) (text : List ℕ) (faults later : Faults)
@@ -236,34 +242,38 @@ queue_stops tells k text faults later a s t c (Em (em.Damaged block)) l cause =
     subst (λ (r : RigState). Cause a r (em.Damaged block)) (sym l.same) cause
 
 -- The cause of a stop over a command file is one of the run.
-pub file_cause : (tells : Bool) (k : FileKind) (text : List ℕ) (faults later : Faults)
-    (a c : RigState) (stop : Stop) → StopCause tells k text faults later a c stop
-    → RunCause tells (asked_of_file k text) faults later a c stop
-file_cause tells k text faults later a c (Fault (Text fault) line) cause =
+pub file_cause : (limits : Limits) (tells : Bool) (k : FileKind) (text : List ℕ)
+    (faults later : Faults) (a c : RigState) (stop : Stop)
+    → StopCause tells k text faults later a c stop
+    → RunCause tells (asked_by limits k text) faults later a c stop
+file_cause limits tells k text faults later a c (Fault (Text fault) line) cause =
     λ t d. ap status_for (cause t)
-file_cause tells k text faults later a c (Fault (Aig fault) place) cause = absurd cause
-file_cause tells k text faults later a c Read cause = cause
-file_cause tells k text faults later a c Write cause = cause
-file_cause tells k text faults later a c (Em fault) cause = cause
+file_cause limits tells k text faults later a c (Fault (Aig fault) place) cause = absurd cause
+file_cause limits tells k text faults later a c Read cause = cause
+file_cause limits tells k text faults later a c Write cause = cause
+file_cause limits tells k text faults later a c (Em fault) cause = cause
 
-fills_file : (tells : Bool) (k : FileKind) (text : List ℕ) (slots : Slot → SlotState)
-    (c : RigState) (used : ℕ) → IsFilled tells k text (slots First).left c used
-    → FillsRun tells (asked_of_file k text) slots c used
-fills_file tells k text slots c used f = record {
+fills_file : (limits : Limits) (tells : Bool) (k : FileKind) (text : List ℕ)
+    (slots : Slot → SlotState) (c : RigState) (used : ℕ)
+    → IsFilled limits tells k text (slots First).left c used
+    → FillsRun tells (asked_by limits k text) slots c used
+fills_file limits tells k text slots c used f = record {
   paid = ⊎_elim
       (λ (h : 2 ^ 64 - 1 ≤ c.moves). inl h)
-      (λ (h : used ≤ c.moves + c.pool.shape.frames). inr (omega (arith, h)))
+      (λ (h : used ≤ c.moves + 2 * c.pool.shape.frames). inr (omega (arith, h)))
       f.paid;
   size = f.size;
 }
 
 -- So is what a full device says.
-pub file_fills : (tells : Bool) (k : FileKind) (text : List ℕ) (slots : Slot → SlotState)
-    (c : RigState) (stop : Stop) → IfStopsFull stop (IsFilled tells k text (slots First).left c)
-    → IfStopsFull stop (FillsRun tells (asked_of_file k text) slots c)
-file_fills tells k text slots c (Fault fault place) f = tt
-file_fills tells k text slots c Read f = tt
-file_fills tells k text slots c Write f = tt
-file_fills tells k text slots c (Em em.DeviceFault) f = tt
-file_fills tells k text slots c (Em (em.Damaged block)) f = tt
-file_fills tells k text slots c (Em (em.Full used)) f = fills_file tells k text slots c used f
+pub file_fills : (limits : Limits) (tells : Bool) (k : FileKind) (text : List ℕ)
+    (slots : Slot → SlotState) (c : RigState) (stop : Stop)
+    → IfStopsFull stop (IsFilled limits tells k text (slots First).left c)
+    → IfStopsFull stop (FillsRun tells (asked_by limits k text) slots c)
+file_fills limits tells k text slots c (Fault fault place) f = tt
+file_fills limits tells k text slots c Read f = tt
+file_fills limits tells k text slots c Write f = tt
+file_fills limits tells k text slots c (Em em.DeviceFault) f = tt
+file_fills limits tells k text slots c (Em (em.Damaged block)) f = tt
+file_fills limits tells k text slots c (Em (em.Full used)) f =
+    fills_file limits tells k text slots c used f

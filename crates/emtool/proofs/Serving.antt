@@ -54,7 +54,7 @@ filled_by : (held : List ℕ) (s t : RigState) (c d : QueueCounts) (used : ℕ) 
     → Serves held c d s t → Pays c.unstored s.pool.shape.frames s t
     → (used ≡ t.blocks) × (t.used ≡ t.blocks) → IsFilledBy d t used
 filled_by held s t c d used a v p full = record {
-  paid = full_paid held s t c.unstored used v.touches a.paid p full;
+  paid = full_paid (λ shape. shape.frames) held s t c.unstored used v.touches a.paid p full;
   most =
       let m = v.most in let n = v.more in let u = v.sound.numbers.used_most in
       omega (arith, m, n, u, full.0, full.1, a.used, a.most);

@@ -1,5 +1,5 @@
 -- The loop over the steps of a stimulus: what was done after some of them.
-use Rattle.std.proofs.Common.{◌≡◌, ℕ, ◌+◌, ◌*◌, ◌^◌, ◌<◌, ◌≤◌, Bool, List, [], ◌++◌, ap, subst, ◌∙◌, refl, arith, IsTrue, Result, Ok}
+use Rattle.std.proofs.Common.{◌≡◌, ℕ, ◌+◌, ◌*◌, ◌^◌, ◌<◌, ◌≤◌, max, Bool, List, [], ◌++◌, ap, subst, ◌∙◌, refl, arith, IsTrue, Result, Ok}
 use Rattle.std.specs.Prelude.{IfErr, OnOk}
 use Rattle.em_record.specs.Shape.{ShapeNumbers, fan_of, payload_of}
 use Rattle.em_io.specs.Sink.{IsRule, Sent}
@@ -62,6 +62,9 @@ pub record MadeSteps {Q : Type 0} (queue : QueueGhosts Q) (tells : Bool)
     (took : List ℕ → List ℕ → List ℕ) (first now : Scene Q) : Type 0 where
   pub steps : ℕ
   pub owed : ℕ
+  pub owed_is : owed ≡ steps * step_moves first.rig first.evaluator
+  pub run : (queue.counts now.evaluator.queue).k
+      ≤ max (queue.counts first.evaluator.queue).k (2 * edge_count first.evaluator.header)
   pub is : IsEvaluator queue now.rig now.evaluator
   pub keeps : Keeps queue now.rig first.evaluator now.evaluator
   pub runs : RunsBeside (2 * edge_count first.evaluator.header * steps)
@@ -127,9 +130,13 @@ module _ {Q : Type 0} (queue : QueueGhosts Q) (s t : RigState) (e f : Evaluator 
       let new = j.state_blocks in
       omega (arith, old, new, latch_same, given_same, gates_same)
 
-  -- and a step needs as many.
+  -- and a step needs as many,
   pub room_kept : step_room t f ≡ step_room s e
   room_kept = omega (arith, latch_same, input_same, given_same, gates_same)
+
+  -- and makes as many moves.
+  pub moves_kept : step_moves t f ≡ step_moves s e
+  moves_kept = omega (arith, latch_same, input_same, given_same, gates_same)
 
 -- a step makes at most two calls of the queue for each edge
 pub calls_most : (h : Header) → step_calls h ≤ 2 * edge_count h
@@ -138,6 +145,11 @@ calls_most h = omega arith
 -- x more for one more
 pub calls_more : (x k : ℕ) → x * (k + 1) ≡ x * k + x
 calls_more x k = omega arith
+
+-- the moves of one step more
+owed_more : (steps each owed now : ℕ) → owed ≡ steps * each → now ≡ each
+    → owed + now ≡ (steps + 1) * each
+owed_more steps each owed now e f = omega (arith, e, f)
 
 -- all calls are few
 calls_few : (x k n : ℕ) → x ≤ 2 ^ 43 → k ≤ 2 ^ 50 → n ≤ x * k → n + x < 2 ^ 100
@@ -200,6 +212,8 @@ module _ {IsState : List ℕ → Type 0} {took : List ℕ → List ℕ → List 
       record {
         steps = 0;
         owed = 0;
+        owed_is = omega arith;
+        run = omega arith;
         is = is;
         keeps = record {
           header = refl;
@@ -283,18 +297,27 @@ module _ {IsState : List ℕ → Type 0} {took : List ℕ → List ℕ → List 
         beside_wider (omega (arith, calls, more, same)) (omega (arith, room))
         (beside_then (beside_owing moves m.runs) step)
 
-    -- A step more was made.
+    -- A step more was made, and no call of the queue came since it was empty.
     pub steps_next : {new : Scene Q} {faults after : ℕ}
+        → (queue.counts mid.evaluator.queue).since ≡ 0
         → StepSays queue took tells mid new faults after (Ok Printed)
         → MadeSteps queue tells took first new
-    steps_next {new} y =
+    steps_next {new} since y =
         let header = m.keeps.header in
+        let same : edge_count mid.evaluator.header ≡ edge_count first.evaluator.header =
+        ap (λ (x : Header). edge_count x) header in
+        let each = moves_kept queue first.rig mid.rig first.evaluator mid.evaluator m.keeps
+        m.runs.runs.session.touches.shape in
+        let calls = y.costs.calls_on.called.k in
         let line = λ (z : IsTrue tells).
         subst (λ (x : Header). FollowsText x.inputs mid.text new.text (Ok Printed)) header
         (y.follows z) in
         record {
           steps = m.steps + 1;
           owed = m.owed + step_moves mid.rig mid.evaluator;
+          owed_is = owed_more m.steps (step_moves first.rig first.evaluator) m.owed
+              (step_moves mid.rig mid.evaluator) m.owed_is each;
+          run = omega (arith, calls, since, m.run, same);
           is = y.is;
           keeps = record {
             header = y.keeps.header ∙ header;

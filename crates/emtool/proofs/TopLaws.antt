@@ -1,10 +1,12 @@
 -- What the top call says of a job, from how its run ended.
-use Rattle.std.proofs.Common.{◌≡◌, ℕ, ◌+◌, ◌-◌, ◌*◌, ◌<◌, ◌≤◌, ◌^◌, inl, inr, ⊎_elim, Bool, List, Option, refl, arith, Ok}
+use Rattle.std.proofs.Common.{◌≡◌, ℕ, ◌+◌, ◌-◌, ◌*◌, ◌<◌, ◌≤◌, ◌^◌, inl, inr, ⊎_elim, Bool, List, Option, refl, ap, subst, ◌∙◌, arith, Ok, IfSome}
 use Rattle.em_record.specs.Shape.{ShapeNumbers, IsShape}
 use Rattle.em_io.specs.Shelf.{SlotState, Stand}
 use Rattle.em_io.specs.declared.shelf.Shelf.{Ghosts as ShelfGhosts}
 use Rattle.em_io.specs.declared.sink.Sink.{Ghosts as SinkGhosts}
 use Rattle.em_frames.specs.Device.{DeviceState}
+use Rattle.em_frames.specs.Pool.{PoolCounts}
+use Rattle.em_space.specs.Rig.{Opens, RigState}
 use Rattle.em_io.specs.declared.shelf.Slot.{Slot}
 use Rattle.em_io.specs.declared.shelf.Slot.TheVariants.{First, Second}
 use Rattle.emtool.specs.declared.job.Job.{Job}
@@ -12,42 +14,57 @@ use Rattle.emtool.specs.declared.job.Origin.{Origin}
 use Rattle.emtool.specs.declared.job.Origin.TheVariants.{Files, Made}
 use Rattle.emtool.specs.declared.job.Task.{Task}
 use Rattle.emtool.specs.declared.job.Task.TheVariants.{Answer, Eval}
+use Rattle.emtool.specs.declared.text.FileKind.TheVariants.{Map, Queue, Stab}
 use Rattle.emtool.specs.declared.status.Status.{Status}
 use Rattle.emtool.specs.declared.status.Status.TheVariants.{Done, Malformed, ReadFault, WriteFault, DeviceFault, Full, NoMemory, Damaged}
 use Rattle.emtool.specs.declared.status.Status.TheVariants as status
 use Rattle.emtool.specs.Asked.{Asked, asked_of}
-use Rattle.emtool.specs.Bound.{transfer_bound}
+use Rattle.emtool.specs.Bound.{OnBounded, transfer_bound}
 use Rattle.emtool.specs.Due.{due_by, texts_on}
-use Rattle.emtool.specs.EvalSize.{circuit_read, passes_read, steps_read}
 use Rattle.emtool.specs.Made.{read_whole}
 use Rattle.emtool.specs.Opens.{OpensNamed, ReadsNamed}
 use Rattle.emtool.specs.Origin.{LeavesOutside, OnMade, asked_on, slots_of, tells_of}
-use Rattle.emtool.specs.Promise.{Completes, EndsAsDue, FullHasCause, GivesDue, Run, room_of}
-use Rattle.emtool.specs.Run.{Caused, Ended, HasSizes, Outside, RunsJob, outside}
+use Rattle.emtool.specs.Promise.{Completes, EndsAsDue, FullHasCause, GivesDue, KeepsCost, Run, room_of}
+use Rattle.emtool.specs.Run.{Caused, Ended, HasSizes, Outside, RunsJob, RunsOn, outside}
 use Rattle.emtool.specs.RunSize.{run_size}
 use Rattle.emtool.specs.Status.{OnBegun, OnUsage}
-use Rattle.emtool.proofs.EndLaws.{told_if}
-use Rattle.emtool.proofs.RoomLaws.{eval_small, room_small}
+use Rattle.emtool.proofs.EndLaws.{ended_opened, told_if}
+use Rattle.emtool.proofs.RoomLaws.{room_small}
 
--- the blocks that a task's run may hold are fewer than its bound
+-- the blocks that a task's run may hold are fewer than its bound, with four for each frame
 task_small : (task : Task) (shape : ShapeNumbers) (texts : Slot → List ℕ)
     (slots : Slot → SlotState) (used : ℕ) → IsShape shape
     → used ≤ (asked_of task texts).most shape slots
-    → used < transfer_bound task shape texts slots
-task_small (Answer kind) shape texts slots used is h =
-    room_small shape used (run_size kind (texts First) (slots First).left) is h
-task_small Eval shape texts slots used is h =
-    eval_small shape used (circuit_read (slots First) (texts First))
-    (steps_read (texts First) (slots Second) (texts Second)) (passes_read (texts First)) is h
+    → used < transfer_bound task shape texts slots + 4 * shape.frames
+task_small (Answer Map) shape texts slots used is h = let some = is.frames_low in omega (arith, h, some)
+task_small (Answer Queue) shape texts slots used is h = let some = is.frames_low in omega (arith, h, some)
+task_small (Answer Stab) shape texts slots used is h =
+    let less = room_small shape used (run_size Stab (texts First) (slots First).left) is h in
+    omega (arith, less)
+task_small Eval shape texts slots used is h = let some = is.frames_low in omega (arith, h, some)
 
 -- so are those of its run on texts of this origin
 origin_small : (origin : Origin) (task : Task) (shape : ShapeNumbers) (texts : Slot → List ℕ)
     (slots : Slot → SlotState) (used : ℕ) → IsShape shape
     → used ≤ (asked_on origin task texts).most shape slots
-    → used < transfer_bound task shape texts (slots_of origin slots)
+    → used < transfer_bound task shape texts (slots_of origin slots) + 4 * shape.frames
 origin_small Files task shape texts slots used is h = task_small task shape texts slots used is h
 origin_small (Made start count) task shape texts slots used is h =
     task_small task shape texts (λ slot. read_whole) used is h
+
+-- the moves of a run on texts of this origin are within the transfer cost, for a task that is held to it
+origin_moves : (origin : Origin) (task : Task) (shape : ShapeNumbers) (texts : Slot → List ℕ)
+    (slots : Slot → SlotState) (before after : ℕ)
+    → IfSome (asked_on origin task texts).moves (λ f. after ≤ before + f shape slots)
+    → OnBounded task (after - before ≤ transfer_bound task shape texts (slots_of origin slots))
+origin_moves Files (Answer Map) shape texts slots before after h = omega (arith, h)
+origin_moves Files (Answer Queue) shape texts slots before after h = omega (arith, h)
+origin_moves Files (Answer Stab) shape texts slots before after h = tt
+origin_moves Files Eval shape texts slots before after h = omega (arith, h)
+origin_moves (Made start count) (Answer Map) shape texts slots before after h = omega (arith, h)
+origin_moves (Made start count) (Answer Queue) shape texts slots before after h = omega (arith, h)
+origin_moves (Made start count) (Answer Stab) shape texts slots before after h = tt
+origin_moves (Made start count) Eval shape texts slots before after h = omega (arith, h)
 
 -- Where the device isn't begun or there is no memory, shelf and output stay.
 pub leaves_unbegun : {H W : Type 0} (origin : Origin) (shelf : H) (out : W)
@@ -95,6 +112,11 @@ module _ (tells : Bool) (took : List ℕ → List ℕ → List ℕ) (old new : O
 
   pub due_end : (s : Status) → RunEnded s → EndsAsDue (Ok the_run) s
   due_end s e = e.due
+
+  -- how many moves it made at most
+  pub moves_end : (s : Status) → RunEnded s → KeepsCost (Ok the_run)
+  moves_end s e = λ told. origin_moves job.origin job.task job.shape texts new.stand.slot
+      old.device.moves new.device.moves (e.moves told.shelf told.device)
 
   -- and what a full device is
   pub full_end : (s : Status) → IsShape job.shape → RunEnded s → OnBegun s (old.device.moves ≡ 0)
@@ -169,3 +191,24 @@ job_run e b = record {
   begun = b.begun;
   no_usage = b.no_usage;
 }
+
+-- a run of a job on a rig that was opened for it, from the run on the rig and what it promises besides
+pub opened_run : {H W : Type 0} {h : ShelfGhosts H} {w : SinkGhosts W} {job : Job}
+    {names : Slot → Option (List ℕ)} {device : DeviceState} {shelf : H} {out : W}
+    {device_after : DeviceState} {shelf_after : H}
+    {out_after : W} {status : Status} (pool : PoolCounts) (s t : RigState)
+    → Opens device pool job.blocks s → pool.shape ≡ job.shape → t.device ≡ device_after
+    → RunsOn h w job.task job.origin names s t shelf out shelf_after out_after status
+    → Besides h w job names device shelf out device_after shelf_after out_after status
+    → RunsJob h w job names device shelf out device_after shelf_after out_after status
+opened_run {h = h} {w = w} {job = job} {names = names} {device = device} {shelf = shelf} {out = out}
+    {shelf_after = shelf_after} {out_after = out_after} {status = status} pool s t o same closed r b =
+    let tells = tells_of job.origin h.tells in
+    let asked = asked_on job.origin job.task (texts_on job.origin job.task (h.stand shelf) names) in
+    let old = outside h w device shelf out in
+    let shape : s.pool.shape ≡ job.shape = ap (λ (p : PoolCounts). p.shape) o.pool_is ∙ same in
+    job_run (subst (λ (d : DeviceState). Ended tells w.took asked job.shape job.blocks old
+    (outside h w d shelf_after out_after) status) closed
+    (ended_opened tells asked s.pool.shape job.shape s.blocks job.blocks old
+    (outside h w s.device shelf out) (outside h w t.device shelf_after out_after) status shape
+    o.blocks_is o.told o.unmoved refl r.ended)) b

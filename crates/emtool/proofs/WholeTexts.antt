@@ -1,11 +1,14 @@
--- A run that read its texts whole may hold no fewer blocks than one that stopped in them.
-use Rattle.std.proofs.Common.{ℕ, zero, suc, ◌-◌, ◌<◌, ◌≤◌, Bool, true, false, cond, List, [], ◌∷◌, length, take, arith}
+-- A run that read its texts whole may hold no fewer blocks, and make no fewer moves, than one that stopped
+-- in them.
+use Rattle.std.proofs.Common.{IfSome, ℕ, zero, suc, ◌-◌, ◌<◌, ◌≤◌, Bool, true, false, cond, List, [], ◌∷◌, length, take, arith}
 use Rattle.std.specs.List.{sum_by}
 use Rattle.std.proofs.lemmas.List.Sums.{sum_by-append}
+use Rattle.em_record.specs.Cost.{cost}
 use Rattle.em_record.specs.Shape.{ShapeNumbers, payload_of}
 use Rattle.em_io.specs.Shelf.{SlotState}
 use Rattle.em_io.specs.declared.shelf.Slot.{Slot}
 use Rattle.em_io.specs.declared.shelf.Slot.TheVariants.{First, Second}
+use Rattle.em_tree_cost.proofs.Rising.{cost_rises}
 use Rattle.em_model.specs.Stab.{NumberedInterval, stab_answer_of, stab_answers_from, stab_step}
 use Rattle.em_model.specs.declared.command.Command.{Command}
 use Rattle.aig_defs.specs.Circuit.{Circuit}
@@ -15,14 +18,14 @@ use Rattle.aig_defs.proofs.Begun.{text_size_rises}
 use Rattle.aig_defs.proofs.Stimulus.{steps_begun_rises}
 use Rattle.emtool.specs.Asked.{asked_of}
 use Rattle.emtool.specs.CommandLine.{good_commands}
-use Rattle.emtool.specs.EvalSize.{circuit_read, given_of, steps_after, steps_read}
+use Rattle.emtool.specs.EvalSize.{circuit_read, eval_cost, given_of, passes_read, steps_after, steps_read}
 use Rattle.emtool.specs.Made.{read_whole}
 use Rattle.emtool.specs.RunSize.{commands_taken, run_size}
 use Rattle.emtool.specs.declared.job.Task.{Task}
 use Rattle.emtool.specs.declared.job.Task.TheVariants.{Answer, Eval}
 use Rattle.emtool.specs.declared.text.FileKind.{FileKind}
 use Rattle.emtool.specs.declared.text.FileKind.TheVariants.{Map, Queue, Stab}
-use Rattle.emtool.proofs.Evaluating.{eval_room_grows, eval_room_rises}
+use Rattle.emtool.proofs.EvalCosts.{eval_cost_rises}
 use Rattle.emtool.proofs.Listing.{room_rises}
 use Rattle.emtool.proofs.ReadLaws.{within_grows}
 
@@ -75,26 +78,51 @@ steps_rise (Reads c p x) given more stimulus h =
     steps_begun_rises c.header.inputs given more stimulus h
 steps_rise (Fails kind place) given more stimulus h = omega arith
 
+-- the transfer cost of a whole file is no less
+file_rises : (kind : FileKind) (shape : ShapeNumbers) (text left : List ℕ)
+    → cost shape (run_size kind text left) ≤ cost shape (run_size kind text [])
+file_rises kind shape text left = cost_rises shape (run_size kind text left) (run_size kind text [])
+    (size_rises kind text left [] (omega arith))
+
+-- nor is that of an evaluation of whole texts
+eval_rises : (shape : ShapeNumbers) (circuit stimulus : List ℕ) (slots : Slot → SlotState)
+    → eval_cost shape (circuit_read (slots First) circuit)
+    (steps_read circuit (slots Second) stimulus) (passes_read circuit)
+    ≤ eval_cost shape (circuit_read read_whole circuit) (steps_read circuit read_whole stimulus)
+    (passes_read circuit)
+eval_rises shape circuit stimulus slots =
+    let size : circuit_read (slots First) circuit ≤ circuit_read read_whole circuit =
+    text_size_rises (given_of (slots First) circuit) (given_of read_whole circuit) circuit
+    (given_most (slots First) circuit) in
+    let steps : steps_read circuit (slots Second) stimulus
+    ≤ steps_read circuit read_whole stimulus =
+    steps_rise (either_text 0 circuit) (given_of (slots Second) stimulus)
+    (given_of read_whole stimulus) stimulus (given_most (slots Second) stimulus) in
+    eval_cost_rises shape (circuit_read (slots First) circuit) (circuit_read read_whole circuit)
+    (steps_read circuit (slots Second) stimulus) (steps_read circuit read_whole stimulus)
+    (passes_read circuit) size steps
+
 -- No fewer blocks for whole texts.
 pub most_rises : (task : Task) (texts : Slot → List ℕ) (shape : ShapeNumbers)
     (slots : Slot → SlotState) → 0 < payload_of shape
     → (asked_of task texts).most shape slots
     ≤ (asked_of task texts).most shape (λ slot. read_whole)
-most_rises (Answer kind) texts shape slots some =
-    room_rises shape (run_size kind (texts First) (slots First).left)
-    (run_size kind (texts First) []) some
-    (size_rises kind (texts First) (slots First).left [] (omega arith))
+most_rises (Answer Map) texts shape slots some =
+    let more = file_rises Map shape (texts First) (slots First).left in omega (arith, more)
+most_rises (Answer Queue) texts shape slots some =
+    let more = file_rises Queue shape (texts First) (slots First).left in omega (arith, more)
+most_rises (Answer Stab) texts shape slots some =
+    room_rises shape (run_size Stab (texts First) (slots First).left)
+    (run_size Stab (texts First) []) some
+    (size_rises Stab (texts First) (slots First).left [] (omega arith))
 most_rises Eval texts shape slots some =
-    let c = texts First in
-    let s = texts Second in
-    let size : circuit_read (slots First) c ≤ circuit_read read_whole c =
-    text_size_rises (given_of (slots First) c) (given_of read_whole c) c
-    (given_most (slots First) c) in
-    let steps : steps_read c (slots Second) s ≤ steps_read c read_whole s =
-    steps_rise (either_text 0 c) (given_of (slots Second) s) (given_of read_whole s) s
-    (given_most (slots Second) s) in
-    let grows = eval_room_grows shape (circuit_read (slots First) c) (circuit_read read_whole c)
-    (steps_read c (slots Second) s) some size in
-    let rises = eval_room_rises shape (circuit_read read_whole c) (steps_read c (slots Second) s)
-    (steps_read c read_whole s) some steps in
-    omega (arith, grows, rises)
+    let more = eval_rises shape (texts First) (texts Second) slots in omega (arith, more)
+
+-- Nor fewer moves.
+pub moves_rise : (task : Task) (texts : Slot → List ℕ) (shape : ShapeNumbers)
+    (slots : Slot → SlotState) → IfSome (asked_of task texts).moves
+    (λ f. f shape slots ≤ f shape (λ slot. read_whole))
+moves_rise (Answer Map) texts shape slots = file_rises Map shape (texts First) (slots First).left
+moves_rise (Answer Queue) texts shape slots = file_rises Queue shape (texts First) (slots First).left
+moves_rise (Answer Stab) texts shape slots = tt
+moves_rise Eval texts shape slots = eval_rises shape (texts First) (texts Second) slots

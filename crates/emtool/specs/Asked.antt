@@ -1,12 +1,13 @@
 -- What a task asks of a run over the texts of its files.
-use Rattle.std.specs.Prelude.{ℕ, List, Bool, true, false, IsTrue}
+use Rattle.std.specs.Prelude.{ℕ, ◌+◌, ◌*◌, List, Bool, true, false, IsTrue, Option, Some, None}
+use Rattle.em_record.specs.Cost.{cost}
 use Rattle.em_record.specs.Shape.{ShapeNumbers}
 use Rattle.em_io.specs.Shelf.{SlotState}
 use Rattle.em_io.specs.declared.shelf.Slot.{Slot}
 use Rattle.em_io.specs.declared.shelf.Slot.TheVariants.{First, Second}
 use Rattle.em_plain.specs.Room.{plain_room}
 use Rattle.emtool.specs.EvalDue.{eval_output, eval_status}
-use Rattle.emtool.specs.EvalSize.{circuit_read, eval_room, steps_read}
+use Rattle.emtool.specs.EvalSize.{circuit_read, eval_cost, passes_read, steps_read}
 use Rattle.emtool.specs.FileDue.{due_status, output_text}
 use Rattle.emtool.specs.RunSize.{run_size}
 use Rattle.emtool.specs.declared.job.Task.{Task}
@@ -15,13 +16,15 @@ use Rattle.emtool.specs.declared.status.Status.{Status}
 use Rattle.emtool.specs.declared.text.FileKind.{FileKind}
 use Rattle.emtool.specs.declared.text.FileKind.TheVariants.{Map, Queue, Stab}
 
--- The status and the output that are due at the end; and the most blocks that the run may hold, by
--- the shape and by how far each slot was read. Each of status and blocks is said of every device, or
--- only of one that tells what it holds.
+-- The status and the output that are due at the end; the most moves that the run may make, if it is held
+-- to a number; and the most blocks that it may hold. Both are by the shape and by how far each slot was
+-- read. Each of status and blocks is said of every device, or only of one that tells what it holds; the
+-- moves are said of such a one.
 pub record Asked : Type 0 where
   pub status : Status
   pub status_told : Bool
   pub output : List ℕ
+  pub moves : Option (ShapeNumbers → (Slot → SlotState) → ℕ)
   pub most : ShapeNumbers → (Slot → SlotState) → ℕ
   pub most_told : Bool
 
@@ -36,15 +39,53 @@ counts_pairs Map = false
 counts_pairs Queue = false
 counts_pairs Stab = true
 
--- what a command file asks
-abbrev pub asked_of_file : FileKind → List ℕ → Asked
-asked_of_file kind text = record {
+-- The most moves of a command file's run, if its structure keeps to a number, and the most blocks: by the
+-- shape and the size of the run. The moves are said of a device that tells; the blocks of every one, or
+-- only of such.
+pub record Limits : Type 0 where
+  pub moves : Option (ShapeNumbers → ℕ → ℕ)
+  pub most : ShapeNumbers → ℕ → ℕ
+  pub most_told : Bool
+
+-- Those of a structure whose moves are within the transfer cost. All blocks that it holds but two for each
+-- frame were moved.
+abbrev pub by_cost : Limits
+by_cost = record {
+  moves = Some cost;
+  most = λ shape size. cost shape size + 2 * shape.frames;
+  most_told = true;
+}
+
+-- Those of a list, which is read again for each answer: its moves have no such number, its blocks do.
+abbrev pub by_list : FileKind → Limits
+by_list kind = record { moves = None; most = plain_room; most_told = counts_pairs kind }
+
+-- what a command file's run is held to
+abbrev pub limits_of : FileKind → Limits
+limits_of Map = by_cost
+limits_of Queue = by_cost
+limits_of Stab = by_list Stab
+
+-- a number by size as one by how far each slot was read
+abbrev pub sized : Option (ShapeNumbers → ℕ → ℕ) → ((Slot → SlotState) → ℕ)
+    → Option (ShapeNumbers → (Slot → SlotState) → ℕ)
+sized None size = None
+sized (Some f) size = Some (λ shape slots. f shape (size slots))
+
+-- what a command file asks of a run with these limits
+abbrev pub asked_by : Limits → FileKind → List ℕ → Asked
+asked_by limits kind text = record {
   status = due_status kind text;
   status_told = false;
   output = output_text kind text;
-  most = λ shape slots. plain_room shape (run_size kind text (slots First).left);
-  most_told = counts_pairs kind;
+  moves = sized limits.moves (λ slots. run_size kind text (slots First).left);
+  most = λ shape slots. limits.most shape (run_size kind text (slots First).left);
+  most_told = limits.most_told;
 }
+
+-- what a command file asks
+abbrev pub asked_of_file : FileKind → List ℕ → Asked
+asked_of_file kind text = asked_by (limits_of kind) kind text
 
 -- What an evaluation asks, by the texts of the circuit and of the stimulus. Whether the circuit has
 -- a fault is found from what the device gives back.
@@ -53,9 +94,11 @@ asked_of_eval circuit stimulus = record {
   status = eval_status circuit stimulus;
   status_told = true;
   output = eval_output circuit stimulus;
-  most = λ shape slots. eval_room shape (circuit_read (slots First) circuit)
-      (steps_read circuit (slots Second) stimulus);
-  most_told = false;
+  moves = Some (λ shape slots. eval_cost shape (circuit_read (slots First) circuit)
+      (steps_read circuit (slots Second) stimulus) (passes_read circuit));
+  most = λ shape slots. eval_cost shape (circuit_read (slots First) circuit)
+      (steps_read circuit (slots Second) stimulus) (passes_read circuit) + 2 * shape.frames;
+  most_told = true;
 }
 
 -- what a task asks, by the text of each slot

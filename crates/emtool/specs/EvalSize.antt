@@ -1,9 +1,8 @@
 -- The size of an evaluation that stops somewhere in its texts: three numbers.
 use Rattle.std.specs.Prelude.{ℕ, ◌+◌, ◌-◌, ◌*◌, if◌then◌else◌, List, length, Option, Some}
 use Rattle.em_record.specs.Cost.{cost}
-use Rattle.em_record.specs.Shape.{ShapeNumbers, payload_of}
+use Rattle.em_record.specs.Shape.{ShapeNumbers}
 use Rattle.em_io.specs.Shelf.{SlotState}
-use Rattle.em_chain.specs.Counts.{ceiling}
 use Rattle.aig_defs.specs.declared.fault.AigKind.{AigKind}
 use Rattle.aig_defs.specs.declared.fault.AigKind.TheVariants.{Twice, Undefined}
 use Rattle.aig_defs.specs.Begun.{text_size}
@@ -50,11 +49,3 @@ passes_read circuit = passes_after (either_text 0 circuit)
 -- the transfer cost of an evaluation: (T + r + 2) times that of 2E records
 abbrev pub eval_cost : ShapeNumbers → ℕ → ℕ → ℕ → ℕ
 eval_cost shape size steps passes = (steps + passes + 2) * cost shape (2 * size)
-
--- The most blocks that an evaluation may hold. Its queue has at most 2E calls between two moments at
--- which it is empty while graph and ranks are made, and 2E for each step; there are at most ten lists of
--- E records beside it. Three times the queue's records and eight lists are enough for both, since a
--- list of E records takes no more blocks than the queue's.
-abbrev pub eval_room : ShapeNumbers → ℕ → ℕ → ℕ
-eval_room shape size steps = 3 * (ceiling ((steps + 1) * (2 * size)) (payload_of shape) + 2)
-    + 8 * (ceiling size (payload_of shape) + 2)

@@ -24,10 +24,11 @@ use Rattle.aig_edges.specs.Graph.{IsOrdered, IsOrderedOf, edge_count, ordered_bl
 use Rattle.aig_edges.specs.declared.graph.Ordered.{Ordered}
 use Rattle.aig_forward.specs.Evaluator.{Evaluates, HasEvaluatorFrames, IsEvaluator, evaluator_blocks}
 use Rattle.aig_forward.specs.Outputs.{KeepsFront}
-use Rattle.aig_forward.specs.Step.{step_room}
+use Rattle.aig_forward.specs.Step.{step_moves}
 use Rattle.aig_forward.specs.declared.evaluator.Evaluator.{Evaluator}
 use Rattle.aig_order.specs.OrderGraph.{OrdersCircuit}
-use Rattle.emtool.specs.EvalSize.{circuit_read, eval_room, given_of}
+use Rattle.emtool.specs.EvalMoves.{circuit_moves, steps_moves}
+use Rattle.emtool.specs.EvalSize.{circuit_read, given_of, passes_read}
 use Rattle.emtool.specs.Opens.{IsAllRead}
 use Rattle.emtool.specs.Run.{IsReady, ReadsFirst}
 use Rattle.emtool.specs.Stop.{Faults, IfStopsFull, OnFault, fault_counts}
@@ -57,8 +58,6 @@ pub record MakesEdges {H : Type 0} (h : ShelfGhosts H) (s t : RigState) (shelf s
   pub all_read : IsAllRead h.tells ((h.stand shelf_after).slot First)
   pub size : IsTrue h.tells → circuit_size o.header
       ≤ circuit_read ((h.stand shelf_after).slot First) ((h.stand shelf).slot First).left
-  pub most : IsTrue h.tells → t.most ≤ eval_room t.pool.shape
-      (circuit_read ((h.stand shelf_after).slot First) ((h.stand shelf).slot First).left) 0
 
 -- why no edges were made: the first fault of the text, if shelf and device tell; the shelf's count of
 -- faults rose; or what a call on the rig says
@@ -70,34 +69,31 @@ CircuitCause tells text faults after old new Read = Rose faults.read after.read
 CircuitCause tells text faults after old new Write = ⊥
 CircuitCause tells text faults after old new (Em fault) = Cause old new fault
 
--- What a full device says of an evaluation that read a circuit of this size and began this many steps.
-pub record FillsEval (tells : Bool) (size steps : ℕ) (new : RigState) (used : ℕ) : Type 0 where
+-- What a full device says of an evaluation: its blocks are at most the moves and two for each frame,
+-- unless the count of moves stands at its end.
+pub record FillsEval (new : RigState) (used : ℕ) : Type 0 where
   pub paid : (2 ^ 64 - 1 ≤ new.moves) ⊎ (used ≤ new.moves + 2 * new.pool.shape.frames)
-  pub size_is : IsTrue tells → used ≤ eval_room new.pool.shape size steps
-
--- What it says of the steps of an evaluation, if at most `before` blocks were in use before them.
-pub record FillsSteps (tells : Bool) (before size steps : ℕ) (new : RigState) (used : ℕ)
-    : Type 0 where
-  pub paid : (2 ^ 64 - 1 ≤ new.moves) ⊎ (used ≤ new.moves + 2 * new.pool.shape.frames)
-  pub size_is : IsTrue tells → used ≤ max before (eval_room new.pool.shape size steps)
 
 -- No edges were made.
 pub record StopsCircuit {H : Type 0} (h : ShelfGhosts H) (s t : RigState) (shelf shelf_after : H)
     (stop : Stop) : Type 0 where
   pub cause : CircuitCause h.tells ((h.stand shelf).slot First).left
       (fault_counts (h.faults shelf) 0) (fault_counts (h.faults shelf_after) 0) s t stop
-  pub full : IfStopsFull stop (FillsEval h.tells
-      (circuit_read ((h.stand shelf_after).slot First) ((h.stand shelf).slot First).left) 0 t)
+  pub full : IfStopsFull stop (FillsEval t)
 
 abbrev pub AnswersCircuit : {H : Type 0} → ShelfGhosts H → RigState → RigState → H → H
     → Result Ordered Stop → Type 0
 AnswersCircuit h s t shelf shelf_after (Ok o) = MakesEdges h s t shelf shelf_after o
 AnswersCircuit h s t shelf shelf_after (Err stop) = StopsCircuit h s t shelf shelf_after stop
 
--- The circuit in the first slot was read, as far as the answer says, and nothing else of the shelf.
+-- The circuit in the first slot was read, as far as the answer says, and nothing else of the shelf. At
+-- every end the moves are those of a circuit of the size that was read.
 pub record ReadsCircuit {H : Type 0} (h : ShelfGhosts H) (s t : RigState) (shelf shelf_after : H)
     (result : Result Ordered Stop) : Type 0 where
   pub answers : AnswersCircuit h s t shelf shelf_after result
+  pub moves : IsTrue h.tells → IsTrue s.device.told → t.moves ≤ s.moves + circuit_moves s.pool.shape
+      (circuit_read ((h.stand shelf_after).slot First) ((h.stand shelf).slot First).left)
+      (passes_read ((h.stand shelf).slot First).left)
   pub reads : ReadsFirst h.tells (h.stand shelf) (h.stand shelf_after)
   pub later : h.faults shelf ≤ h.faults shelf_after
 
@@ -153,7 +149,8 @@ pub record CanBegin (s : RigState) (o : Ordered) : Type 0 where
   pub packed : o.edges.blocks ≤ ceiling (edge_count o.header) (payload_in s)
   pub paid : (2 ^ 64 - 1 ≤ s.moves) ⊎ (s.used ≤ s.moves)
 
--- An evaluator can make steps. It has made no call of its queue, and all blocks in use are its own.
+-- An evaluator can make steps. It has made no call of its queue, and all blocks in use are its own and
+-- were stored, but those that its queue says.
 pub record CanRunSteps {Q : Type 0} (queue : QueueGhosts Q) (s : RigState) (e : Evaluator Q)
     : Type 0 where
   pub sound : Sound s
@@ -162,14 +159,17 @@ pub record CanRunSteps {Q : Type 0} (queue : QueueGhosts Q) (s : RigState) (e : 
   pub areas : 1 ≤ s.pool.free_areas
   pub rack : s.pool.rack_out ≡ false
   pub new : (queue.counts e.queue).n ≡ 0
-  pub alone : s.used ≡ e.given.blocks + (e.gates.blocks + e.state.blocks)
-  pub paid : (2 ^ 64 - 1 ≤ s.moves) ⊎ (s.used ≤ s.moves)
+  pub alone : s.used
+      ≡ (queue.counts e.queue).blocks + (e.given.blocks + (e.gates.blocks + e.state.blocks))
+  pub paid : (2 ^ 64 - 1 ≤ s.moves) ⊎ (s.used ≤ s.moves + (queue.counts e.queue).unstored)
 
 -- how many steps were begun, by what is left of the second slot
 abbrev pub steps_of : ℕ → List ℕ → SlotState → ℕ
 steps_of inputs text slot = steps_begun inputs (given_of slot text) text
 
--- Steps over the stimulus in the second slot, from each state of a circuit that the evaluator has.
+-- Steps over the stimulus in the second slot, from each state of a circuit that the evaluator has. Between
+-- two moments at which its queue is empty come the calls of one step, and beside the queue's moves come
+-- those of the steps that were begun, and of one more.
 pub record PrintsSteps {H W Q : Type 0} (h : ShelfGhosts H) (w : SinkGhosts W) (queue : QueueGhosts Q)
     (s t : RigState) (e d : Evaluator Q) (shelf shelf_after : H) (out out_after : W)
     (pending : List ℕ) (result : Result (Unit {0}) Stop) : Type 0 where
@@ -193,7 +193,11 @@ pub record PrintsSteps {H W Q : Type 0} (h : ShelfGhosts H) (w : SinkGhosts W) (
   pub called : IsTrue h.tells → (queue.counts d.queue).n ≤ 2 * edge_count e.header
       * steps_of e.header.inputs ((h.stand shelf).slot Second).left
       ((h.stand shelf_after).slot Second)
-  pub most : t.most ≤ max s.most (s.used + ((queue.counts d.queue).most + step_room s e))
+  pub run : (queue.counts d.queue).k ≤ max (queue.counts e.queue).k (2 * edge_count e.header)
+  pub moves : IsTrue h.tells → t.moves + (queue.counts e.queue).spent
+      ≤ s.moves + (queue.counts d.queue).spent
+      + (1 + steps_of e.header.inputs ((h.stand shelf).slot Second).left
+      ((h.stand shelf_after).slot Second)) * step_moves s e
   pub paid : (2 ^ 64 - 1 ≤ t.moves) ⊎ (t.used ≤ t.moves + 2 * t.pool.shape.frames)
 
 -- steps ended as due: all were made, or the stimulus has a fault
@@ -225,7 +229,8 @@ pub record PrintsAll (took : List ℕ → List ℕ → List ℕ) (lines old new 
   pub part : SentPart took old lines new
 
 -- An evaluation by these edges, which are all that is on the rig: as `PrintsSteps`, with nothing pending,
--- for a circuit in any order of its gates, from the state in which all latches are 0.
+-- for a circuit in any order of its gates, from the state in which all latches are 0. At every end the
+-- moves are those of the steps that were begun.
 pub record RunsSteps {H W : Type 0} (h : ShelfGhosts H) (w : SinkGhosts W) (s t : RigState)
     (o : Ordered) (shelf shelf_after : H) (out out_after : W) (result : Result (Unit {0}) Stop)
     : Type 0 where
@@ -242,6 +247,7 @@ pub record RunsSteps {H W : Type 0} (h : ShelfGhosts H) (w : SinkGhosts W) (s t 
       (w.state out) (w.state out_after) result
   pub cause : IfErr result (StepsCause (fault_counts (h.faults shelf) (w.faults out))
       (fault_counts (h.faults shelf_after) (w.faults out_after)) s t)
-  pub full : IfErr result (λ stop. IfStopsFull stop (FillsSteps h.tells s.most
+  pub full : IfErr result (λ stop. IfStopsFull stop (FillsEval t))
+  pub moves : IsTrue h.tells → IsTrue s.device.told → t.moves ≤ s.moves + steps_moves s.pool.shape
       (circuit_size o.header) (steps_of o.header.inputs ((h.stand shelf).slot Second).left
-      ((h.stand shelf_after).slot Second)) t))
+      ((h.stand shelf_after).slot Second))

@@ -1,5 +1,6 @@
 -- A run on made texts: docs/FORMATS.md, "Made texts" and "Output".
-use Rattle.std.specs.Prelude.{ℕ, true, false, List, [], ◌∷◌, ◌++◌, codes, decimal, get_or}
+use Rattle.std.specs.Prelude.{ℕ, true, false, List, [], ◌∷◌, ◌++◌, Option, Some, None, codes, decimal, get_or}
+use Rattle.em_record.specs.Shape.{ShapeNumbers}
 use Rattle.em_io.specs.Shelf.{SlotState}
 use Rattle.em_io.specs.declared.shelf.Slot.{Slot}
 use Rattle.em_gen.specs.Tally.{tallied, three}
@@ -63,13 +64,20 @@ abbrev pub summary_if : Status → List ℕ → List ℕ
 summary_if Done summary = summary
 summary_if other summary = []
 
+-- a number by how far each slot was read, if both texts are read whole
+abbrev pub whole : Option (ShapeNumbers → (Slot → SlotState) → ℕ)
+    → Option (ShapeNumbers → (Slot → SlotState) → ℕ)
+whole None = None
+whole (Some f) = Some (λ shape slots. f shape (λ slot. read_whole))
+
 -- What a task on made texts asks, from what it asks of files with these texts: its status, its summary,
--- and the blocks that it may hold if both texts are read whole.
+-- and the moves that it may make and the blocks that it may hold if both texts are read whole.
 abbrev pub summed_up : Task → ℕ → Asked → Asked
 summed_up task count asked = record {
   status = asked.status;
   status_told = asked.status_told;
   output = summary_if asked.status (summary_of task count asked.output);
+  moves = whole asked.moves;
   most = λ shape slots. asked.most shape (λ slot. read_whole);
   most_told = asked.most_told;
 }

@@ -1,9 +1,9 @@
 -- The text of answers that are records: docs/FORMATS.md, "Records of answers".
-use Rattle.std.specs.Prelude.{◌≡◌, ℕ, zero, suc, ◌+◌, ◌<◌, ◌≤◌, ◌==◌, if◌then◌else◌, false, List, [], ◌∷◌, ◌++◌, map, Option, Some, None, option_map, option_to_list, IfErr, IfNone, IsTrue, Result}
+use Rattle.std.specs.Prelude.{◌≡◌, ℕ, zero, suc, ◌+◌, ◌<◌, ◌≤◌, ◌==◌, if◌then◌else◌, false, List, [], ◌∷◌, ◌++◌, map, Option, Some, None, option_map, option_to_list, IfErr, IfNone, IsTrue, OnOk, Result}
 use Rattle.em_record.specs.declared.record.Record.{Record}
 use Rattle.em_io.specs.declared.sink.Sink.{Ghosts as SinkGhosts}
 use Rattle.em_space.specs.Rig.{RigState, Goes, Sound}
-use Rattle.em_chain.specs.Reader.{IsReader, ReaderHasFrame, reader_items}
+use Rattle.em_chain.specs.Reader.{IsReader, ReaderHasFrame, owed, reader_items}
 use Rattle.em_chain.specs.declared.reader.Reader.{Reader}
 use Rattle.emtool.specs.Answer.{map_text, stab_text}
 use Rattle.emtool.specs.Stop.{PrintCause}
@@ -66,6 +66,12 @@ pub record PrintStops {T W : Type 0} (w : SinkGhosts W) (out out_after : W) (s t
     (result : Result T Stop) : Type 0 where
   pub later : w.faults out ≤ w.faults out_after
   pub cause : IfErr result (PrintCause (w.faults out) (w.faults out_after) s t)
+
+-- The moves are within what a reader owed; and at Ok also with what it owes still.
+pub record ReadsWithin {T : Type 0} (s t : RigState) (r q : Reader) (result : Result T Stop)
+    : Type 0 where
+  pub moves : t.moves ≤ s.moves + owed r
+  pub left : OnOk result (t.moves + owed q ≤ s.moves + owed r)
 
 -- From a first pair, if any, and a reader of those after it, all pairs of a stab were read: another
 -- one is the next, if any, and a reader has those after it.

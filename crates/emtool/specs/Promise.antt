@@ -7,10 +7,10 @@ use Rattle.em_io.specs.Sink.{SentPart}
 use Rattle.em_io.specs.declared.shelf.Shelf.{Ghosts as ShelfGhosts}
 use Rattle.em_io.specs.declared.sink.Sink.{Ghosts as SinkGhosts}
 use Rattle.em_frames.specs.declared.device.Device.{Ghosts as DeviceGhosts}
-use Rattle.emtool.specs.Bound.{stated_room}
+use Rattle.emtool.specs.Bound.{OnBounded, stated_room, transfer_bound}
 use Rattle.emtool.specs.Asked.{ToldIf}
 use Rattle.emtool.specs.Due.{Due, due_of}
-use Rattle.emtool.specs.Origin.{LeavesOutside, OnMade, tells_of}
+use Rattle.emtool.specs.Origin.{LeavesOutside, OnMade, slots_of, tells_of}
 use Rattle.emtool.specs.Opens.{OpensNamed, ReadsNamed}
 use Rattle.emtool.specs.Job.{texts_of}
 use Rattle.emtool.specs.Outcome.{HasStats, report_text}
@@ -94,6 +94,14 @@ abbrev pub SendsFront : Result Run Usage → Type 0
 SendsFront (Ok run) = IsTold run
     → SentPart run.took run.old.output run.due.asked.output run.new.output
 SendsFront (Err usage) = Unit {0}
+
+-- At every status, if texts and device are told, the moves that were made are at most the transfer cost of what was
+-- read, for a task that is held to it.
+abbrev pub KeepsCost : Result Run Usage → Type 0
+KeepsCost (Ok run) = IsTold run → OnBounded run.due.job.task (moves_of run
+    ≤ transfer_bound run.due.job.task run.due.job.shape run.due.texts
+    (slots_of run.due.job.origin run.new.stand.slot))
+KeepsCost (Err usage) = Unit {0}
 
 -- No slot is touched but those of the job's files.
 abbrev pub Opens : Result Run Usage → Status → Type 0

@@ -1,5 +1,5 @@
 -- What a run leaves of the outside.
-use Rattle.std.specs.Prelude.{◌≡◌, ℕ, ◌+◌, ◌-◌, ◌*◌, ◌<◌, ◌≤◌, ◌^◌, ◌⊎◌, Bool, false, true, IsTrue, IsFalse, Option, List}
+use Rattle.std.specs.Prelude.{◌≡◌, ℕ, ◌+◌, ◌-◌, ◌*◌, ◌<◌, ◌≤◌, ◌^◌, ◌⊎◌, Bool, false, true, IsTrue, IsFalse, IfSome, Option, List}
 use Rattle.em_record.specs.Count.{Rose}
 use Rattle.em_record.specs.Shape.{ShapeNumbers, fan_of}
 use Rattle.em_io.specs.Sink.{SentPart}
@@ -22,7 +22,7 @@ use Rattle.emtool.specs.declared.job.Job.{Job}
 use Rattle.emtool.specs.declared.job.Origin.{Origin}
 use Rattle.emtool.specs.declared.job.Origin.TheVariants.{Made}
 use Rattle.emtool.specs.declared.job.Task.{Task}
-use Rattle.emtool.specs.Asked.{Asked, ToldIf, asked_of, asked_of_file, counts_pairs}
+use Rattle.emtool.specs.Asked.{Asked, Limits, ToldIf, asked_by, asked_of, counts_pairs, limits_of}
 use Rattle.emtool.specs.Due.{texts_in, texts_on}
 use Rattle.emtool.specs.Opens.{IsAllRead, OpensNamed, ReadsNamed}
 use Rattle.emtool.specs.Made.{made_texts}
@@ -61,10 +61,10 @@ stop_status stop.Read = ReadFault
 stop_status stop.Write = WriteFault
 stop_status (stop.Em fault) = em_status fault
 
--- The frames of a run are free: 2f + 11 single ones, an area and the rack.
+-- The frames of a run are free: 2f + 12 single ones, two areas and the rack.
 pub record IsReady (p : PoolCounts) : Type 0 where
-  pub singles : 2 * fan_of p.shape + 11 ≤ p.free
-  pub areas : 1 ≤ p.free_areas
+  pub singles : 2 * fan_of p.shape + 12 ≤ p.free
+  pub areas : 2 ≤ p.free_areas
   pub rack : p.rack_out ≡ false
 
 -- Of the shelf only the first slot was read; whether it is lost didn't change.
@@ -91,6 +91,8 @@ pub record Ended (tells : Bool) (took : List ℕ → List ℕ → List ℕ) (ask
       ⊎ (used ≤ new.device.moves + 2 * shape.frames))
   pub size : IsTrue tells → ToldIf asked.most_told old.device.told
       → IfEndsFull status (λ used. used ≤ asked.most shape new.stand.slot)
+  pub moves : IsTrue tells → IsTrue old.device.told → IfSome asked.moves
+      (λ f. new.device.moves ≤ old.device.moves + f shape new.stand.slot)
   pub damaged : IfEndsDamaged status (λ at. IsFalse old.device.told × (at < blocks))
 
 -- The device still tells what it told, and no count of faults fell.
@@ -113,12 +115,12 @@ pub record Caused (old new : Outside) (status : Status) : Type 0 where
   pub write : status ≡ WriteFault → Rose old.write_faults new.write_faults
   pub device : status ≡ DeviceFault → Rose old.device.faults new.device.faults
 
--- A run over a command file in the open first slot, on a rig that was `s` and is `t`: how it ended,
--- and why. Only that slot was read, and at Done to its end.
-pub record Runs {H W : Type 0} (h : ShelfGhosts H) (w : SinkGhosts W) (kind : FileKind)
-    (s t : RigState) (shelf : H) (out : W) (shelf_after : H) (out_after : W) (status : Status)
-    : Type 0 where
-  pub ended : Ended h.tells w.took (asked_of_file kind ((h.stand shelf).slot First).left)
+-- A run with these limits over a command file in the open first slot, on a rig that was `s` and is `t`:
+-- how it ended, and why. Only that slot was read, and at Done to its end.
+pub record RunsWithin {H W : Type 0} (h : ShelfGhosts H) (w : SinkGhosts W) (limits : Limits)
+    (kind : FileKind) (s t : RigState) (shelf : H) (out : W) (shelf_after : H) (out_after : W)
+    (status : Status) : Type 0 where
+  pub ended : Ended h.tells w.took (asked_by limits kind ((h.stand shelf).slot First).left)
       s.pool.shape s.blocks
       (outside h w s.device shelf out) (outside h w t.device shelf_after out_after) status
   pub caused : Caused (outside h w s.device shelf out)
@@ -127,6 +129,12 @@ pub record Runs {H W : Type 0} (h : ShelfGhosts H) (w : SinkGhosts W) (kind : Fi
   pub all_read : OnDone status (IsAllRead h.tells ((h.stand shelf_after).slot First))
   pub no_usage : OnUsage status ⊥
   pub no_memory : OnNoMemory status ⊥
+
+-- such a run with the limits of its kind
+abbrev pub Runs : {H W : Type 0} → ShelfGhosts H → SinkGhosts W → FileKind → RigState → RigState → H
+    → W → H → W → Status → Type 0
+Runs h w kind s t shelf out shelf_after out_after status =
+    RunsWithin h w (limits_of kind) kind s t shelf out shelf_after out_after status
 
 -- The run of a task over the files of these names, on such a rig: how it ended, and why; and which
 -- slots were opened and read.

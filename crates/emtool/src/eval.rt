@@ -27,7 +27,7 @@ use aig_forward::{Evaluator, StepEnd};
 use aig_order::order;
 use em_frames::Device;
 use em_io::{Feed, Printer, Shelf, Sink, Slot};
-use em_plain::ScanQueue;
+use em_pqueue::ExtQueue;
 use em_space::{Queue, Rig};
 
 /// Reads the circuit in the open first slot and makes its edges between ranks, by a queue for its graph
@@ -43,9 +43,9 @@ fn read_circuit<D: Device, H: Shelf>(rig: &mut Rig<'_, D>, shelf: &mut H) -> Res
 {
     let mut feed = Feed::new(Slot::First);
     let parts = read_either(rig, &mut feed, shelf)?;
-    let queue = ScanQueue::new(rig)?;
+    let queue = ExtQueue::new(rig)?;
     let graph = check_and_build(rig, parts, queue)?;
-    let queue = ScanQueue::new(rig)?;
+    let queue = ExtQueue::new(rig)?;
     Ok(order(rig, graph, queue)?)
 }
 
@@ -109,7 +109,7 @@ fn evaluate<D: Device, H: Shelf, W: Sink>(
     ensures runs { RunsSteps H.Shelf W.Sink (seen D.state rig.old) (seen D.state rig.new)
         ordered shelf.old shelf.new out.old out.new result }
 {
-    let queue = ScanQueue::new(rig)?;
+    let queue = ExtQueue::new(rig)?;
     let mut evaluator = Evaluator::new(rig, ordered, queue)?;
     let mut printer = Printer::new();
     let done = run_steps(rig, &mut evaluator, shelf, &mut printer, out);

@@ -1,13 +1,13 @@
 // Answers that are printed, line by line.
-ghost use Rattle.std.specs.Prelude.{◌≡◌, ◌<◌, ◌++◌, ◌∷◌, [], None, decimal, option_to_list, IfNone, IfOk, IsTrue, OnOk};
+ghost use Rattle.std.specs.Prelude.{◌≡◌, ◌+◌, ◌<◌, ◌≤◌, ◌++◌, ◌∷◌, [], None, decimal, option_to_list, IfNone, IfOk, IsTrue, OnOk};
 ghost use Rattle.em_record.specs.Count.{HasCause};
 ghost use Rattle.em_io.specs.Sink.{Sent, SentPart};
 ghost use Rattle.em_space.specs.Rig.{Sound, Goes};
 ghost use Rattle.em_space.specs.Seen.{seen};
 ghost use Rattle.em_chain.specs.Chain.{IsChain, chain_items};
-ghost use Rattle.em_chain.specs.Reader.{reader_items};
+ghost use Rattle.em_chain.specs.Reader.{owed, reader_items};
 ghost use Rattle.emtool.specs.Answer.{answer_line, answer_word, further_words, map_text, numbers_line, popped_line, popped_word, stab_text};
-ghost use Rattle.emtool.specs.Print.{IsBehind, Looks, PrintStops, ReadsOn, answer_in, answers_in, groups_from, intervals_at, popped_in, records_text};
+ghost use Rattle.emtool.specs.Print.{IsBehind, Looks, PrintStops, ReadsOn, ReadsWithin, answer_in, answers_in, groups_from, intervals_at, popped_in, records_text};
 ghost use Rattle.emtool.specs.Stop.{Prints};
 
 use crate::stop::Stop;
@@ -74,6 +74,8 @@ fn print_map<D: Device, W: Sink>(
         (W.state out.old) (W.state out.new) result }
     ensures stops { PrintStops W.Sink out.old out.new
         (seen D.state rig.old) (seen D.state rig.new) result }
+    ensures moves { (seen D.state rig.new).moves
+        ≤ (seen D.state rig.old).moves + owed reader.old }
 {
     while let Some(item) = reader.next(rig)? {
         print_answer(out, answer_in(item))?;
@@ -95,6 +97,8 @@ fn print_stabs<D: Device, W: Sink>(
         (W.state out.old) (W.state out.new) result }
     ensures stops { PrintStops W.Sink out.old out.new
         (seen D.state rig.old) (seen D.state rig.new) result }
+    ensures moves { (seen D.state rig.new).moves
+        ≤ (seen D.state rig.old).moves + owed reader.old }
 {
     let mut next = reader.next(rig)?;
     for stab in 0..stabs {
@@ -123,6 +127,8 @@ fn print_stab<D: Device, W: Sink>(
         (W.state out.old) (W.state out.new) result }
     ensures stops { PrintStops W.Sink out.old out.new
         (seen D.state rig.old) (seen D.state rig.new) result }
+    ensures moves { ReadsWithin (seen D.state rig.old) (seen D.state rig.new)
+        reader.old reader.new result }
 {
     let mut printer = Printer::new();
     match next {
@@ -161,6 +167,8 @@ fn add_further<D: Device, W: Sink>(
         (reader_items (seen D.state rig.old) reader.old))) (W.state out.new) }
     ensures stops { PrintStops W.Sink out.old out.new
         (seen D.state rig.old) (seen D.state rig.new) result }
+    ensures moves { ReadsWithin (seen D.state rig.old) (seen D.state rig.new)
+        reader.old reader.new result }
 {
     loop {
         match reader.next(rig)? {
@@ -190,6 +198,8 @@ pub fn print_answers<D: Device, W: Sink>(
         (W.state out.old) (W.state out.new) result }
     ensures stops { PrintStops W.Sink out.old out.new
         (seen D.state rig.old) (seen D.state rig.new) result }
+    ensures moves { (seen D.state rig.new).moves
+        ≤ (seen D.state rig.old).moves + answers.now.records.blocks }
 {
     match kind {
         FileKind::Map => {

@@ -1,16 +1,16 @@
 // One run of a task on an open rig.
-ghost use Rattle.std.specs.Prelude.{◌≡◌, ◌≤◌, true, []};
+ghost use Rattle.std.specs.Prelude.{◌≡◌, ◌≤◌, true, [], IsTrue};
 ghost use Rattle.em_io.specs.Shelf.{IsFresh};
-ghost use Rattle.em_space.specs.Queue.{CanServe};
-ghost use Rattle.em_space.specs.Rig.{Goes};
+ghost use Rattle.em_space.specs.Queue.{CanServe, IsNew};
+ghost use Rattle.em_space.specs.Rig.{Goes, Sound};
 ghost use Rattle.em_space.specs.Seen.{seen};
-ghost use Rattle.em_chain.specs.Effects.{GivesFrame};
-ghost use Rattle.em_plain.specs.CommandList.{BeginsList};
-ghost use Rattle.em_plain.specs.ScanQueue.{IsScanQueue, counts_of, fresh_counts};
 ghost use Rattle.emtool.specs.Due.{names_of, names_on};
 ghost use Rattle.emtool.specs.Job.{IsOrigin};
-ghost use Rattle.emtool.specs.Run.{stop_status, IsReady, Runs, RunsOn, RunsTask};
-ghost use Rattle.emtool.specs.Service.{IsUnused, kind_is, list_of};
+ghost use Rattle.emtool.specs.Queues.{GivesUp, WithinCalls, queue_limits};
+ghost use Rattle.emtool.specs.Run.{stop_status, IsReady, Runs, RunsOn, RunsTask, RunsWithin};
+ghost use Rattle.emtool.specs.RunSize.{commands_taken};
+ghost use Rattle.emtool.specs.Serve.{IsAlone};
+ghost use Rattle.emtool.specs.Service.{IsUnused, service_limits};
 ghost use Rattle.emtool.specs.Status.{OnUsage, OnNoMemory};
 
 use crate::eval::run_eval;
@@ -25,7 +25,9 @@ use crate::stop::Stop;
 use crate::text::FileKind;
 use em_frames::Device;
 use em_io::{Feed, Shelf, Sink, Slot};
-use em_plain::{ScanMap, ScanQueue, ScanStab};
+use em_map::Batch;
+use em_plain::ScanStab;
+use em_pqueue::ExtQueue;
 use em_space::{EmFault, Queue, Rig};
 
 /// The status of a run that stopped.
@@ -44,27 +46,25 @@ pub fn status_of(stop: Stop) -> Status
     }
 }
 
-/// Reads the commands of the open slot into a service of their kind that has none, and prints their
-/// answers.
-fn run_service<D: Device, H: Shelf, W: Sink>(
-    kind: FileKind,
+/// Reads the commands of the open slot into a new service of type S, and prints their answers.
+fn run_service<D: Device, H: Shelf, W: Sink, S: Service>(
     rig: &mut Rig<'_, D>,
-    service: Service,
     shelf: &mut H,
     out: &mut W,
 ) -> Status
     requires unused { IsUnused (seen D.state rig.old) }
-    requires free { 6 ≤ (seen D.state rig.old).pool.free }
-    requires begins { BeginsList (seen D.state rig.old) (list_of service) }
-    requires kind { kind_is service ≡ kind }
+    requires none_moved { (seen D.state rig.old).moves ≡ 0 }
+    requires free { IsReady (seen D.state rig.old).pool }
     requires ready { ((H.stand shelf.old).slot Slot.First).ready ≡ true }
-    ensures gives { GivesFrame [] (seen D.state rig.old) (seen D.state rig.new) }
-    ensures runs { Runs H.Shelf W.Sink kind (seen D.state rig.old) (seen D.state rig.new)
+    ensures goes { Goes [] (seen D.state rig.old) (seen D.state rig.new) }
+    ensures runs { RunsWithin H.Shelf W.Sink
+        (service_limits S.allowance S.room (seen D.state rig.old).blocks S.KIND)
+        S.KIND (seen D.state rig.old) (seen D.state rig.new)
         shelf.old out.old shelf.new out.new result }
 {
     let mut feed = Feed::new(Slot::First);
-    match read_answers(kind, rig, service, &mut feed, shelf) {
-        Ok(answers) => match print_answers(kind, rig, &answers, out) {
+    match read_answers::<D, H, S>(rig, &mut feed, shelf) {
+        Ok(answers) => match print_answers(S::KIND, rig, &answers, out) {
             Ok(()) => Status::Done,
             Err(stop) => status_of(stop),
         },
@@ -72,22 +72,28 @@ fn run_service<D: Device, H: Shelf, W: Sink>(
     }
 }
 
-/// Answers the commands of the open slot by a queue, and prints each answer when its pop is read.
-fn run_queue<D: Device, H: Shelf, W: Sink>(
+/// Answers the commands of the open slot by a queue that was never called, on a rig of which all blocks
+/// in use are the queue's, and prints each answer when its pop is read. The queue is given up.
+fn run_queue<D: Device, H: Shelf, W: Sink, Q: Queue>(
     rig: &mut Rig<'_, D>,
-    mut queue: ScanQueue,
+    mut queue: Q,
     shelf: &mut H,
     out: &mut W,
 ) -> Status
-    requires unused { IsUnused (seen D.state rig.old) }
+    requires sound { Sound (seen D.state rig.old) }
+    requires queue { Q.IsQueue queue (seen D.state rig.old) }
     requires free { CanServe (seen D.state rig.old).pool }
-    requires is { IsScanQueue (seen D.state rig.old) queue }
-    requires fresh { counts_of queue ≡ fresh_counts 1 0 }
-    requires none_moved { (seen D.state rig.old).moves ≡ 0 }
+    requires fresh { IsNew (Q.counts queue) }
+    requires alone { IsAlone (seen D.state rig.old) (Q.counts queue) }
     requires ready { ((H.stand shelf.old).slot Slot.First).ready ≡ true }
-    ensures gives { GivesFrame [] (seen D.state rig.old) (seen D.state rig.new) }
-    ensures runs { Runs H.Shelf W.Sink FileKind.Queue (seen D.state rig.old) (seen D.state rig.new)
+    ensures gives { GivesUp Q.Queue queue (seen D.state rig.old) (seen D.state rig.new) }
+    ensures runs { RunsWithin H.Shelf W.Sink (queue_limits (seen D.state rig.old).blocks)
+        FileKind.Queue (seen D.state rig.old) (seen D.state rig.new)
         shelf.old out.old shelf.new out.new result }
+    ensures moves { IsTrue H.tells → IsTrue (seen D.state rig.old).device.told
+        → WithinCalls Q.allowance (seen D.state rig.old).pool.shape
+        (commands_taken FileKind.Queue ((H.stand shelf.old).slot Slot.First).left
+        ((H.stand shelf.new).slot Slot.First).left) (seen D.state rig.new).moves }
 {
     let mut feed = Feed::new(Slot::First);
     let done = serve(rig, &mut queue, &mut feed, shelf, out);
@@ -99,6 +105,7 @@ fn run_queue<D: Device, H: Shelf, W: Sink>(
 }
 
 /// Answers the commands of the open slot, on a rig of which no block is or was in use.
+#[tactic(auto, using(crate::proofs::Moves::queue_alone, crate::proofs::Moves::queue_serves))]
 fn run_open<D: Device, H: Shelf, W: Sink>(
     kind: FileKind,
     rig: &mut Rig<'_, D>,
@@ -114,18 +121,12 @@ fn run_open<D: Device, H: Shelf, W: Sink>(
         shelf.old out.old shelf.new out.new result }
 {
     match kind {
-        FileKind::Map => match ScanMap::new(rig) {
-            Ok(map) => run_service(kind, rig, Service::Map(map), shelf, out),
-            Err(fault) => status_of(Stop::Em(fault)),
-        },
-        FileKind::Queue => match ScanQueue::new(rig) {
+        FileKind::Map => run_service::<D, H, W, Batch>(rig, shelf, out),
+        FileKind::Queue => match ExtQueue::new(rig) {
             Ok(queue) => run_queue(rig, queue, shelf, out),
             Err(fault) => status_of(Stop::Em(fault)),
         },
-        FileKind::Stab => match ScanStab::new(rig) {
-            Ok(stab) => run_service(kind, rig, Service::Stab(stab), shelf, out),
-            Err(fault) => status_of(Stop::Em(fault)),
-        },
+        FileKind::Stab => run_service::<D, H, W, ScanStab>(rig, shelf, out),
     }
 }
 

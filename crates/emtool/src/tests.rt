@@ -6,6 +6,7 @@ mod damaged;
 mod each_call;
 mod each_evaluation;
 mod next_block;
+mod watched;
 
 use crate::print_text;
 use crate::status::Status;
@@ -132,6 +133,39 @@ fn repeated(alloc: Global, line: &[u8], count: u64, last: &[u8]) -> Result<Vec<u
     Ok(text)
 }
 
+/// The digits of a key.
+const DIGITS: [u8; 10] = *b"0123456789";
+
+/// The lines `put K K` for the hundred keys of five digits that begin with these three.
+fn put_hundred(text: &mut Vec<u8>, front: [u8; 3]) -> Result<(), Fail> {
+    let [first, second, third] = front;
+    for fourth in DIGITS {
+        for fifth in DIGITS {
+            let key = [first, second, third, fourth, fifth];
+            text.extend_from_slice(b"put ")?;
+            text.extend_from_slice(&key)?;
+            text.extend_from_slice(b" ")?;
+            text.extend_from_slice(&key)?;
+            text.extend_from_slice(b"\n")?;
+        }
+    }
+    Ok(())
+}
+
+/// The lines `put K K` for 20,000 keys in order, from 10000 on, and a get of the first one.
+fn many_puts(alloc: Global) -> Result<Vec<u8>, Fail> {
+    let mut text = Vec::new(alloc);
+    for first in *b"12" {
+        for second in DIGITS {
+            for third in DIGITS {
+                put_hundred(&mut text, [first, second, third])?;
+            }
+        }
+    }
+    text.extend_from_slice(b"get 10000\n")?;
+    Ok(text)
+}
+
 /// Call 2 of the shelf gives the end of line 1, which is faulty, and call 3 would fail: nothing is read
 /// after the first fault.
 #[test]
@@ -163,7 +197,7 @@ fn a_failing_call_is_reported(rt: HostRuntime) -> Result<(), Fail> {
         ),
         (
             Part::Output,
-            b"emtool: the output could not be written\nmoves 9 peak 3\n",
+            b"emtool: the output could not be written\nmoves 35 peak 38\n",
         ),
     ];
     for (part, message) in cases {

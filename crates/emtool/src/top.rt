@@ -6,7 +6,7 @@ ghost use Rattle.em_frames.specs.Pool.{fresh_pool};
 ghost use Rattle.emtool.specs.Due.{names_on};
 ghost use Rattle.emtool.specs.Job.{HasBlocks, IsOrigin, texts_of, job_of};
 ghost use Rattle.emtool.specs.Outcome.{HasStats};
-ghost use Rattle.emtool.specs.Promise.{run_of, Begins, Completes, DamageHasCause, EndsAsDue, FullHasCause, GivesDue, LeavesAll, Opens, ReadsFiles, Reports, ReportsFront, SendsFront};
+ghost use Rattle.emtool.specs.Promise.{run_of, Begins, Completes, DamageHasCause, EndsAsDue, FullHasCause, GivesDue, KeepsCost, LeavesAll, Opens, ReadsFiles, Reports, ReportsFront, SendsFront};
 ghost use Rattle.emtool.specs.Run.{outside, GoesOn, RunsJob};
 ghost use Rattle.emtool.specs.Status.{refusal_of, OnBegun, OnNoMemory, OnUsage};
 
@@ -104,9 +104,9 @@ fn run_job<D: Device, H: Shelf, W: Sink>(
 }
 
 /// Runs the job that the words name: `words` are those after the program's name. Answers of a
-/// command file, outputs of a circuit and the summary of made texts go to `out`, the message of a status other than `Done` and
-/// the line of `--stats` to `err`; records go through `device`, in blocks. A fault of `err` changes
-/// nothing: writing there stops.
+/// command file, outputs of a circuit and the summary of made texts go to `out`, the message of a
+/// status other than `Done` and the line of `--stats` to `err`; records go through `device`, in
+/// blocks. A fault of `err` changes nothing: writing there stops.
 ///
 /// Clauses on what texts and blocks hold are said of a shelf and a device that tell it, as each
 /// clause says; those on words, counts and numbers of every one. What a clause's word means is in
@@ -142,6 +142,11 @@ pub fn emtool<D: Device, H: Shelf, W: Sink, E: Sink>(
 
     // Prefix: at every end the output took a front of what is due.
     ensures prefix { SendsFront (run_of D.Device H.Shelf W.Sink
+        words.now device.old shelf.old out.old device.new shelf.new out.new) }
+
+    // Transfers: at every end the moves are within the transfer cost of what was read, for a task that is
+    // held to it. At Usage and NoMemory there are none (`as_before`, `no_memory`).
+    ensures transfers { KeepsCost (run_of D.Device H.Shelf W.Sink
         words.now device.old shelf.old out.old device.new shelf.new out.new) }
 
     // Causes, one for each status.

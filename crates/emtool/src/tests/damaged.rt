@@ -4,91 +4,73 @@ ghost use Rattle.em_frames.specs.Device.{DeviceState};
 
 use crate::status::Status;
 use crate::tests::{Part, SMALL, failing, repeated, run_over};
-use em_frames::{BeginFault, Device};
+use em_frames::{BeginFault, Device, MemDevice};
 use em_record::{Failed, Record};
 use std::test::Fail;
 
-/// A device that tells nothing and forgets what is written: it gives the same record at every place,
-/// but the first `good` blocks begin with the record that block 0 was written with.
+/// A device that tells nothing. It keeps the first `good` blocks, and gives the same record at every
+/// place of the others.
 #[derive(Drop)]
 struct Forgetful {
-    gives: Record,
-    first: Record,
+    kept: MemDevice,
     good: u64,
-    block: u64,
-    blocks: u64,
-    moves: u64,
-    ghost begun: { blocks ≡ 0 → moves ≡ 0 },
 }
 
 impl Device for Forgetful {
     ghost state = { λ d. record {
       told = false;
       contents = [];
-      blocks = d.blocks;
-      block = d.block;
-      faults = 0;
-      moves = d.moves;
+      blocks = d.kept.blocks;
+      block = d.kept.block;
+      faults = d.kept.counts.faults;
+      moves = d.kept.moves;
     } };
 
     fn begin(&mut self, block: u32, blocks: u64) -> Result<(), BeginFault> {
-        self.block = block as u64;
-        self.blocks = blocks;
-        Ok(())
+        self.kept.begin(block, blocks)
     }
 
     fn read(&mut self, at: u64, into: &mut [Record]) -> Result<(), Failed> {
-        into.fill(self.gives);
-        if at < self.good && !into.is_empty() {
-            into[0] = self.first;
+        if at < self.good {
+            return self.kept.read(at, into);
         }
-        self.moves = self.moves.saturating_add(1);
-        Ok(())
+        let read = self.kept.read(at, into);
+        into.fill(LOST);
+        read
     }
 
     fn write(&mut self, at: u64, from: &[Record]) -> Result<(), Failed> {
-        if at == 0 && !from.is_empty() {
-            self.first = from[0];
-        }
-        self.moves = self.moves.saturating_add(1);
-        Ok(())
+        self.kept.write(at, from)
     }
 }
 
-/// A device that isn't begun yet.
-fn not_begun(good: u64) -> Forgetful
-    ensures { result.blocks ≡ 0 }
-{
-    let gives = Record {
-        a: u64::MAX,
-        b: u64::MAX,
-        c: u64::MAX,
-        d: u64::MAX,
-    };
-    Forgetful {
-        gives,
-        first: gives,
-        good,
-        block: 0,
-        blocks: 0,
-        moves: 0,
-    }
-}
+/// What is given at every place of a block that isn't kept.
+const LOST: Record = Record {
+    a: u64::MAX,
+    b: u64::MAX,
+    c: u64::MAX,
+    d: u64::MAX,
+};
 
-/// The 201 commands take two blocks, and the blocks are read in order: the first that isn't laid out as
-/// it was written is named.
+/// Blocks 0 and 1 are the tree's leaf and root, and the 201 commands take 2 and 3. The root is read first;
+/// then the commands, which go over into block 4, and into 2 once they were read from there; then root
+/// and leaf, and the commands again. The first block that isn't laid out as it was written is named.
 #[test]
 fn a_block_of_other_records_is_damaged(rt: HostRuntime) -> Result<(), Fail> {
     let text = repeated(rt.alloc(), b"put 1 2\n", 200, b"get 1\n")?;
-    let cases: [(u64, &[u8]); 2] = [
-        (0, b"emtool: scratch block 0 is damaged\n"),
-        (1, b"emtool: scratch block 1 is damaged\n"),
+    let cases: [(u64, u64, &[u8]); 5] = [
+        (0, 1, b"emtool: scratch block 1 is damaged\n"),
+        (1, 1, b"emtool: scratch block 1 is damaged\n"),
+        (2, 2, b"emtool: scratch block 2 is damaged\n"),
+        (3, 3, b"emtool: scratch block 3 is damaged\n"),
+        (4, 4, b"emtool: scratch block 4 is damaged\n"),
     ];
-    for (good, message) in cases {
-        let mut device = not_begun(good);
+    for (good, block, message) in cases {
+        let kept = MemDevice::new(rt.alloc(), &[])?;
+        let mut device = Forgetful { kept, good };
         let none = failing(Part::Device, &[]);
         let (status, out, err) = run_over(&mut device, &rt, &SMALL, &text, none)?;
-        assert!(rt; status == Status::Damaged { block: good });
+        assert!(rt; status == Status::Damaged { block });
         assert_eq!(rt; out.bytes(), b"".as_slice());
         assert_eq!(rt; err.bytes(), message);
     }

@@ -5,7 +5,7 @@
 //! calls in a row at which it took 8. It ends with the last call that a run makes: the next one
 //! isn't made, so a run in which that one is to fail ends as a run in which nothing fails. A block
 //! has 127 records beside its header.
-use crate::tests::{MAP, Part, failing, repeated, run_on};
+use crate::tests::{MAP, Part, failing, many_puts, repeated, run_on};
 use em_frames::MemDevice;
 use std::test::Fail;
 
@@ -109,39 +109,41 @@ pub(crate) fn first_wrong(
     Ok(Some(call))
 }
 
-/// The device: 10 calls. Call 0 begins it, 1 writes the one block of so small a file, and 2 reads it in
-/// search of gets. Each of three gets reads it. One call writes the answers, two release the block of
-/// the commands, and the last one reads the answers.
+/// The device: 36 calls. Call 0 begins it. Then 2 store the tree's leaf and root, and 1 the block of the commands. At the
+/// end 5 load the root, load and release the commands, store them as the leaf's buffer in a new block, and store the
+/// root; 1 loads the root and finds that buffer. The load makes 7: it loads root and leaf, loads and releases the buffer,
+/// takes a block for the answers, and stores root and leaf. 1 loads the root and finds no other buffer, 4 load and release
+/// both, and 1 stores the answers. A queue for them makes 4, which take and store its two blocks; 4 load and release the
+/// answers, take a block for them in order and store it; 4 end the queue. The last one reads the answers.
 ///
 /// The shelf: 16 calls, one that opens the file, 14 for its 42 bytes, and one that finds the end. The
 /// output: one call for each line.
 #[test]
 fn a_map_ends_at_each_failing_call(rt: HostRuntime) -> Result<(), Fail> {
     let file = command_file(&MAP_WORDS, MAP, b"10\n11\n-\n");
-    assert_eq!(rt; first_wrong(&rt, &file, Part::Device, &[(10, 0)])?, None);
+    assert_eq!(rt; first_wrong(&rt, &file, Part::Device, &[(36, 0)])?, None);
     assert_eq!(rt; first_wrong(&rt, &file, Part::Shelf, &[(16, 0)])?, None);
     let lines = [(1, 0), (1, 3), (1, 6)];
     assert_eq!(rt; first_wrong(&rt, &file, Part::Output, &lines)?, None);
     Ok(())
 }
 
-/// The device: 9 calls, since no command stands before the first get. The shelf: 30 calls, since the
+/// The device: 40 calls: the two values take a block, which is stored, and released by two calls. The shelf: 30 calls, since the
 /// end is found three times after 26 reads: by the last number, by the last line, and where the next
 /// line would begin.
 #[test]
 fn a_map_of_the_ends_ends_at_each_failing_call(rt: HostRuntime) -> Result<(), Fail> {
     let file = command_file(&MAP_WORDS, ENDS, b"-\n8\n7\n");
-    assert_eq!(rt; first_wrong(&rt, &file, Part::Device, &[(9, 0)])?, None);
+    assert_eq!(rt; first_wrong(&rt, &file, Part::Device, &[(40, 0)])?, None);
     assert_eq!(rt; first_wrong(&rt, &file, Part::Shelf, &[(30, 0)])?, None);
     let lines = [(1, 0), (1, 2), (1, 4)];
     assert_eq!(rt; first_wrong(&rt, &file, Part::Output, &lines)?, None);
     Ok(())
 }
 
-/// 129 commands and 128 answers take two blocks each. The device: 142 calls. Calls 1 and 2 write the
-/// commands, 3 and 4 read them in search of gets. The gets read 129 blocks: each the one block of the
-/// commands before it, the last one two. Two calls write the answers, four release the commands, and
-/// the last two read the answers: before the very last, the lines of 127 answers were printed.
+/// 129 commands and 128 answers take two blocks each, and the value one. The device: 54 calls, 21 and 7 for each block
+/// of commands, 4 for that of the value, 7 for each block of answers, and one that begins it. The last two read the
+/// answers: before the very last, the lines of 127 answers were printed.
 ///
 /// The shelf: 261 calls, 259 of them for 776 bytes.
 #[test]
@@ -152,7 +154,7 @@ fn a_map_of_several_blocks_ends_at_each_failing_call(rt: HostRuntime) -> Result<
     text.extend_from_slice(&gets)?;
     let lines = repeated(alloc, b"2\n", 128, b"")?;
     let file = command_file(&MAP_WORDS, &text, &lines);
-    let device = [(141, 0), (1, 254)];
+    let device = [(53, 0), (1, 254)];
     assert_eq!(rt; first_wrong(&rt, &file, Part::Device, &device)?, None);
     assert_eq!(rt; first_wrong(&rt, &file, Part::Shelf, &[(261, 0)])?, None);
     let mut sent = Vec::new(alloc);
@@ -163,17 +165,26 @@ fn a_map_of_several_blocks_ends_at_each_failing_call(rt: HostRuntime) -> Result<
     Ok(())
 }
 
-/// The device: 12 calls. Call 0 begins it. The first two pops make 4 calls each: the block is stored,
-/// loaded and released, and its header read again, since one item is left. The third pop makes 3 of
-/// them, and the last none.
+/// A map of several leaves, of which a call of the device fails early or late. No other call follows it.
+#[test]
+fn a_map_of_many_keys_ends_at_a_failing_call(rt: HostRuntime) -> Result<(), Fail> {
+    let text = many_puts(rt.alloc())?;
+    let file = command_file(&MAP_WORDS, &text, b"10000\n");
+    for call in [0u64, 1, 2, 5, 50, 500] {
+        assert!(rt; ends_so(&rt, &file, Part::Device, call, 5, 0)?);
+    }
+    Ok(())
+}
+
+/// The device: 3 calls. Call 0 begins it, and two store the leaf and the root of an empty tree. The items stand in
+/// memory.
 ///
 /// The shelf: 17 calls. The pops end in calls 8, 12, 13 and 15, and call 16 finds the end. The output:
 /// 7 calls, two for each line of 4 bytes.
 #[test]
 fn a_queue_ends_at_each_failing_call(rt: HostRuntime) -> Result<(), Fail> {
     let file = command_file(&QUEUE_WORDS, QUEUE, b"4 1\n4 2\n4 0\n-\n");
-    let device = [(5, 0), (4, 4), (3, 8)];
-    assert_eq!(rt; first_wrong(&rt, &file, Part::Device, &device)?, None);
+    assert_eq!(rt; first_wrong(&rt, &file, Part::Device, &[(3, 0)])?, None);
     let shelf = [(9, 0), (4, 4), (1, 8), (2, 12), (1, 14)];
     assert_eq!(rt; first_wrong(&rt, &file, Part::Shelf, &shelf)?, None);
     let lines = [(1, 0), (1, 3), (1, 4), (1, 7), (1, 8), (1, 11), (1, 12)];
@@ -181,14 +192,26 @@ fn a_queue_ends_at_each_failing_call(rt: HostRuntime) -> Result<(), Fail> {
     Ok(())
 }
 
-/// 128 items take two blocks. The device: 11 calls. Call 1 stores the first block when the second one
-/// begins. The first pop makes 5 calls: it stores the second block, and loads and releases both. The
-/// second pop makes 4: it stores the one block, loads and releases it, and reads its header again.
+/// Memory holds 1024 items. The push after that gives 512 of them to the tree, and goes there too: the 513 fill five
+/// blocks. The device: 77 calls. Of 7 that come at pushes, three are those of a small queue, and four store blocks of the
+/// root's buffer. When 512 items were popped, the next pop makes 70:
+///
+///     22   store the last block; load the root; load and release five blocks, store them as the leaf's buffer, four of
+///          them in blocks that are taken; store the root
+///     2    load the root, and find that no buffer is full; load it again, and find the leaf's
+///     24   load the root and the leaf; load and release five blocks; take and store as many; store both
+///     1    loads the root, and finds no other buffer
+///     13   load the root and the leaf; load and release five blocks; store the leaf, which is empty
+///     8    load and release both, as nothing is left; take two blocks, and store a new leaf and root
 #[test]
-fn a_queue_of_several_blocks_ends_at_each_failing_call(rt: HostRuntime) -> Result<(), Fail> {
-    let text = repeated(rt.alloc(), b"push 1 2\n", 128, b"pop\npop\n")?;
-    let file = command_file(&QUEUE_WORDS, &text, b"1 2\n1 2\n");
-    let device = [(7, 0), (4, 4)];
+fn a_queue_of_many_items_ends_at_each_failing_call(rt: HostRuntime) -> Result<(), Fail> {
+    let alloc = rt.alloc();
+    let mut text = repeated(alloc, b"push 1 2\n", 1025, b"")?;
+    let pops = repeated(alloc, b"pop\n", 513, b"")?;
+    text.extend_from_slice(&pops)?;
+    let lines = repeated(alloc, b"1 2\n", 513, b"")?;
+    let file = command_file(&QUEUE_WORDS, &text, &lines);
+    let device = [(7, 0), (70, 2048)];
     assert_eq!(rt; first_wrong(&rt, &file, Part::Device, &device)?, None);
     Ok(())
 }
@@ -208,8 +231,9 @@ fn a_stab_file_ends_at_each_failing_call(rt: HostRuntime) -> Result<(), Fail> {
     Ok(())
 }
 
-/// 129 commands and 128 pairs take two blocks each, and the device gets the 142 calls of a map of so
-/// many commands and answers. Whether a line goes on is seen by the next pair: so before the very last
+/// 129 commands and 128 pairs take two blocks each. The device: 142 calls. Calls 1 and 2 write the commands, 3 and 4
+/// read them in search of stabs. The stabs read 129 blocks: each the one block of the commands before it, the last one
+/// two. Two calls write the pairs, four release the commands, and the last two read the pairs. Whether a line goes on is seen by the next pair: so before the very last
 /// call the lines of 126 stabs were printed.
 #[test]
 fn a_stab_file_of_several_blocks_ends_at_each_failing_call(rt: HostRuntime) -> Result<(), Fail> {

@@ -5,24 +5,26 @@
 //!
 //!     begin        1
 //!     store        1 for each list that has a record: definitions, gates, uses
-//!     definitions  load and release the list, take a block for the queue, pop all items, take a
-//!                  block for the sorted list, and store it
+//!     queue        store the two blocks of a new queue's tree, and take each by one call if it was freed
+//!     definitions  load and release the list, take a block for the sorted list, and store it
 //!     twice        1 loads them again
 //!     gates        as the definitions
 //!     edges        load the gates, and then as the definitions, with the list of uses
 //!     compare      load and release definitions and edges, take two blocks, and store both lists
+//!     end, queue   load and release the queue's two blocks; then as above
 //!     merge        load and release sources and gates, take a block, and store it; then the same of
 //!                  this list and the edges
-//!     pass         load the merged list, and load it again and release it; take a block for the queue,
-//!                  pop two notes for each gate, take a block for the list anew, and store it
+//!     pass         load the merged list, and load it again and release it; take a block for the list
+//!                  anew, and store it
 //!     rank         as a pass, also if there is no gate
 //!     order        as the definitions, with the edges between ranks
+//!     end, queue   as above
 //!     part         load the edges, take a block for those from inputs and latches, and store it
 //!     latches      take a block for their bits, and store it
 //!
-//! A pop stores, loads and releases the queue's block, and takes one if items are left: 4 calls, or
-//! 3 if the block is new or none is taken. The three lists are stored also if one of these calls
-//! fails. A pass that finds no gate comes only if fewer passes than gates found one.
+//! All that a queue has at once stands in memory, so that its pushes and pops make no call. The three
+//! lists are stored also if one of these calls fails. A pass that finds no gate comes only if fewer
+//! passes than gates found one.
 use crate::tests::each_call::{File, first_wrong};
 use crate::tests::{Part, STEPS};
 use std::test::Fail;
@@ -84,27 +86,26 @@ fn first_wrong_without_step(
 /// Two inputs, an output and a gate, and so three edges. The line of the first step is pending if
 /// the second one fails, and is sent then.
 ///
-/// The device: 145 calls, of which 109 come before the first step:
+/// The device: 83 calls, of which 71 come before the first step:
 ///
 ///     begin, store   1 + 3
-///     definitions    2 + (4 + 4 + 3) + 2, since the queue's block is new; and twice 1
-///     gates          3 + 3 + 2
-///     edges          4 + (4 + 4 + 3) + 2
-///     compare        4 + 1 + 2, since the block of the edges is new
+///     queue          2, since its blocks are new
+///     definitions    4, and twice 1
+///     gates          4
+///     edges          5
+///     compare        4 + 2, since both blocks are new
+///     end, queue     4 + 4
 ///     merge          6 + 6
-///     pass           3 + (1 + 4 + 3) + 2
-///     rank           3 + (1 + 4 + 3) + 2
-///     order          3 + (4 + 4 + 3) + 2
+///     pass, rank     5 each
+///     order          4
+///     end, queue     4 + 4
 ///     part           3
 ///
-/// Then each step makes 18 calls:
+/// Then each step makes 6 calls:
 ///
 ///     2   take a block for the inputs' bits, and store it
-///     4   load the edges from inputs and the bits, take a block for the messages, release the bits
+///     3   load the edges from inputs and the bits, and release the bits
 ///     1   loads the edge from the gate
-///     7   pop the gate's two messages, by 4 and 3
-///     1   takes a block for the output's message
-///     3   pop it
 ///
 /// The shelf: 15 calls. After the one that opens the circuit its 26 bytes want 9 reads, and its end
 /// one more. Then one call opens the stimulus; each of its two lines is one read, and its end one
@@ -112,7 +113,7 @@ fn first_wrong_without_step(
 #[test]
 fn an_evaluation_ends_at_each_failing_call(rt: HostRuntime) -> Result<(), Fail> {
     let file = evaluation(CONJUNCTION, STEPS, b"1\n0\n");
-    let device = [(127, 0), (18, 2)];
+    let device = [(77, 0), (6, 2)];
     assert_eq!(rt; first_wrong(&rt, &file, Part::Device, &device)?, None);
     let shelf = [(13, 0), (1, 2), (1, 4)];
     assert_eq!(rt; first_wrong(&rt, &file, Part::Shelf, &shelf)?, None);
@@ -122,57 +123,43 @@ fn an_evaluation_ends_at_each_failing_call(rt: HostRuntime) -> Result<(), Fail> 
 }
 
 /// The circuit has a latch too, which the gate sets and the output shows, and so four edges. The
-/// device: 179 calls, of which 123 come before the first step:
-///
-///     begin, store   1 + 3
-///     definitions    2 + (4 + 3 + 4 + 3) + 2, since the second pop takes a new block; and twice 1
-///     gates          3 + 3 + 2
-///     edges          4 + (4 + 4 + 4 + 3) + 2
-///     compare        4 + 2 + 2
-///     merge          6 + 6
-///     pass           3 + (1 + 4 + 3) + 2
-///     rank           3 + (1 + 4 + 3) + 2
-///     order          3 + (4 + 4 + 4 + 3) + 2
-///     part           3
-///     latches        2
-///
-/// Then each step makes 28 calls:
+/// device: 97 calls, of which 73 come before the first step: as of the conjunction, and 2 for the
+/// latch. Then each step makes 12 calls:
 ///
 ///     4   take a block for the inputs' bits, store it, load and store it to link the latch's bit
-///     6   load the edges from inputs and latch, and two blocks of bits; take a block; release two
+///     5   load the edges from inputs and latch, and two blocks of bits; release two
 ///     1   loads the edge from the gate
-///     8   pop the gate's two messages, each by 4, since that of the output is left
-///     6   pop the latch's message, by 4; take a block for its bit, and store it
-///     3   pop the output's message
+///     2   take a block for the latch's bit, and store it
 ///
 /// The shelf: 16 calls, since the text has 30 bytes and wants 10 reads.
 #[test]
 fn an_evaluation_with_a_latch_ends_at_each_failing_call(rt: HostRuntime) -> Result<(), Fail> {
     let file = evaluation(b"aag 4 2 1 1 1\n2\n4\n6 8\n6\n8 2 4\n", STEPS, b"0\n1\n");
-    let device = [(151, 0), (28, 2)];
+    let device = [(85, 0), (12, 2)];
     assert_eq!(rt; first_wrong(&rt, &file, Part::Device, &device)?, None);
     let shelf = [(14, 0), (1, 2), (1, 4)];
     assert_eq!(rt; first_wrong(&rt, &file, Part::Shelf, &shelf)?, None);
     Ok(())
 }
 
-/// A latch whose next bit is its negation: one definition, no gate and three edges. The device: 123
-/// calls, of which 72 come before the first step:
+/// A latch whose next bit is its negation: one definition, no gate and three edges. The device: 77
+/// calls, of which 62 come before the first step:
 ///
 ///     begin, store          1 + 2
-///     definitions           3 + 3 + 2, since the list is released before the push; and twice 1
-///     edges                 2 + (4 + 4 + 3) + 2, since the queue's block is new
-///     compare               4 + 2 + 2
+///     queue                 2
+///     definitions           4, and twice 1
+///     edges                 4
+///     compare               4 + 1 + 2: the definition is released before the sources take its block
+///     end, queue            4 + 4
 ///     merge                 4 + 6
-///     rank                  3 + 2, since nothing is pushed
-///     order                 3 + (4 + 4 + 3) + 2
+///     rank                  5
+///     order                 4
+///     end, queue            4 + 4
 ///     part                  4: all edges are moved, and their old block is released
 ///     latches               2
 ///
-/// Then each step makes 17 calls: 4 load edges and bit, release the bit and take a block for the
-/// messages; 6 pop the latch's message, by 4, take a block for its bit and store it; and 4 and 3
-/// pop the outputs'. If one of the last 3 fails, the bit of the first output is pending, and is
-/// sent.
+/// Then each step makes 5 calls: 3 load edges and bit and release the bit, and 2 take a block for the
+/// latch's new bit and store it.
 ///
 /// The shelf: 13 calls. The circuit is opened, its 22 bytes want 8 reads, and its end is found. The
 /// stimulus is opened, one read gives its three lines, and its end is found. The output: three
@@ -180,7 +167,7 @@ fn an_evaluation_with_a_latch_ends_at_each_failing_call(rt: HostRuntime) -> Resu
 #[test]
 fn a_latch_ends_at_each_failing_call(rt: HostRuntime) -> Result<(), Fail> {
     let file = evaluation(b"aag 1 0 1 2 0\n2 3\n2\n3\n", b"\n\n\n", b"01\n10\n01\n");
-    let device = [(86, 0), (3, 1), (14, 3), (3, 4), (14, 6), (3, 7)];
+    let device = [(67, 0), (5, 3), (5, 6)];
     assert_eq!(rt; first_wrong(&rt, &file, Part::Device, &device)?, None);
     let shelf = [(12, 0), (1, 9)];
     assert_eq!(rt; first_wrong(&rt, &file, Part::Shelf, &shelf)?, None);
@@ -189,17 +176,17 @@ fn a_latch_ends_at_each_failing_call(rt: HostRuntime) -> Result<(), Fail> {
     Ok(())
 }
 
-/// The output is the constant 1: one edge, from variable 0, and nothing is defined. The device: 44
-/// calls, of which 34 come before the first step: begin and store 2, edges 3 + 3 + 2, compare and merge
-/// 4 for one list each, rank 3 + 1, since its block is new, order 3 + 3 + 2, part 4. Then each step
-/// makes 5 calls: it loads the edge, takes a block for the message, and pops it by 3.
+/// The output is the constant 1: one edge, from variable 0, and nothing is defined. The device: 46
+/// calls, of which 44 come before the first step: begin and store 2, queue 2, edges 4, compare 4 for
+/// one list, end and queue 8, merge 4 for one list, rank 3 + 1, since its block is new, order 4, end and
+/// queue 8, part 4. Then each step makes a call, which loads the edge.
 ///
 /// The shelf: 11 calls. The circuit is opened, its 16 bytes want 6 reads, and its end is found. The
 /// stimulus is opened, one read gives its two lines, and its end is found. The output: two calls.
 #[test]
 fn a_constant_ends_at_each_failing_call(rt: HostRuntime) -> Result<(), Fail> {
     let file = evaluation(b"aag 0 0 0 1 0\n1\n", b"\n\n", b"1\n1\n");
-    let device = [(39, 0), (5, 2)];
+    let device = [(45, 0), (1, 2)];
     assert_eq!(rt; first_wrong(&rt, &file, Part::Device, &device)?, None);
     let shelf = [(10, 0), (1, 4)];
     assert_eq!(rt; first_wrong(&rt, &file, Part::Shelf, &shelf)?, None);
@@ -208,21 +195,21 @@ fn a_constant_ends_at_each_failing_call(rt: HostRuntime) -> Result<(), Fail> {
     Ok(())
 }
 
-/// Nothing is defined and nothing is used, and a step prints an empty line. The device: the call
-/// that begins it. The shelf: 10 calls, since the text has 14 bytes and wants 5 reads. The output:
-/// one call.
+/// Nothing is defined and nothing is used, and a step prints an empty line. The device: 19 calls, one
+/// that begins it, 2 for the first queue, and twice 8 that end one and make another. The shelf: 10 calls,
+/// since the text has 14 bytes and wants 5 reads. The output: one call.
 #[test]
 fn an_empty_circuit_ends_at_each_failing_call(rt: HostRuntime) -> Result<(), Fail> {
     let file = evaluation(b"aag 0 0 0 0 0\n", b"\n\n", b"\n\n");
-    assert_eq!(rt; first_wrong(&rt, &file, Part::Device, &[(1, 0)])?, None);
+    assert_eq!(rt; first_wrong(&rt, &file, Part::Device, &[(19, 0)])?, None);
     let shelf = [(9, 0), (1, 2)];
     assert_eq!(rt; first_wrong(&rt, &file, Part::Shelf, &shelf)?, None);
     assert_eq!(rt; first_wrong(&rt, &file, Part::Output, &[(1, 0)])?, None);
     Ok(())
 }
 
-/// The second line of the stimulus ends too early. The device: 128 calls, the 109 before the first
-/// step, its 18, and one that takes a block for the bit of the second line. The shelf: 14 calls,
+/// The second line of the stimulus ends too early. The device: 78 calls, the 71 before the first
+/// step, its 6, and one that takes a block for the bit of the second line. The shelf: 14 calls,
 /// since the fault is found before the end. The output: one call, for the line of the first step.
 #[test]
 fn a_faulty_stimulus_ends_at_each_failing_call(rt: HostRuntime) -> Result<(), Fail> {
@@ -234,7 +221,7 @@ fn a_faulty_stimulus_ends_at_each_failing_call(rt: HostRuntime) -> Result<(), Fa
         code: 2,
         later: 2,
     };
-    let device = [(127, 0), (1, 2)];
+    let device = [(77, 0), (1, 2)];
     assert_eq!(rt; first_wrong(&rt, &file, Part::Device, &device)?, None);
     let shelf = [(13, 0), (1, 2)];
     assert_eq!(rt; first_wrong(&rt, &file, Part::Shelf, &shelf)?, None);
@@ -243,21 +230,24 @@ fn a_faulty_stimulus_ends_at_each_failing_call(rt: HostRuntime) -> Result<(), Fa
 }
 
 /// Two latches, of which the second takes the bit of the first: three definitions, no gate and
-/// three edges. The device: 171 calls, of which 79 come before the first step:
+/// three edges. The device: 105 calls, of which 61 come before the first step:
 ///
 ///     begin, store  1 + 2
-///     definitions   2 + (4 + 4 + 3) + 2, since the queue's block is new; and twice 1
-///     edges         3 + (4 + 4 + 3) + 2
-///     compare       4 + 1 + 2, since the block of the edges is new
+///     queue         2
+///     definitions   4, and twice 1
+///     edges         4
+///     compare       4 + 2, since both blocks are new
+///     end, queue    4 + 4
 ///     merge         4 + 6
-///     rank          3 + 2, since nothing is pushed
-///     order         3 + (4 + 4 + 3) + 2
+///     rank          5
+///     order         4
+///     end, queue    4 + 4
 ///     part          4: all edges are moved, and their old block is released
 ///     latches       2
 ///
-/// Then each step makes 23 calls: 4 store the input's bit and link the latches' to it; 6 load the
-/// edges and two blocks of bits, release these and take a block for the messages; 10 pop the
-/// latches' messages, by 4 each, take a block for the bits and store it; and 3 pop the output's.
+/// Then each step makes 11 calls: 4 store the input's bit and link the latches' to it; 5 load the
+/// edges and two blocks of bits, and release these; and 2 take a block for the latches' bits and store
+/// it.
 ///
 /// The shelf: 16 calls. The circuit is opened, its 26 bytes want 9 reads, and its end is found. The
 /// stimulus is opened, and its 8 bytes want 3 reads: the second one comes in the second step, the
@@ -266,7 +256,7 @@ fn a_faulty_stimulus_ends_at_each_failing_call(rt: HostRuntime) -> Result<(), Fa
 fn two_latches_end_at_each_failing_call(rt: HostRuntime) -> Result<(), Fail> {
     let text = b"aag 3 1 2 1 0\n2\n4 2\n6 4\n6\n";
     let file = evaluation(text, b"1\n0\n0\n0\n", b"0\n0\n1\n0\n");
-    let device = [(102, 0), (23, 2), (23, 4), (23, 6)];
+    let device = [(72, 0), (11, 2), (11, 4), (11, 6)];
     assert_eq!(rt; first_wrong(&rt, &file, Part::Device, &device)?, None);
     let shelf = [(13, 0), (1, 2), (1, 6), (1, 8)];
     assert_eq!(rt; first_wrong(&rt, &file, Part::Shelf, &shelf)?, None);
@@ -276,23 +266,9 @@ fn two_latches_end_at_each_failing_call(rt: HostRuntime) -> Result<(), Fail> {
 }
 
 /// A gate's line stands before that of its operand: four definitions, two gates and five edges. The
-/// first pass finds both gates, and the second one none. The device: 274 calls, of which 170 come before
-/// the first step:
-///
-///     begin, store   1 + 3
-///     definitions    2 + (4 + 3 + 4 + 3) + 2, since the second pop takes a new block; and twice 1
-///     gates          3 + (4 + 3) + 2
-///     edges          4 + (4 + 4 + 4 + 4 + 3) + 2
-///     compare        4 + 2 + 2
-///     merge          6 + 6
-///     two passes     3 + (1 + 4 + 4 + 4 + 3) + 2 each
-///     rank           3 + (1 + 4 + 4 + 4 + 3) + 2
-///     order          3 + (4 + 4 + 4 + 4 + 3) + 2
-///     part           3
-///
-/// Then each step makes 26 calls: 6 store the bits, load them and the edges, release them and take
-/// a block for the messages; 1 loads the edges from gates; 4 and 4 pop the messages of the first
-/// gate, 4 and 3 those of the second; 1 takes a block for the output's message, and 3 pop it.
+/// first pass finds both gates, and the second one none. The device: 100 calls, of which 76 come before
+/// the first step: as of the conjunction, and 5 for the second pass. Then each step makes 6 calls, as
+/// there.
 ///
 /// The shelf: 19 calls. The circuit is opened, its 32 bytes want 11 reads, and its end is found.
 /// The stimulus is opened, each of its lines is one read, and its end is found. The output: three
@@ -301,7 +277,7 @@ fn two_latches_end_at_each_failing_call(rt: HostRuntime) -> Result<(), Fail> {
 fn gates_in_another_order_end_at_each_failing_call(rt: HostRuntime) -> Result<(), Fail> {
     let text = b"aag 4 2 0 1 2\n2\n4\n8\n8 6 2\n6 2 4\n";
     let file = evaluation(text, FOUR_STEPS, b"0\n0\n0\n1\n");
-    let device = [(196, 0), (26, 2), (26, 4), (26, 6)];
+    let device = [(82, 0), (6, 2), (6, 4), (6, 6)];
     assert_eq!(rt; first_wrong(&rt, &file, Part::Device, &device)?, None);
     let shelf = [(15, 0), (1, 2), (1, 4), (1, 6), (1, 8)];
     assert_eq!(rt; first_wrong(&rt, &file, Part::Shelf, &shelf)?, None);
@@ -311,21 +287,9 @@ fn gates_in_another_order_end_at_each_failing_call(rt: HostRuntime) -> Result<()
 }
 
 /// A gate uses a gate of a greater variable, so that the first pass finds that one, and the second pass
-/// the other: three definitions, two gates and five edges. The output is the input. The device: 218
-/// calls, of which 166 come before the first step:
-///
-///     begin, store   1 + 3
-///     definitions    2 + (4 + 4 + 3) + 2, since the queue's block is new; and twice 1
-///     gates          3 + (4 + 3) + 2
-///     edges          4 + (4 + 3 + 4 + 4 + 3) + 2, since the second pop takes a new block
-///     compare        4 + 2 + 2
-///     merge          6 + 6
-///     two passes     3 + (1 + 4 + 4 + 4 + 3) + 2 each
-///     rank           3 + (1 + 4 + 4 + 4 + 3) + 2
-///     order          3 + (4 + 4 + 4 + 4 + 3) + 2
-///     part           3
-///
-/// Then each step makes 26 calls, as of the gates in another order.
+/// the other: three definitions, two gates and five edges. The output is the input. The device: 88
+/// calls, of which 76 come before the first step, as of the gates in another order, and each step makes
+/// 6.
 ///
 /// The shelf: 16 calls. The circuit is opened, its 30 bytes want 10 reads, and its end is found. The
 /// stimulus is opened, its 4 bytes want 2 reads, of which the second one comes in the second step, and
@@ -334,7 +298,7 @@ fn gates_in_another_order_end_at_each_failing_call(rt: HostRuntime) -> Result<()
 fn gates_in_any_order_end_at_each_failing_call(rt: HostRuntime) -> Result<(), Fail> {
     let text = b"aag 3 1 0 1 2\n2\n4\n4 2 6\n6 2 2\n";
     let file = evaluation(text, b"1\n0\n", b"1\n0\n");
-    let device = [(192, 0), (26, 2)];
+    let device = [(82, 0), (6, 2)];
     assert_eq!(rt; first_wrong(&rt, &file, Part::Device, &device)?, None);
     let shelf = [(14, 0), (1, 2), (1, 4)];
     assert_eq!(rt; first_wrong(&rt, &file, Part::Shelf, &shelf)?, None);
@@ -377,14 +341,14 @@ fn a_faulty_circuit_ends_at_each_failing_call(rt: HostRuntime) -> Result<(), Fai
 }
 
 /// The conjunction in the binary form, with its second input as the gate's first operand, and with a
-/// symbol and a comment after it. The device: 145 calls, as of the conjunction in ASCII. The shelf:
+/// symbol and a comment after it. The device: 83 calls, as of the conjunction in ASCII. The shelf:
 /// 16 calls. The circuit is opened, its 28 bytes want 10 reads, and its end is found. The stimulus is
 /// opened, each of its two lines is one read, and its end is found. The output: two calls.
 #[test]
 fn a_binary_circuit_ends_at_each_failing_call(rt: HostRuntime) -> Result<(), Fail> {
     let text = b"aig 3 2 0 1 1\n6\n\x02\x02i1 y\nc\nand";
     let file = evaluation(text, STEPS, b"1\n0\n");
-    let device = [(127, 0), (18, 2)];
+    let device = [(77, 0), (6, 2)];
     assert_eq!(rt; first_wrong(&rt, &file, Part::Device, &device)?, None);
     let shelf = [(14, 0), (1, 2), (1, 4)];
     assert_eq!(rt; first_wrong(&rt, &file, Part::Shelf, &shelf)?, None);
@@ -409,55 +373,56 @@ fn a_faulty_delta_ends_at_each_failing_call(rt: HostRuntime) -> Result<(), Fail>
     Ok(())
 }
 
-/// The stimulus isn't there. The device: 106 calls, all that come before the first step but the 3
-/// that part the edges. The shelf: 12 calls, of which the last one would open the stimulus.
+/// The stimulus isn't there. The device: 64 calls, all that come before the first step but 4 for the
+/// queue of the steps and the 3 that part the edges. The shelf: 12 calls, of which the last one would
+/// open the stimulus.
 #[test]
 fn a_missing_stimulus_ends_at_each_failing_call(rt: HostRuntime) -> Result<(), Fail> {
     assert_eq!(rt;
-        first_wrong_without_step(&rt, &MISSING, CONJUNCTION, 3, 106, 12)?,
+        first_wrong_without_step(&rt, &MISSING, CONJUNCTION, 3, 64, 12)?,
         None
     );
     Ok(())
 }
 
-/// Variable 3 is defined twice, by two gates. The device: 20 calls: begin and store 4, definitions
-/// 2 + (4 + 4 + 3) + 2, since the queue's block is new, and twice 1. The shelf: 13 calls, one that
+/// Variable 3 is defined twice, by two gates. The device: 11 calls: begin and store 4, queue 2,
+/// definitions 4, and twice 1. The shelf: 13 calls, one that
 /// opens the circuit, 11 for its 31 bytes, and one that finds its end.
 #[test]
 fn a_double_definition_ends_at_each_failing_call(rt: HostRuntime) -> Result<(), Fail> {
     let text = b"aag 5 1 0 1 2\n2\n6\n6 2 10\n6 2 2\n";
     assert_eq!(rt;
-        first_wrong_without_step(&rt, &WORDS, text, 2, 20, 13)?,
+        first_wrong_without_step(&rt, &WORDS, text, 2, 11, 13)?,
         None
     );
     Ok(())
 }
 
-/// A gate uses variable 5, which nothing defines. The device: 47 calls: begin and store 4,
-/// definitions 2 + (4 + 3) + 2, twice 1, gates 3 + 3 + 2, edges 4 + (4 + 4 + 3) + 2, and compare 6,
-/// since what it writes isn't stored. The shelf: 11 calls, one that opens the circuit, 9 for its 25
+/// A gate uses variable 5, which nothing defines. The device: 25 calls: begin and store 4, queue 2,
+/// definitions 4, twice 1, gates 4, edges 5, and compare 5: the second list takes the block of the
+/// definitions, and neither is stored. The shelf: 11 calls, one that opens the circuit, 9 for its 25
 /// bytes, and one that finds its end.
 #[test]
 fn an_undefined_variable_ends_at_each_failing_call(rt: HostRuntime) -> Result<(), Fail> {
     let text = b"aag 5 1 0 1 1\n2\n6\n6 2 10\n";
     assert_eq!(rt;
-        first_wrong_without_step(&rt, &WORDS, text, 2, 47, 11)?,
+        first_wrong_without_step(&rt, &WORDS, text, 2, 25, 11)?,
         None
     );
     Ok(())
 }
 
 /// The gates 3 and 4 use each other, and gate 2 uses gate 3, so that the first pass finds none. The
-/// device: 122 calls: begin and store 4, definitions 2 + (4 + 3 + 4 + 3) + 2, since the second pop
-/// takes a new block, twice 1, gates 3 + (4 + 4 + 3) + 2, edges 4 + (6 * 4 + 3) + 2, compare 8, merge
-/// 6 + 6, a pass 3 + (1 + 5 * 4 + 3) + 2, and 1 that loads the list to find the first gate without a
-/// rank. The shelf: 14 calls, one that opens the circuit, 12 for its 36 bytes, and one that finds its
+/// device: 52 calls: begin and store 4, queue 2, definitions 4, twice 1, gates 4, edges 5, compare 6,
+/// since both blocks are new, end and queue 8, merge 6 + 6, a pass 5, and 1 that loads the list to find
+/// the first gate without a rank. The shelf: 14 calls, one that opens the circuit, 12 for its 36 bytes,
+/// and one that finds its
 /// end.
 #[test]
 fn a_cycle_ends_at_each_failing_call(rt: HostRuntime) -> Result<(), Fail> {
     let text = b"aag 4 1 0 1 3\n2\n4\n4 2 6\n6 2 8\n8 2 6\n";
     assert_eq!(rt;
-        first_wrong_without_step(&rt, &WORDS, text, 2, 122, 14)?,
+        first_wrong_without_step(&rt, &WORDS, text, 2, 52, 14)?,
         None
     );
     Ok(())

@@ -64,70 +64,64 @@ fn ends_so(
     Ok(unfailed && ended == status && out.bytes() == lines)
 }
 
-/// The commands take blocks 0, 1 and 2. A reader of 0 gets block 1, which leads to 2; there it gets
-/// block 0, which leads to 1; there it gets block 2, which is the last. So on three blocks the whole
-/// list is read, in another order: 3 moves write it and 3 read it, and 3 read it for the first get,
-/// whose answer finds the device full. On more blocks, block 3 is read for 2, and nothing was written
-/// there. Where no get is, block 0 is released by two moves, and then read as a free one for 2.
+/// Blocks 0 and 1 are the tree's leaf and root, and the commands take 2, 3 and 4. In the root's place
+/// block 2 is read, which is no node: 5 moves write, and one reads. Three blocks are full with the 128th
+/// command: the leaf and the root were written.
 #[test]
 fn a_map_over_other_blocks_is_full_or_damaged(rt: HostRuntime) -> Result<(), Fail> {
     let gets = repeated(rt.alloc(), b"put 1 2\n", 297, b"get 1\nget 1\nget 1\n")?;
-    let puts = repeated(rt.alloc(), b"put 1 2\n", 300, b"")?;
     let few = ("map", "--blocks=3");
     let many = ("map", "--blocks=100");
     let full = Status::Full { used: 3 };
-    let damaged = Status::Damaged { block: 2 };
-    assert!(rt; ends_so(&rt, few, &gets, full, b"", 9)?);
-    assert!(rt; ends_so(&rt, many, &gets, damaged, b"", 5)?);
-    assert!(rt; ends_so(&rt, few, &puts, damaged, b"", 9)?);
+    let damaged = Status::Damaged { block: 1 };
+    assert!(rt; ends_so(&rt, few, &gets, full, b"", 2)?);
+    assert!(rt; ends_so(&rt, many, &gets, damaged, b"", 6)?);
+    assert!(rt; ends_so(&rt, many, b"", damaged, b"", 3)?);
     Ok(())
 }
 
-/// Two blocks are written before the last line, and none is read.
+/// The leaf, the root and two blocks of commands are written before the last line, and none is read.
 #[test]
 fn a_faulty_line_is_found_over_other_blocks(rt: HostRuntime) -> Result<(), Fail> {
     let text = repeated(rt.alloc(), b"put 1 2\n", 299, b"bogus\n")?;
     let kind = Malform::Text(TextKind::Unknown);
     let malformed = Status::Malformed { kind, place: 300 };
-    assert!(rt; ends_so(&rt, ("map", "--blocks=3"), &text, malformed, b"", 2)?);
+    assert!(rt; ends_so(&rt, ("map", "--blocks=5"), &text, malformed, b"", 4)?);
     Ok(())
 }
 
-/// The items take blocks 0, 1 and 2. The first pop writes the last of them and reads block 1 for 0. On
-/// three blocks the second item that it reads finds the device full. On more, block 0 is released, and
-/// block 3 is read for 2, where nothing was written.
+/// Memory holds 1024 items. Of 1100 the tree has 588, in blocks 2 to 6, and memory 512, which are popped.
+/// Then the last of these blocks is written, and in the root's place block 2 is read: 2 moves wrote leaf
+/// and root, 5 the others, and one read. On three blocks the 1025th item finds the device full.
 #[test]
 fn a_queue_over_other_blocks_is_full_or_damaged(rt: HostRuntime) -> Result<(), Fail> {
-    let text = repeated(rt.alloc(), b"push 1 2\n", 297, b"pop\npop\npop\n")?;
+    let alloc = rt.alloc();
+    let mut text = repeated(alloc, b"push 1 2\n", 1100, b"")?;
+    let pops = repeated(alloc, b"pop\n", 600, b"")?;
+    text.extend_from_slice(&pops)?;
+    let lines = repeated(alloc, b"1 2\n", 512, b"")?;
     let full = Status::Full { used: 3 };
-    let damaged = Status::Damaged { block: 2 };
-    assert!(rt; ends_so(&rt, ("queue", "--blocks=3"), &text, full, b"", 4)?);
-    assert!(rt; ends_so(&rt, ("queue", "--blocks=100"), &text, damaged, b"", 6)?);
+    let damaged = Status::Damaged { block: 1 };
+    assert!(rt; ends_so(&rt, ("queue", "--blocks=3"), &text, full, b"", 2)?);
+    assert!(rt; ends_so(&rt, ("queue", "--blocks=100"), &text, damaged, &lines, 8)?);
     Ok(())
 }
 
-/// The block after the only one is that one. Each pop writes, reads and releases it, and each push but
-/// the first reads it again as a free one.
+/// The leaf and the root are written, and nothing is read.
 #[test]
-fn a_queue_over_one_block_gets_that_block(rt: HostRuntime) -> Result<(), Fail> {
+fn a_small_queue_reads_no_block(rt: HostRuntime) -> Result<(), Fail> {
     let text = repeated(rt.alloc(), b"push 1 2\npop\n", 150, b"")?;
     let lines = repeated(rt.alloc(), b"1 2\n", 150, b"")?;
-    assert!(rt;
-        ends_so(
-            &rt,
-            ("queue", "--blocks=1"),
-            &text,
-            Status::Done,
-            &lines,
-            599
-        )?
-    );
+    assert!(rt; ends_so(&rt, ("queue", "--blocks=2"), &text, Status::Done, &lines, 2)?);
     Ok(())
 }
 
-/// As for a map: 3 moves write the commands and 3 read them. The first stab that an interval holds
+/// The commands take blocks 0, 1 and 2. A reader of 0 gets block 1, which leads to 2; there it gets
+/// block 0, which leads to 1; there it gets block 2, which is the last. So on three blocks the whole
+/// list is read, in another order: 3 moves write it and 3 read it. The first stab that an interval holds
 /// finds the device full of three blocks with the first interval that it reads. Three stabs that none
-/// holds read 3 blocks each, and the release fails as that of a map.
+/// holds read 3 blocks each; then block 0 is released by two moves, and read as a free one for 2. On more
+/// blocks, block 3 is read for 2, and nothing was written there.
 #[test]
 fn an_interval_list_over_other_blocks_is_full_or_damaged(rt: HostRuntime) -> Result<(), Fail> {
     let held = repeated(rt.alloc(), b"iv 1 2\n", 297, b"stab 1\nstab 1\nstab 1\n")?;

@@ -1,5 +1,4 @@
 use Rattle.std.proofs.Common.{rules, ◌≡◌, ◌∙◌, ◌<◌, [], ap, refl, Some, arith, IsTrue}
-use Rattle.em_record.specs.Shape.{payload_of}
 use Rattle.em_io.specs.declared.shelf.Slot.TheVariants.{First, Second}
 use Rattle.em_space.specs.Seen.{seen}
 use Rattle.em_space.proofs.Within.{touches_within}
@@ -9,7 +8,7 @@ use Rattle.emtool.specs.Due.{text_in}
 use Rattle.emtool.specs.Stop.{fault_counts}
 use Rattle.emtool.specs.declared.status.Status.TheVariants.{Done, ReadFault}
 use Rattle.emtool.proofs.EndLaws.{ended_read, ended_stop}
-use Rattle.emtool.proofs.Evaluated.{circuit_cause, circuit_fills, circuit_stopped, none_first, steps_cause, steps_caused, steps_done, steps_fills, steps_stopped, still_there, still_unopened}
+use Rattle.emtool.proofs.Evaluated.{circuit_cause, circuit_full, circuit_keeps, circuit_stopped, device_keeps, done_caused, eval_fills, none_first, none_more, steps_cause, steps_caused, steps_done, steps_full, steps_keep, steps_stopped, still_there, still_unopened}
 use Rattle.emtool.proofs.Opening.{lost_opened, not_done, on_end, opens_eval, reads_both, text_left, text_some}
 use Rattle.emtool.proofs.eval.run_eval.Goals as goal
 
@@ -26,7 +25,8 @@ returns-in_default-clause-runs g c =
     let fresh = c.requires.fresh in
     let second = o.leaves.others Second (λ e. cc) in
     record {
-      ended = ended_read g.met.W.Sink.rule _ _ _ _ _ _ (g.met.W.Sink.is_state c.args.out.now) refl;
+      ended = ended_read g.met.W.Sink.rule _ _ _ _ _ _ (g.met.W.Sink.is_state c.args.out.now) refl
+          (λ t d. none_more _ _);
       caused = search rules;
       opens = opens_eval tells told circuit stimulus a b ReadFault o.leaves.text
           (λ t l. lost_opened (a.slot First) (b.slot First) (b.slot First) (a.text First circuit)
@@ -61,16 +61,18 @@ returns-in-Err-clause-runs g c =
     let same : IsTrue tells → x ≡ y = λ z. text_left (a.text First circuit) x (o.whole z) in
     let faults = fault_counts (g.H.Shelf.faults c.open.new.self) 0 in
     let later = fault_counts (g.H.Shelf.faults c.read_circuit.new.shelf) 0 in
-    let low = r.goes.sound.shape.block_low in
-    let some : 0 < payload_of t.pool.shape = omega arith in
     let reads = r.reads.reads in
     let second = reads.leaves.others Second (λ e. cc) ∙ o.leaves.others Second (λ e. cc) in
     let own = r.reads.answers in
+    let sound = c.requires.unused.sound in
+    let keeps = circuit_keeps tells x y w same last.slot s t sound.shape r.reads.moves in
     record {
       ended = rw (c.status_of.ensures.is)
-          (ended_stop tells (asked_of_eval y w) _ _ s t r.goes.touches r.goes.sound refl refl stop
+          (ended_stop tells (asked_of_eval y w) _ _ s t r.goes.touches r.goes.sound refl refl
+          (λ z d. device_keeps _ sound r.goes.sound (keeps z d)) stop
           faults later (circuit_cause tells x y w same faults later s t stop own.cause)
-          (circuit_fills tells x y w same last.slot t stop some own.full)
+          (eval_fills tells y w last.slot stop c.requires.none_moved r.goes.touches r.goes.sound
+          (circuit_full tells x y w same faults later s t stop own.cause) keeps own.full)
           (circuit_stopped tells x y w same g.met.W.Sink.rule _ _
           (g.met.W.Sink.is_state c.args.out.now) refl faults later s t stop refl own.cause));
       caused = search rules;
@@ -113,8 +115,12 @@ returns-in_default-open-clause-runs g c =
     let first = p.leaves.others First (λ e. cc) in
     let unopened = reads.leaves.others Second (λ e. cc) ∙ o.leaves.others Second (λ e. cc) in
     let text = reads.leaves.text ∙ o.leaves.text in
+    let sound = c.requires.unused.sound in
+    let keeps = circuit_keeps tells x y w same last.slot s t sound.shape
+    (λ z d. rw first (r.reads.moves z d)) in
     record {
-      ended = ended_read g.met.W.Sink.rule _ _ _ _ _ _ (g.met.W.Sink.is_state c.args.out.now) refl;
+      ended = ended_read g.met.W.Sink.rule _ _ _ _ _ _ (g.met.W.Sink.is_state c.args.out.now) refl
+          (λ z d. device_keeps _ sound r.goes.sound (keeps z d));
       caused = search rules;
       opens = opens_eval tells told circuit stimulus a last ReadFault (p.leaves.text ∙ text)
           (λ z l. lost_opened (a.slot First) (b.slot First) (last.slot First) (a.text First circuit)
@@ -138,6 +144,7 @@ returns-in-Ok-evaluate-clause-runs g c =
     let last = g.H.Shelf.stand c.evaluate.new.shelf in
     let s = seen g.D.Device.state c.args.rig.now in
     let t = seen g.D.Device.state c.read_circuit.new.rig in
+    let u = seen g.D.Device.state c.evaluate.new.rig in
     let o = c.in-Ok.ensures in
     let r = c.in-Ok-read_circuit.ensures in
     let p = c.in-Ok-open.ensures in
@@ -159,12 +166,22 @@ returns-in-Ok-evaluate-clause-runs g c =
     let same : IsTrue tells → x ≡ y = λ e. text_left (a.text First circuit) x (o.whole e) in
     let there : IsTrue tells → a.text Second stimulus ≡ Some z = λ e. rw (← text) (p.whole e) in
     let given : IsTrue tells → z ≡ w = λ e. text_left (a.text Second stimulus) z (there e) in
-    let spells = r.reads.answers.spells in
+    let own = r.reads.answers in
+    let spells = own.spells in
+    let sound = c.requires.unused.sound in
+    let keeps = steps_keep tells told x y z w t edges same given spells last.slot s u sound
+    r.goes.touches (λ e. rw first (own.size e)) (λ e h. rw first (r.reads.moves e h)) v.moves in
     record {
       ended = steps_done tells told x y z w t edges same given spells _ _ refl
           (λ e h. v.prints e (r.goes.touches.told ∙ h) (spells e).circuit (by_pass (spells e).circuit)
-          ((spells e).orders h).is) v.ends;
-      caused = search rules;
+          ((spells e).orders h).is) v.ends
+          (λ e h. device_keeps _ sound v.goes.sound (keeps e h));
+      caused = done_caused _ _ (record {
+        told = v.goes.touches.told ∙ r.goes.touches.told;
+        read = omega (arith, o.cause.later, r.reads.later, p.cause.later, v.read_later);
+        write = v.write_later;
+        device = omega (arith, r.goes.touches.faults, v.goes.touches.faults);
+      });
       opens = opens_eval tells told circuit stimulus a last Done
           (v.reads.leaves.text ∙ p.leaves.text ∙ text)
           (λ e l. lost_opened (a.slot First) (b.slot First) (last.slot First) (a.text First circuit)
@@ -218,17 +235,19 @@ returns-in-Err-evaluate-clause-runs g c =
     let faults = fault_counts (g.H.Shelf.faults c.open-2.new.self) (g.W.Sink.faults c.args.out.now) in
     let later = fault_counts (g.H.Shelf.faults c.evaluate.new.shelf)
     (g.W.Sink.faults c.evaluate.new.out) in
-    let low = v.goes.sound.shape.block_low in
-    let some : 0 < payload_of u.pool.shape = omega arith in
+    let sound = c.requires.unused.sound in
+    let keeps = steps_keep tells told x y z w t edges same given spells last.slot s u sound
+    r.goes.touches (λ e. rw first (own.size e)) (λ e h. rw first (r.reads.moves e h)) v.moves in
     let touches = touches_within s t u [] _ r.goes.touches own.blocks.within v.goes.touches in
     record {
       ended = rw (c.status_of-in-Err-evaluate.ensures.is)
-          (ended_stop tells (asked_of_eval y w) _ _ s u touches v.goes.sound refl refl stop faults later
+          (ended_stop tells (asked_of_eval y w) _ _ s u touches v.goes.sound refl refl
+          (λ e h. device_keeps _ sound v.goes.sound (keeps e h)) stop faults later
           (steps_cause tells told x y z w t edges same given spells faults later s u stop refl
           r.goes.touches v.ends v.cause)
-          (steps_fills tells told x y z w t edges same given spells last.slot u stop some
-          (λ e. rw first (own.size e))
-          (λ e. rw (first, v.goes.touches.shape) (own.most e)) v.full)
+          (eval_fills tells y w last.slot stop c.requires.none_moved touches v.goes.sound
+          (steps_full tells told x y z w t edges same given spells faults later u stop v.cause) keeps
+          v.full)
           (steps_stopped tells told x y z w t edges same given spells _ _ refl stop
           (λ e h. v.prints e (r.goes.touches.told ∙ h) (spells e).circuit (by_pass (spells e).circuit)
           ((spells e).orders h).is)));

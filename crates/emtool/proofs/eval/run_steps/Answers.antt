@@ -87,12 +87,15 @@ module _ (g : given.Over) (c : After-step g) where
       c.step.new.feed c.step.new.shelf c.step.new.sink c.step.new.printer r last inv.made inv.later
       (unstored_frames (laws.unstored_most q t i) (laws.out q t (laws.frames_of q t i))
       inv.made.runs.runs.session.sound)
+      (laws.since_none q t i inv.made.is.empty)
       (subst (λ (x : Result StepEnd StepStop). StepSays g.Q.Queue g.W.Sink.took g.H.Shelf.tells old
       new (g.W.Sink.faults c.loop.out) (g.W.Sink.faults c.step.new.sink) x) is says)
 
 pub loop-preserved : goal.loop-preserved
 loop-preserved g c =
     let inv = c.loop.invariant in
+    let since = g.met.Q.Queue.since_none c.loop.evaluator.queue (seen g.D.Device.state c.loop.rig)
+    inv.made.is.is inv.made.is.empty in
     let after = (goal.at.loop-preserved g c).After-step in
     let first = first_scene g.H.Shelf g.W.Sink (seen g.D.Device.state c.args.rig.now)
     c.args.evaluator.now c.args.shelf.now c.args.out.now in
@@ -100,7 +103,7 @@ loop-preserved g c =
     c.in_ok-step.was ∙ ap (λ (x : StepEnd). Ok x) c.in-Printed.is in
     record {
       made = steps_next g.met.W.Sink.rule g.Q.Queue g.H.Shelf.tells first
-          (g.met.W.Sink.is_state c.args.out.now) c.requires.can.is (old g after) inv.made
+          (g.met.W.Sink.is_state c.args.out.now) c.requires.can.is (old g after) inv.made since
           (subst (λ (x : Result StepEnd StepStop). StepSays g.Q.Queue g.W.Sink.took g.H.Shelf.tells
           (old g after) (new g after) (g.W.Sink.faults c.loop.out)
           (g.W.Sink.faults c.step.new.sink) x)

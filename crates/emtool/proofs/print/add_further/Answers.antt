@@ -73,4 +73,5 @@ loop-pair-preserved g c =
         c.in_ok-add-in-Some.ensures.cause.later,
         c.in_ok-add_number-in-Some.ensures.cause.later,
       );
+      moves = let m = c.in_ok-other.ensures.costs.moves in omega (arith, inv.moves, m);
     }

@@ -1,8 +1,8 @@
-use Rattle.std.proofs.Common.{◌≡◌, ◌++◌, ◌≤◌, [], IsTrue}
+use Rattle.std.proofs.Common.{◌≡◌, ◌+◌, ◌++◌, ◌≤◌, [], IsTrue}
 use Rattle.em_io.specs.Sink.{Sent}
 use Rattle.em_space.specs.Rig.{Goes}
 use Rattle.em_space.specs.Seen.{seen}
-use Rattle.em_chain.specs.Reader.{reader_items}
+use Rattle.em_chain.specs.Reader.{owed, reader_items}
 use Rattle.emtool.specs.Answer.{further_words}
 use Rattle.emtool.specs.Print.{LooksAt, intervals_at, pairs_behind}
 use Rattle.emtool.proofs.print.add_further.Given as goal
@@ -22,6 +22,7 @@ invariant-loop-pair g l =
           (g.W.Sink.state l.out)
           (l.printer ++ further_words (intervals_at l.stab (reader_items now l.reader)));
       later : g.W.Sink.faults l.fn.out ≤ g.W.Sink.faults l.out;
+      moves : now.moves + owed l.reader ≤ first.moves + owed l.fn.reader;
     }
 
 abbrev pub decreases-loop-pair : goal.decreases-loop-pair

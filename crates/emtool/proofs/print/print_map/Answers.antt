@@ -37,4 +37,5 @@ loop-item-preserved g c =
           (ap (λ l. map_text (answers_in l)) (reads.items (inv.goes.touches.told ∙ told)))
           (rw c.answer_in.ensures at printed.all);
       later = omega (arith, inv.later, printed.cause.later);
+      moves = let m = c.in_ok-item.ensures.costs.moves in omega (arith, inv.moves, m);
     }

@@ -1,8 +1,8 @@
-use Rattle.std.proofs.Common.{◌≤◌, [], IsTrue}
+use Rattle.std.proofs.Common.{◌+◌, ◌≤◌, [], IsTrue}
 use Rattle.em_io.specs.Sink.{Sent}
 use Rattle.em_space.specs.Rig.{Goes}
 use Rattle.em_space.specs.Seen.{seen}
-use Rattle.em_chain.specs.Reader.{reader_items}
+use Rattle.em_chain.specs.Reader.{owed, reader_items}
 use Rattle.emtool.specs.Answer.{map_text}
 use Rattle.emtool.specs.Print.{LooksAt, answers_in}
 use Rattle.emtool.proofs.print.print_map.Given as goal
@@ -17,6 +17,8 @@ invariant-loop-item g l = record {
       (g.W.Sink.state l.out)
       (map_text (answers_in (reader_items (seen g.D.Device.state l.rig) l.reader)));
   later : g.W.Sink.faults l.fn.out ≤ g.W.Sink.faults l.out;
+  moves : (seen g.D.Device.state l.rig).moves + owed l.reader
+      ≤ (seen g.D.Device.state l.fn.rig).moves + owed l.fn.reader;
 }
 
 abbrev pub decreases-loop-item : goal.decreases-loop-item

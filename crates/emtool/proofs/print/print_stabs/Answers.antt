@@ -50,4 +50,5 @@ loop-stab-preserved g c =
           (stab_text (groups_from (stab + 1) (c.args.stabs - (stab + 1)) rest)) (inv.sent told)
           (rw (l.behind.items z) (rw n at step)) (l.prints z).all;
       later = omega (arith, inv.later, l.stops.later);
+      moves = let m = l.moves.left in omega (arith, inv.moves, m);
     }

@@ -1,9 +1,9 @@
-use Rattle.std.proofs.Common.{◌≡◌, ◌-◌, ◌++◌, ◌≤◌, [], IsTrue}
+use Rattle.std.proofs.Common.{◌≡◌, ◌+◌, ◌-◌, ◌++◌, ◌≤◌, [], IsTrue}
 use Rattle.std.specs.Prelude.{IfNone, option_to_list}
 use Rattle.em_io.specs.Sink.{Sent}
 use Rattle.em_space.specs.Rig.{Goes}
 use Rattle.em_space.specs.Seen.{seen}
-use Rattle.em_chain.specs.Reader.{reader_items}
+use Rattle.em_chain.specs.Reader.{owed, reader_items}
 use Rattle.emtool.specs.Answer.{stab_text}
 use Rattle.emtool.specs.Print.{LooksAt, groups_from}
 use Rattle.emtool.proofs.print.print_stabs.Given as goal
@@ -22,4 +22,5 @@ invariant-loop-stab g l =
           (stab_text (groups_from l.stab (l.stabs - l.stab)
           (option_to_list l.next ++ reader_items now l.reader)));
       later : g.W.Sink.faults l.fn.out ≤ g.W.Sink.faults l.out;
+      moves : now.moves + owed l.reader ≤ first.moves + owed l.fn.reader;
     }

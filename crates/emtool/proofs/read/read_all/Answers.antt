@@ -1,17 +1,16 @@
-use Rattle.std.proofs.Common.{◌≡◌, ◌+◌, ◌<◌, [], ap, sym, ◌∙◌, arith, length, IsTrue}
+use Rattle.std.proofs.Common.{◌≡◌, ◌+◌, ◌++◌, ◌∷◌, [], ap, sym, ◌∙◌, refl, arith, length, IsTrue}
 use Rattle.em_io.specs.Feed.{rest}
-use Rattle.em_record.specs.Shape.{payload_of}
 use Rattle.em_model.specs.Stab.{stab_answers}
 use Rattle.em_space.specs.Seen.{seen}
+use Rattle.em_space.proofs.Paying.{pays_more}
 use Rattle.em_space.proofs.Steps.{cause_after}
-use Rattle.em_space.proofs.Within.{goes_within}
-use Rattle.em_plain.specs.CommandList.{list_len}
+use Rattle.em_space.proofs.Within.{goes_within, within_then}
 use Rattle.emtool.specs.CommandLine.{parsed_from}
 use Rattle.emtool.specs.LineTaken.{LineTaken}
 use Rattle.emtool.specs.Lines.{lines_of}
-use Rattle.emtool.specs.Service.{list_of}
-use Rattle.emtool.proofs.Listing.{filled_list, lists_next, stabs_next}
+use Rattle.emtool.proofs.Listing.{alone_next, filled_call, serves_same, stabs_next, taken_most}
 use Rattle.emtool.proofs.ReadLaws.{counted_more, counted_left, counted_read, good_more}
+use Rattle.emtool.proofs.ServiceMoves.{alone_reads, call_reads}
 use Rattle.emtool.proofs.Steps.{reads_then}
 use Rattle.emtool.proofs.read.read_all.Goals as goal
 
@@ -25,15 +24,64 @@ returns-in_default-clause-reads g c =
 
 pub returns-in_default-clause-taken : goal.returns-in_default-clause-taken
 returns-in_default-clause-taken g c = λ told.
-    counted_read c.args.kind c.loop-next.invariant.reads c.in-Ok.ensures.reads.reads told
+    counted_read g.S.Service.KIND c.loop-next.invariant.reads c.in-Ok.ensures.reads.reads told
     (c.loop-next.invariant.counted told)
+
+pub returns-in-Err-Fault-clause-moves : goal.returns-in-Err-Fault-clause-moves
+returns-in-Err-Fault-clause-moves g c = λ told.
+    let inv = c.loop-next.invariant in
+    alone_reads g.S.Service.allowance g.S.Service.room g.S.Service.KIND _ _
+    (g.S.Service.counts c.loop-next.service) (seen g.D.Device.state c.args.rig.now)
+    (seen g.D.Device.state c.loop-next.rig) g.met.S.Service.rising inv.goes.sound.shape
+    inv.goes.touches.told inv.goes.touches.shape inv.alone
+    (counted_read g.S.Service.KIND inv.reads c.in-Err-Fault.ensures.reads.reads told
+    (inv.counted told))
+
+pub returns-in-Err-Read-clause-moves : goal.returns-in-Err-Read-clause-moves
+returns-in-Err-Read-clause-moves g c = λ told.
+    let inv = c.loop-next.invariant in
+    alone_reads g.S.Service.allowance g.S.Service.room g.S.Service.KIND _ _
+    (g.S.Service.counts c.loop-next.service) (seen g.D.Device.state c.args.rig.now)
+    (seen g.D.Device.state c.loop-next.rig) g.met.S.Service.rising inv.goes.sound.shape
+    inv.goes.touches.told inv.goes.touches.shape inv.alone
+    (counted_read g.S.Service.KIND inv.reads c.in-Err-Read.ensures.reads.reads told
+    (inv.counted told))
+
+pub returns-in_default-clause-moves : goal.returns-in_default-clause-moves
+returns-in_default-clause-moves g c = λ told.
+    let inv = c.loop-next.invariant in
+    alone_reads g.S.Service.allowance g.S.Service.room g.S.Service.KIND _ _
+    (g.S.Service.counts c.loop-next.service) (seen g.D.Device.state c.args.rig.now)
+    (seen g.D.Device.state c.loop-next.rig) g.met.S.Service.rising inv.goes.sound.shape
+    inv.goes.touches.told inv.goes.touches.shape inv.alone
+    (counted_read g.S.Service.KIND inv.reads c.in-Ok.ensures.reads.reads told (inv.counted told))
+
+pub returns-in-Err-clause-moves : goal.returns-in-Err-clause-moves
+returns-in-Err-clause-moves g c = λ told.
+    let inv = c.loop-next.invariant in
+    let t = c.in-Err.ensures in
+    let l = c.in-Ok.ensures in
+    let kind = g.S.Service.KIND in
+    let counts = g.S.Service.counts c.loop-next.service in
+    let line = rw c.KIND.ensures at (rw inv.number at (rw c.in-Some.is at (l.taken told))) in
+    let more = counted_more kind _ _ _ counts.n c.in-Some.command (inv.counted told) line in
+    let taken = counted_left kind _ _ c.take_line.new.feed
+    (g.H.Shelf.stand c.take_line.new.shelf) c.args.feed.now.slot (counts.n + 1) more
+    (l.reads.reads.slot ∙ inv.reads.slot) (omega arith) in
+    call_reads g.S.Service.allowance g.S.Service.room kind _ _ (counts.n + 1) counts
+    (seen g.D.Device.state c.args.rig.now) (seen g.D.Device.state c.loop-next.rig)
+    (seen g.D.Device.state c.take.new.rig) g.met.S.Service.rising inv.goes.sound.shape
+    inv.goes.touches.told inv.goes.touches.shape inv.alone t.moves
+    (let m = taken_most kind (rest c.args.feed.now (g.H.Shelf.stand c.args.shelf.now))
+    ((g.H.Shelf.stand c.take_line.new.shelf).slot c.args.feed.now.slot).left in
+    omega (arith, taken, m))
 
 pub returns-in-Err-clause-goes : goal.returns-in-Err-clause-goes
 returns-in-Err-clause-goes g c =
     let inv = c.loop-next.invariant in
-    goes_within [] _ (seen g.D.Device.state c.args.rig.now)
+    goes_within _ _ (seen g.D.Device.state c.args.rig.now)
     (seen g.D.Device.state c.loop-next.rig) (seen g.D.Device.state c.take.new.rig) inv.goes
-    inv.lists.within c.in-Err.ensures.noted.goes
+    inv.within c.in-Err.ensures.goes
 
 pub returns-in-Err-clause-reads : goal.returns-in-Err-clause-reads
 returns-in-Err-clause-reads g c =
@@ -42,65 +90,78 @@ returns-in-Err-clause-reads g c =
 pub returns-in-Err-clause-stop : goal.returns-in-Err-clause-stop
 returns-in-Err-clause-stop g c =
     let inv = c.loop-next.invariant in
-    let t = c.in-Err.ensures.noted in
+    let t = c.in-Err.ensures in
     let l = c.in-Ok.ensures in
-    let list = list_of c.loop-next.service in
-    let count = list_len list in
+    let kind = g.S.Service.KIND in
+    let counts = g.S.Service.counts c.loop-next.service in
+    let held = g.S.Service.blocks c.args.service.now (seen g.D.Device.state c.args.rig.now) in
     let first = seen g.D.Device.state c.args.rig.now in
     let mid = seen g.D.Device.state c.loop-next.rig in
     let last = seen g.D.Device.state c.take.new.rig in
-    let low = c.requires.unused.sound.shape.block_low in
-    let some : 0 < payload_of first.pool.shape = omega arith in
-    let full = filled_list g.H.Shelf.tells c.args.kind _ _ first mid last list c.in-Err.fault some inv.goes
-    inv.lists t.goes t.costs.most t.costs.pays t.cause
-    (λ told.
-    let line = rw inv.number at (rw c.in-Some.is at (l.taken told)) in
-    let more = counted_more c.args.kind _ _ _ count c.in-Some.command (inv.counted told) line in
-    counted_left c.args.kind _ _ c.take_line.new.feed (g.H.Shelf.stand c.take_line.new.shelf)
-    c.args.feed.now.slot (count + 1) more (l.reads.reads.slot ∙ inv.reads.slot) (omega arith)) in
     record {
-      cause = cause_after [] first mid last c.in-Err.fault inv.goes.touches t.cause;
-      full = full;
+      cause = cause_after held first mid last c.in-Err.fault inv.goes.touches t.cause;
+      full = filled_call g.S.Service.allowance g.S.Service.room first.blocks (counts.n + 1) g.H.Shelf.tells
+          kind _ _ _ counts mid last c.in-Err.fault g.met.S.Service.rising_room inv.goes.sound.shape t.goes.sound
+          t.goes.touches inv.goes.touches.blocks inv.alone
+          (pays_more t.owes (omega arith)) t.cause
+          (λ told counted.
+          let line = rw c.KIND.ensures at (rw inv.number at (rw c.in-Some.is at (l.taken told))) in
+          let more = counted_more kind _ _ _ counts.n c.in-Some.command (inv.counted told) line in
+          let taken = counted_left kind _ _ c.take_line.new.feed
+          (g.H.Shelf.stand c.take_line.new.shelf) c.args.feed.now.slot (counts.n + 1) more
+          (l.reads.reads.slot ∙ inv.reads.slot) (omega arith) in
+          record {
+            within = t.room;
+            least = omega arith;
+            most =
+                let m = taken_most kind (rest c.args.feed.now (g.H.Shelf.stand c.args.shelf.now))
+                ((g.H.Shelf.stand c.take_line.new.shelf).slot c.args.feed.now.slot).left in
+                omega (arith, taken, m);
+          });
     }
 
 pub loop-next-preserved : goal.loop-next-preserved
 loop-next-preserved g c =
     let inv = c.loop-next.invariant in
-    let t = c.in_default-take.ensures.noted in
+    let t = c.in_default-take.ensures in
     let l = c.in-Ok.ensures in
-    let list = list_of c.loop-next.service in
-    let count = list_len list in
+    let kind = g.S.Service.KIND in
+    let counts = g.S.Service.counts c.loop-next.service in
+    let count = counts.n in
     let command = c.in-Some.command in
     let before = rest c.loop-next.feed (g.H.Shelf.stand c.loop-next.shelf) in
     let after = rest c.take_line.new.feed (g.H.Shelf.stand c.take_line.new.shelf) in
     let first = seen g.D.Device.state c.args.rig.now in
     let mid = seen g.D.Device.state c.loop-next.rig in
     let last = seen g.D.Device.state c.take.new.rig in
-    let low = c.requires.unused.sound.shape.block_low in
-    let some : 0 < payload_of first.pool.shape = omega arith in
-    let line : IsTrue g.H.Shelf.tells → LineTaken c.args.kind (count + 1) before after command =
-    λ told. rw inv.number at (rw c.in-Some.is at (l.taken told)) in
-    let n = t.notes.len in
+    let held = g.S.Service.blocks c.args.service.now first in
+    let line : IsTrue g.H.Shelf.tells → LineTaken kind (count + 1) before after command =
+    λ told. rw c.KIND.ensures at (rw inv.number at (rw c.in-Some.is at (l.taken told))) in
+    let n = t.takes.n in
     record {
-      goes = goes_within [] _ first mid last inv.goes inv.lists.within t.goes;
-      kind = c.in_default-take.ensures.kept ∙ inv.kind;
-      lists = lists_next first mid last list (list_of c.take.new.self) command _ some inv.goes
-          inv.lists t.goes t.notes t.costs;
+      goes = goes_within held _ first mid last inv.goes inv.within t.goes;
+      free = serves_same mid.pool last.pool inv.free t.goes.frames;
+      is = t.is;
+      within = within_then first mid held _ _ inv.goes.touches inv.within t.takes.within;
+      alone = alone_next g.S.Service.allowance g.S.Service.room _ _ counts
+          (g.S.Service.counts c.take.new.self) mid last g.met.S.Service.rising_room inv.goes.sound.shape
+          inv.alone t.goes.touches t.takes t.room t.moves;
+      given = inv.given ++ command ∷ [];
+      has = t.has inv.given inv.has;
       number = omega (arith, n, inv.number);
       few = let m = rw c.in-Some.is at l.number in omega (arith, m, n, inv.number);
       place = omega (arith, l.reads.place, inv.place, n);
       reads = reads_then _ _ _ _ _ _ _ inv.reads l.reads.reads;
       later = omega (arith, inv.later, l.reads.later);
       stabs_most = omega (arith, inv.stabs_most, c.stabs_in-stabs.ensures.most, n);
-      good = λ told dev.
-          rw n (good_more _ _ _ command (count + 1) _ _ (inv.good told dev) (line told).from
-          (t.notes.commands (inv.goes.touches.told ∙ dev)));
+      good = λ told.
+          rw n (good_more _ _ _ command (count + 1) _ _ (inv.good told) (line told).from refl);
       fault = λ told. rw n (inv.fault told ∙ ap (λ r. r.fault) (line told).from);
       counted = λ told.
-          rw n (counted_more c.args.kind _ _ _ count command (inv.counted told) (line told));
+          rw n (counted_more kind _ _ _ count command (inv.counted told) (line told));
       stabs = λ told.
-          let later = (parsed_from c.args.kind (count + 1 + 1) (lines_of after)).good in
-          let step : length (stab_answers (parsed_from c.args.kind (count + 1) (lines_of before)).good)
+          let later = (parsed_from kind (count + 1 + 1) (lines_of after)).good in
+          let step : length (stab_answers (parsed_from kind (count + 1) (lines_of before)).good)
           ≡ c.stabs_in-stabs.result + length (stab_answers later) =
           ap (λ r. length (stab_answers r.good)) (line told).from ∙ stabs_next command later
           ∙ ap (λ n. n + length (stab_answers later)) (sym c.stabs_in-stabs.ensures.count) in

@@ -1,7 +1,7 @@
 use Rattle.std.proofs.Common.{rules, Some, refl}
 use Rattle.em_io.specs.declared.shelf.Slot.TheVariants.{First}
 use Rattle.emtool.specs.Due.{text_in}
-use Rattle.emtool.proofs.EndLaws.{ended_as, ended_read}
+use Rattle.emtool.proofs.EndLaws.{ended_as, unmoved_read}
 use Rattle.emtool.proofs.Opening.{opens_file, opens_missing, reads_file, reads_missing, text_opened}
 use Rattle.emtool.proofs.run.run_file.Goals as goal
 
@@ -13,7 +13,8 @@ returns-in_default-clause-runs g c =
     let tells = g.H.Shelf.tells in
     let told = (g.D.Device.state c.args.rig.now.device.now).told in
     record {
-      ended = ended_read g.met.W.Sink.rule _ _ _ _ _ _ (g.met.W.Sink.is_state c.args.out.now) refl;
+      ended = unmoved_read g.met.W.Sink.rule _ _ _ _ _ _ (g.met.W.Sink.is_state c.args.out.now) refl
+          refl;
       caused = search rules;
       opens = opens_missing tells told c.args.kind c.args.name.now a b c.requires.fresh o.leaves o.lost;
       all_read = reads_missing tells told c.args.kind c.args.name.now a b c.requires.fresh o.leaves o.lost;

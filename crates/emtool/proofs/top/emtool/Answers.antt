@@ -1,6 +1,6 @@
 use Rattle.std.proofs.Common.{rules}
 use Rattle.emtool.specs.Due.{names_on}
-use Rattle.emtool.proofs.TopLaws.{answers_end, complete_end, due_end, full_end}
+use Rattle.emtool.proofs.TopLaws.{answers_end, complete_end, due_end, full_end, moves_end}
 use Rattle.emtool.proofs.top.emtool.Goals as goal
 use Rattle.emtool.proofs.top.emtool.Goals.{in-Ok, in-Err}
 
@@ -83,5 +83,24 @@ returns-clause-complete g c = elim c.match-read_job.branch [
       (names_on job.origin job.task w.name_at.result.now w.name_at-in-Ok.result.now)
       w.run_job-outcome.result.status
       w.in-Ok.ensures.is.shape e.runs.no_usage e.runs.ended e.runs.caused)
+  | in-Err w ↦ search rules
+]
+
+pub returns-clause-transfers : goal.returns-clause-transfers
+returns-clause-transfers g c = elim c.match-read_job.branch [
+  | in-Ok w ↦
+      let e = w.run_job-outcome.ensures in
+      let job = w.in-Ok.job in
+      rw (
+        w.device-is,
+        w.shelf-is,
+        w.out-is,
+        ← w.in-Ok.ensures.job,
+        ← w.name_at.ensures.is,
+        ← w.name_at-in-Ok.ensures.is,
+      )
+      (moves_end _ _ _ _ (g.H.Shelf.stand c.args.shelf.now) job
+      (names_on job.origin job.task w.name_at.result.now w.name_at-in-Ok.result.now)
+      w.run_job-outcome.result.status e.runs.ended)
   | in-Err w ↦ search rules
 ]

@@ -1,9 +1,9 @@
 use Rattle.std.proofs.Common.{refl, rules}
-use Rattle.emtool.proofs.EndLaws.{ended_no_memory}
+use Rattle.emtool.proofs.EndLaws.{unmoved_memory}
 use Rattle.emtool.proofs.TopLaws.{job_run, leaves_no_memory}
 use Rattle.emtool.proofs.top.run_job.Goals as goal
 
 pub returns-in_default-clause-runs : goal.returns-in_default-clause-runs
 returns-in_default-clause-runs g c = job_run
-    (ended_no_memory g.met.W.Sink.rule _ _ _ _ _ _ (g.met.W.Sink.is_state c.args.out.now) refl)
+    (unmoved_memory g.met.W.Sink.rule _ _ _ _ _ _ (g.met.W.Sink.is_state c.args.out.now) refl refl)
     (search (rules, leaves_no_memory))

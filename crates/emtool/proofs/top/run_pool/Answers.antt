@@ -1,14 +1,25 @@
-use Rattle.std.proofs.Common.{refl, rules}
-use Rattle.emtool.proofs.EndLaws.{ended_device, ended_no_memory}
-use Rattle.emtool.proofs.TopLaws.{job_run, leaves_no_memory, leaves_unbegun}
+use Rattle.std.proofs.Common.{ap, refl, rules}
+use Rattle.em_frames.specs.Pool.{PoolCounts}
+use Rattle.em_space.specs.Seen.{seen}
+use Rattle.emtool.proofs.EndLaws.{unmoved_device, unmoved_memory}
+use Rattle.emtool.proofs.TopLaws.{job_run, leaves_no_memory, leaves_unbegun, opened_run}
 use Rattle.emtool.proofs.top.run_pool.Goals as goal
+
+pub returns-in-Ok-clause-runs : goal.returns-in-Ok-clause-runs
+returns-in-Ok-clause-runs g c =
+    opened_run c.args.pool (seen g.D.Device.state c.in-Ok.rig)
+    (seen g.D.Device.state c.run_on-status.new.rig) c.in-Ok.ensures.opened
+    (ap (λ (p : PoolCounts). p.shape) c.requires.pool) (search rules) c.run_on-status.ensures.runs
+    (search rules)
 
 pub returns-in-Failed-clause-runs : goal.returns-in-Failed-clause-runs
 returns-in-Failed-clause-runs g c = job_run
-    (ended_device g.met.W.Sink.rule _ _ _ _ _ _ (g.met.W.Sink.is_state c.args.out.now) refl)
+    (unmoved_device g.met.W.Sink.rule _ _ _ _ _ _ (g.met.W.Sink.is_state c.args.out.now) refl
+    (search rules))
     (search (rules, leaves_unbegun))
 
 pub returns-in-NoMemory-clause-runs : goal.returns-in-NoMemory-clause-runs
 returns-in-NoMemory-clause-runs g c = job_run
-    (ended_no_memory g.met.W.Sink.rule _ _ _ _ _ _ (g.met.W.Sink.is_state c.args.out.now) refl)
+    (unmoved_memory g.met.W.Sink.rule _ _ _ _ _ _ (g.met.W.Sink.is_state c.args.out.now) refl
+    (search rules))
     (search (rules, leaves_no_memory))

@@ -1,0 +1,197 @@
+-- The moves of an evaluation along the edges of a circuit: those of its evaluator and of its queue are
+-- within those of a circuit of this size and of the steps that were begun.
+use Rattle.std.proofs.Common.{◌≡◌, ℕ, ◌+◌, ◌*◌, ◌<◌, ◌≤◌, max, List, ap, sym, subst, ◌∙◌, arith, IsTrue, Result}
+use Rattle.std.proofs.Math.Nat.{mul-le-mul}
+use Rattle.em_record.specs.Shape.{ShapeNumbers, payload_of}
+use Rattle.em_io.specs.declared.shelf.Shelf.{Ghosts as ShelfGhosts}
+use Rattle.em_io.specs.declared.shelf.Slot.TheVariants.{Second}
+use Rattle.em_io.specs.declared.sink.Sink.{Ghosts as SinkGhosts}
+use Rattle.em_space.specs.Queue.{QueueCounts}
+use Rattle.em_space.specs.Rig.{RigState}
+use Rattle.em_space.specs.declared.fault.EmFault.{EmFault}
+use Rattle.em_space.specs.declared.queue.Queue.{Ghosts as QueueGhosts}
+use Rattle.em_chain.specs.Chain.{payload_in}
+use Rattle.em_chain.specs.Counts.{ceiling}
+use Rattle.em_tree_cost.specs.Shares.{queue_share}
+use Rattle.em_tree_cost.proofs.Rising.{queue_share_rises}
+use Rattle.aig_defs.specs.declared.circuit.Header.{Header}
+use Rattle.aig_defs.specs.Begun.{circuit_size}
+use Rattle.aig_edges.specs.Graph.{edge_count}
+use Rattle.aig_edges.specs.declared.graph.Ordered.{Ordered}
+use Rattle.aig_forward.specs.Lists.{begin_moves, latch_room}
+use Rattle.aig_forward.specs.Step.{input_room, step_moves}
+use Rattle.aig_forward.specs.declared.evaluator.Evaluator.{Evaluator}
+use Rattle.emtool.specs.Evaluation.{CanBegin, steps_of}
+use Rattle.emtool.specs.Queues.{FailsToMake}
+use Rattle.emtool.specs.declared.stop.Stop.{Stop}
+use Rattle.emtool.proofs.EvalEnds.{Evaluated, KeepsSteps, Made, Unmade, counts_same, made_touches}
+use Rattle.emtool.proofs.CircuitCosts.{lists_fit}
+
+-- The evaluator's lists were made, at most, and no step came;
+without_steps : (c n q s t : ℕ) → t ≤ s + (6 * c + 10) → t ≤ s + ((9 * n + 15) * c + 7 * n + 13 + q)
+without_steps c n q s t h = omega (arith, h)
+
+-- or steps came after that.
+with_steps : (c n x q s t begin step : ℕ) → t ≤ s + x + (begin + (1 + n) * step)
+    → begin ≤ 6 * c + 6 → step ≤ 9 * c + 7 → x ≤ q → t ≤ s + ((9 * n + 15) * c + 7 * n + 13 + q)
+with_steps c n x q s t begin step h a b d =
+    let all : (1 + n) * step ≤ (1 + n) * (9 * c + 7) =
+    mul-le-mul {n₁ = 1 + n} {m₁ = step} {n₂ = 1 + n} {m₂ = 9 * c + 7} (omega arith) b in
+    omega (arith, h, a, all, d)
+
+-- No queue was made.
+pub refused_moves : {H : Type 0} (h : ShelfGhosts H) {s t : RigState} (o : Ordered) {fault : EmFault}
+    (shelf : H) → FailsToMake s t fault → KeepsSteps h s t o shelf shelf
+refused_moves h {s} {t} o shelf f = λ z told.
+    let size = circuit_size o.header in
+    let n = steps_of o.header.inputs ((h.stand shelf).slot Second).left ((h.stand shelf).slot Second) in
+    let few = f.moves in
+    without_steps (ceiling size (payload_of s.pool.shape)) n
+    (queue_share s.pool.shape (2 * size * n) (2 * size)) s.moves t.moves (omega (arith, few))
+
+-- What making the evaluator's lists moves, by the blocks of the circuit's size.
+begins_few : {s : RigState} {o : Ordered} (m : RigState) → CanBegin s o → m.pool.shape ≡ s.pool.shape
+    → begin_moves m o ≤ 6 * ceiling (circuit_size o.header) (payload_of s.pool.shape) + 6
+begins_few {s} {o} m can shape =
+    let p = payload_of s.pool.shape in
+    let low = can.sound.shape.block_low in
+    let some : 0 < p = omega (arith, low) in
+    let fit = lists_fit p o.header some in
+    let bits : latch_room o.header m ≡ ceiling o.header.latches p =
+    ap (λ (x : ShapeNumbers). ceiling o.header.latches (payload_of x)) shape in
+    let latches : ceiling o.header.latches p ≤ ceiling (circuit_size o.header) p = fit.latches in
+    omega (arith, can.packed, fit.edges, bits, latches)
+
+module _ {Q : Type 0} {queue : QueueGhosts Q} {s m t : RigState} {o : Ordered} {q : Q}
+    {fault : EmFault} (u : Unmade queue s m t o q fault) where
+  -- No evaluator was made, after a queue that moved few blocks.
+  pub unmade_moves : {H : Type 0} (h : ShelfGhosts H) (shelf : H) → m.moves ≤ s.moves + 4
+      → KeepsSteps h s t o shelf shelf
+  unmade_moves h shelf few = λ z told.
+      let size = circuit_size o.header in
+      let n = steps_of o.header.inputs ((h.stand shelf).slot Second).left
+      ((h.stand shelf).slot Second) in
+      let begin = begins_few m u.can u.makes.session.touches.shape in
+      let all : t.moves ≤ m.moves + begin_moves m o =
+      halts t.moves (queue.counts q).spent m.moves (begin_moves m o) u.fails.halted.moves in
+      without_steps (ceiling size (payload_of s.pool.shape)) n
+      (queue_share s.pool.shape (2 * size * n) (2 * size)) s.moves t.moves
+      (added t.moves m.moves s.moves (begin_moves m o) (ceiling size (payload_of s.pool.shape)) all few
+      begin)
+    where
+      halts : (t c m n : ℕ) → t + (c + 0) ≤ m + (n + c) → t ≤ m + n
+      halts t c m n h = omega (arith, h)
+
+      added : (t m s n c : ℕ) → t ≤ m + n → m ≤ s + 4 → n ≤ 6 * c + 6 → t ≤ s + (6 * c + 10)
+      added t m s n c h a b = omega (arith, h, a, b)
+
+-- Steps by an evaluator over a new queue, with making both: `s` moves were made before, `m` when the queue
+-- was made, `a` when the evaluator was, and `b` after the steps.
+run_by : (c e d : QueueCounts) (s m a b begin own x : ℕ) → e ≡ c → c.spent + s ≡ m
+    → a + (c.spent + 0) + (0 + 0) ≤ m + (0 + begin) + (c.spent + 0)
+    → b + e.spent ≤ a + d.spent + own → d.spent ≤ x → b ≤ s + x + (begin + own)
+run_by c e d s m a b begin own x same made begun ran spends =
+    let spent = ap (λ (z : QueueCounts). z.spent) same in
+    omega (arith, made, begun, ran, spends, spent)
+
+module _ {H W Q : Type 0} {h : ShelfGhosts H} {w : SinkGhosts W} {queue : QueueGhosts Q}
+    {s m a b t : RigState} {o : Ordered} {q : Q} {e d : Evaluator Q} {shelf shelf_after : H}
+    {out mid out_after : W} {pending : List ℕ} {done result : Result (Unit {0}) Stop}
+    (v : Evaluated h w queue s m a b t o q e d shelf shelf_after out mid out_after pending done result)
+  where
+    -- how many steps were begun
+    abbrev begun : ℕ
+    begun = steps_of o.header.inputs ((h.stand shelf).slot Second).left
+        ((h.stand shelf_after).slot Second)
+
+    -- the shape stays
+    shape_before : a.pool.shape ≡ s.pool.shape
+    shape_before = (made_touches v.made).shape
+
+    -- a list of one record for each of some, by the blocks of the circuit's size
+    list_few : (n : Header → ℕ) → ceiling (n e.header) (payload_in a)
+        ≡ ceiling (n o.header) (payload_of s.pool.shape)
+    list_few n =
+        ap (λ (x : Header). ceiling (n x) (payload_in a)) v.made.begins.header
+        ∙ ap (λ (x : ShapeNumbers). ceiling (n o.header) (payload_of x)) shape_before
+
+    -- the edges were split in two lists
+    lists_held : e.given.blocks + e.gates.blocks ≤ o.edges.blocks + 1
+    lists_held =
+        let u = v.made in
+        let size = u.begins.size in
+        let state = u.begins.is.state_blocks in
+        let after = list_few (λ x. x.latches) in
+        let before : latch_room o.header m ≡ ceiling o.header.latches (payload_of s.pool.shape) =
+        ap (λ (x : ShapeNumbers). ceiling o.header.latches (payload_of x)) u.makes.session.touches.shape in
+        omega (arith, size, state, after, before)
+
+    -- So a step moves few blocks beside its queue.
+    step_few : step_moves a e
+        ≤ 9 * ceiling (circuit_size o.header) (payload_of s.pool.shape) + 7
+    step_few =
+        let p = payload_of s.pool.shape in
+        let low = v.made.can.sound.shape.block_low in
+        let some : 0 < p = omega (arith, low) in
+        let fit = lists_fit p o.header some in
+        let inputs = list_few (λ x. x.inputs) in
+        let latches = list_few (λ x. x.latches) in
+        omega (arith, lists_held, v.made.can.packed, fit.edges, fit.inputs, fit.latches, inputs, latches)
+
+    -- What its queue moved, if it keeps to its share, is within the share of two calls for each edge in each
+    -- step that was begun.
+    spent_few : IsTrue h.tells → (queue.counts d.queue).spent
+        ≤ queue_share b.pool.shape (queue.counts d.queue).n (queue.counts d.queue).k
+        → (queue.counts d.queue).spent ≤ queue_share s.pool.shape
+        (2 * circuit_size o.header * begun) (2 * circuit_size o.header)
+    spent_few z spends =
+        let c = queue.counts d.queue in
+        let size = circuit_size o.header in
+        let edges : edge_count e.header ≡ edge_count o.header =
+        ap (λ (x : Header). edge_count x) v.made.begins.header in
+        let calls : c.n ≤ 2 * edge_count o.header * begun =
+        subst (λ (x : Header). c.n ≤ 2 * edge_count x * steps_of x.inputs
+        ((h.stand shelf).slot Second).left ((h.stand shelf_after).slot Second)) v.made.begins.header
+        (v.steps.called z) in
+        let all : 2 * edge_count o.header * begun ≤ 2 * size * begun =
+        mul-le-mul {n₁ = 2 * edge_count o.header} {m₁ = begun} {n₂ = 2 * size} {m₂ = begun}
+        (omega arith) (omega arith) in
+        let none : (queue.counts e.queue).k ≡ 0 =
+        ap (λ (x : QueueCounts). x.k) (counts_same v.made) ∙ v.made.makes.new.k in
+        let run = v.steps.run in
+        let rises = queue_share_rises s.pool.shape c.n (2 * size * begun) c.k (2 * size)
+        (most_calls c.n (2 * edge_count o.header * begun) (2 * size * begun) calls all)
+        (omega (arith, run, none, edges)) in
+        let within : c.spent ≤ queue_share s.pool.shape c.n c.k =
+        subst (λ (x : ShapeNumbers). c.spent ≤ queue_share x c.n c.k)
+        (v.steps.touches.shape ∙ shape_before) spends in
+        most_calls c.spent (queue_share s.pool.shape c.n c.k)
+        (queue_share s.pool.shape (2 * size * begun) (2 * size)) within rises
+      where
+        most_calls : (x y z : ℕ) → x ≤ y → y ≤ z → x ≤ z
+        most_calls x y z h k = omega (arith, h, k)
+
+    -- An evaluation moves at most that, beside the moves of its evaluator.
+    pub evaluated_moves : (IsTrue b.device.told → (queue.counts d.queue).spent
+        ≤ queue_share b.pool.shape (queue.counts d.queue).n (queue.counts d.queue).k)
+        → KeepsSteps h s t o shelf shelf_after
+    evaluated_moves spends = λ z told.
+        let u = v.made in
+        let size = circuit_size o.header in
+        let later : IsTrue b.device.told = v.steps.touches.told ∙ ((made_touches u).told ∙ told) in
+        let share = queue_share s.pool.shape (2 * size * begun) (2 * size) in
+        let steps : b.moves + (queue.counts e.queue).spent
+        ≤ a.moves + (queue.counts d.queue).spent + (1 + begun) * step_moves a e =
+        subst (λ (x : Header). b.moves + (queue.counts e.queue).spent
+        ≤ a.moves + (queue.counts d.queue).spent + (1 + steps_of x.inputs
+        ((h.stand shelf).slot Second).left ((h.stand shelf_after).slot Second)) * step_moves a e)
+        u.begins.header (v.steps.moves z) in
+        let all = run_by (queue.counts q) (queue.counts e.queue) (queue.counts d.queue) s.moves
+        m.moves a.moves b.moves (begin_moves m o) ((1 + begun) * step_moves a e) share (counts_same u)
+        u.makes.spent u.begins.runs.runs.spends.moves steps (spent_few z (spends later)) in
+        let ended : t.moves ≡ b.moves = ap (λ (r : RigState). r.moves) v.leaves.same in
+        subst (λ (n : ℕ). n ≤ s.moves + ((9 * begun + 15)
+        * ceiling size (payload_of s.pool.shape) + 7 * begun + 13 + share)) (sym ended)
+        (with_steps (ceiling size (payload_of s.pool.shape)) begun share share s.moves b.moves
+        (begin_moves m o) (step_moves a e) all (begins_few m u.can u.makes.session.touches.shape)
+        step_few (omega arith))
