@@ -39,7 +39,7 @@ use em_space::{EmFault, Rig};
 /// an entry; over a device that doesn't tell, another block is `Damaged`. Answers the least place
 /// of a buffer that now has f·B records or more, and None exactly if there is none.
 ///
-/// `DeviceFault` comes if the device's count of faults rose, and `Full` if a block was needed and
+/// `DeviceFault` comes only if the device's count of faults rose, and `Full` only if a block was needed and
 /// all are in use: never if one block for each buffer that gets a record is free, and one more.
 /// After a fault the node and the chain may hold anything, and their blocks stay in use. All
 /// frames are back on each way out.

@@ -8,6 +8,7 @@ pub mod Halves
 pub mod Counted
 pub mod Loading
 pub mod Settling
+pub mod Needs
 pub mod Applied
 pub mod Laws
 pub mod Entries

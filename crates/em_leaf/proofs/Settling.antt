@@ -43,7 +43,7 @@ use Rattle.em_leaf.proofs.Loading.{Begun, high_fields, limit_most, load_some, no
 use Rattle.em_leaf.proofs.Numbers.{ceiling_add}
 
 -- the low part has as many records as it may
-low_is : (n l h limit most : ℕ) → limit ≡ low_limit_of most n → 1 ≤ most → n ≡ l + h → l ≤ limit
+pub low_is : (n l h limit most : ℕ) → limit ≡ low_limit_of most n → 1 ≤ most → n ≡ l + h → l ≤ limit
     → (l ≡ limit) ⊎ (h ≡ 0) → l ≡ low_count most n
 low_is n l h limit most e some s few full = ⊎_elim
     (λ (m : most < n).

@@ -166,7 +166,7 @@ module _ (key : Record → Record) (step : Option Record → Record → Step) (o
       → Passing p key step ops s t r q w v f g items → IsWriter t out
   out_is {q = q} {v = v} c h = (out_stays q v c h.pairs.runs).is
 
-  one_same : {p : ℕ} {s t : RigState} {r q : Reader} {w v out : Writer} {f g : Front}
+  pub one_same : {p : ℕ} {s t : RigState} {r q : Reader} {w v out : Writer} {f g : Front}
       {items : List Record} → CanWriteItems s r w out f (length ops)
       → Passing p key step ops s t r q w v f g items → one_more t out ≡ one_more s out
   one_same {p} {s} {t} {r} {q} {w} {v} {out} c h =

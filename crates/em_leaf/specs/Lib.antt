@@ -3,6 +3,7 @@ pub mod Effects
 pub mod Front
 pub mod Steps
 pub mod Passing
+pub mod Needs
 pub mod Writing
 pub mod Counting
 pub mod Settling

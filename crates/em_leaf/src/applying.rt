@@ -8,13 +8,14 @@
 //! chain's blocks are released; on each way out all frames are back. Left to the tree: which leaf
 //! a load is for, and that a load has the operations of a key in order.
 
-ghost use Rattle.std.specs.Prelude.{◌≡◌, ◌↔◌, ◌+◌, ◌<◌, ◌≤◌, length, take, IfOk, OnOk, IsTrue};
+ghost use Rattle.std.specs.Prelude.{◌≡◌, ◌↔◌, ◌+◌, ◌<◌, ◌≤◌, ◌++◌, drop, length, take, IfErr, IfOk, OnOk, IsTrue};
 ghost use Rattle.em_record.specs.Order.{IsAscending};
 ghost use Rattle.em_space.specs.Rig.{Sound};
 ghost use Rattle.em_space.specs.Seen.{seen};
 ghost use Rattle.em_chain.specs.Effects.{Completes};
 ghost use Rattle.em_chain.specs.Writer.{WriterHasFrame};
 ghost use Rattle.em_leaf.specs.Leaf.{AreLeafChains, CanLoad, ops_of};
+ghost use Rattle.em_leaf.specs.Needs.{LacksBlocks};
 ghost use Rattle.em_leaf.specs.Settling.{CanSettle, SettlesOpsTo};
 ghost use Rattle.em_leaf.specs.Effects.{AnswersLoad, RunsLoad, SettlesLeaf, load_moves_most, loading_room};
 
@@ -31,11 +32,12 @@ use em_space::{EmFault, Rig};
 /// stored records, whose blocks are released. The answers are appended in that order. `high` is
 /// there exactly if more than 4·w·B records result: then the low part has the first half of them.
 ///
-/// `DeviceFault` comes if the device's count of faults rose, and `Full` if a block was needed and
-/// all are in use: never if 2·ceil(count/P) + 3 blocks are free, of P records each. `Damaged`
-/// comes only over a device that doesn't tell. After a fault the chain's blocks may hold anything
-/// and stay in use, and `answers` may only be abandoned. The call makes at most 5·s +
-/// 4·ceil(count/P) + 12 moves, s being the chain's blocks.
+/// `DeviceFault` comes only if the device's count of faults rose, and `Full` only if all blocks are in use:
+/// over a device that tells only if fewer were free than what results needs in its parts, and
+/// the answers more than `answers` has; and never if 2·ceil(count/P) + 3 were, of P records each.
+/// `Damaged` comes only over a device that doesn't tell. After a fault some of the chain's blocks may
+/// be released; the others stay in use and may hold anything, and `answers` may only be abandoned.
+/// The call makes at most 5·s + 4·ceil(count/P) + 12 moves, s being the chain's blocks.
 pub fn apply_load<D: Device, S: Settle>(
     rig: &mut Rig<'_, D>,
     settle: &S,
@@ -64,7 +66,10 @@ pub fn apply_load<D: Device, S: Settle>(
     ensures complete { (seen D.state rig.old).used + loading_room (seen D.state rig.old) count
         ≤ (seen D.state rig.old).blocks
         → Completes (seen D.state rig.old) (seen D.state rig.new) result }
-    ensures area { length load.new ≡ length load.old }
+    ensures needs { IfErr result (LacksBlocks (S.key_of settle.now) (S.step_of settle.now)
+        (seen D.state rig.old) stored (ops_of load.old count) answers.old) }
+    ensures area { load.new ≡ ops_of load.old count ++ drop count load.old }
+    ensures len { length load.new ≡ length load.old }
 {
     put_in_order(load, count);
     settle_leaf(rig, settle, stored, &load.records()[..count], answers)
@@ -75,7 +80,8 @@ pub fn apply_load<D: Device, S: Settle>(
 fn put_in_order(load: &mut Area, count: usize)
     requires room { count ≤ length load.old }
     ensures ordered { take count load.new ≡ ops_of load.old count }
-    ensures area { length load.new ≡ length load.old }
+    ensures area { load.new ≡ ops_of load.old count ++ drop count load.old }
+    ensures len { length load.new ≡ length load.old }
 {
     load.sort(count);
 }
@@ -99,6 +105,8 @@ fn settle_leaf<D: Device, S: Settle>(
         answers.old answers.new result }
     ensures settled { SettlesOpsTo (S.key_of settle.now) (S.step_of settle.now)
         (seen D.state rig.old) (seen D.state rig.new) stored ops.now answers.old answers.new result }
+    ensures needs { IfErr result (LacksBlocks (S.key_of settle.now) (S.step_of settle.now)
+        (seen D.state rig.old) stored ops.now answers.old) }
 {
     let shape = rig.shape();
     let most = 4 * shape.wide() * shape.block();

@@ -1,10 +1,11 @@
 //! A pass over stored records and operations, from one record that results to the next.
-ghost use Rattle.std.specs.Prelude.{◌≡◌, ◌<◌, ◌≤◌, length, Some};
+ghost use Rattle.std.specs.Prelude.{◌≡◌, ◌<◌, ◌≤◌, length, option_to_list, IfErr, Some};
 ghost use Rattle.em_record.specs.Order.{IsAscending};
 ghost use Rattle.em_space.specs.Rig.{Sound};
 ghost use Rattle.em_space.specs.Seen.{seen};
 ghost use Rattle.em_chain.specs.Reader.{ReaderHasFrame};
 ghost use Rattle.em_chain.specs.Writer.{CanGrow, IsWriter, WriterHasFrame};
+ghost use Rattle.em_leaf.specs.Needs.{LacksAnswers};
 ghost use Rattle.em_leaf.specs.Passing.{CanPass, FindsNext, GivesAnswer};
 
 use crate::front::{Finding, Front};
@@ -36,6 +37,8 @@ pub(crate) fn next_record<D: Device, S: Settle>(
     ensures finds { FindsNext (S.key_of settle.now) (S.step_of settle.now) ops.now
         (seen D.state rig.old) (seen D.state rig.new) reader.old reader.new answers.old answers.new
         front.old front.new result }
+    ensures needs { IfErr result (LacksAnswers (S.key_of settle.now) (S.step_of settle.now) ops.now
+        (seen D.state rig.old) (seen D.state rig.new) reader.old answers.old front.old) }
 {
     loop {
         match take_step(rig, settle, ops, reader, front)? {
@@ -60,6 +63,7 @@ fn give<D: Device>(
     ensures gives { GivesAnswer (seen D.state rig.old)
         (seen D.state rig.new) answers.old answers.new
         answer result }
+    ensures some { IfErr result (λ _. 0 < length (option_to_list answer)) }
 {
     match answer {
         Some(item) => give_one(rig, answers, item),

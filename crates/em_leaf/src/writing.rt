@@ -1,11 +1,12 @@
 //! What results of a pass, written to chains.
-ghost use Rattle.std.specs.Prelude.{◌≡◌, ◌+◌, ◌<◌, ◌≤◌, ◌^◌, length};
+ghost use Rattle.std.specs.Prelude.{◌≡◌, ◌+◌, ◌<◌, ◌≤◌, ◌^◌, length, IfErr};
 ghost use Rattle.em_record.specs.Order.{IsAscending};
 ghost use Rattle.em_space.specs.Rig.{Sound};
 ghost use Rattle.em_space.specs.Seen.{seen};
 ghost use Rattle.em_chain.specs.Reader.{ReaderHasFrame};
 ghost use Rattle.em_chain.specs.Writer.{WriterHasFrame};
 ghost use Rattle.em_leaf.specs.Front.{fresh_front, most_left};
+ghost use Rattle.em_leaf.specs.Needs.{LacksItems, LacksLeaf, LacksPart};
 ghost use Rattle.em_leaf.specs.Passing.{CanPass};
 ghost use Rattle.em_leaf.specs.Writing.{CanWriteItems, HaveFrames, IsHighOf, WritesItemsTo, WritesLeaf, WritesNext, WritesPartTo, first_or};
 
@@ -42,6 +43,8 @@ pub(crate) fn write_leaf<D: Device, S: Settle>(
     ensures writes { WritesLeaf limit most (S.key_of settle.now) (S.step_of settle.now) ops.now
         (seen D.state rig.old) (seen D.state rig.new) reader.old reader.new answers.old answers.new
         result }
+    ensures needs { IfErr result (LacksLeaf limit (S.key_of settle.now) (S.step_of settle.now)
+        ops.now (seen D.state rig.old) (seen D.state rig.new) reader.old answers.old) }
 {
     let mut front = new_front();
     let (_, low) = write_part(rig, settle, ops, reader, &mut front, answers, limit)?;
@@ -82,6 +85,8 @@ fn write_part<D: Device, S: Settle>(
     ensures writes { WritesPartTo limit (S.key_of settle.now) (S.step_of settle.now) ops.now
         (seen D.state rig.old) (seen D.state rig.new) reader.old reader.new answers.old answers.new
         front.old front.new result }
+    ensures needs { IfErr result (LacksPart limit (S.key_of settle.now) (S.step_of settle.now)
+        ops.now (seen D.state rig.old) (seen D.state rig.new) reader.old answers.old front.old) }
 {
     let mut out = Writer::new(rig);
     match write_records(rig, settle, ops, reader, front, answers, &mut out, limit) {
@@ -117,6 +122,9 @@ fn write_records<D: Device, S: Settle>(
     ensures writes { WritesItemsTo limit (S.key_of settle.now) (S.step_of settle.now) ops.now
         (seen D.state rig.old) (seen D.state rig.new) reader.old reader.new answers.old answers.new
         out.old out.new front.old front.new result }
+    ensures needs { IfErr result (LacksItems limit (S.key_of settle.now) (S.step_of settle.now)
+        ops.now (seen D.state rig.old) (seen D.state rig.new) reader.old answers.old out.old
+        front.old) }
 {
     let mut first = None;
     for _ in 0..limit {
@@ -148,6 +156,9 @@ fn write_next<D: Device, S: Settle>(
     ensures writes { WritesNext (S.key_of settle.now) (S.step_of settle.now) ops.now
         (seen D.state rig.old) (seen D.state rig.new) reader.old reader.new answers.old answers.new
         out.old out.new front.old front.new result }
+    ensures needs { IfErr result (LacksItems 1 (S.key_of settle.now) (S.step_of settle.now)
+        ops.now (seen D.state rig.old) (seen D.state rig.new) reader.old answers.old out.old
+        front.old) }
 {
     match next_record(rig, settle, ops, reader, front, answers)? {
         Some(item) => {

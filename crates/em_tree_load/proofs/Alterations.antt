@@ -8,8 +8,10 @@ use Rattle.em_record.specs.Order.{is_below}
 use Rattle.em_record.specs.Shape.{IsShape, ShapeNumbers, fan_of}
 use Rattle.em_record.specs.declared.record.Record.{Record}
 use Rattle.em_space.specs.Queue.{Pays}
-use Rattle.em_space.specs.Rig.{RigState, Sound, Allocates, Cause, DeviceCause, Goes, InUse, MovesToAlloc, Owes, Transfers}
+use Rattle.em_space.specs.Rig.{RigState, Sound, Allocates, Cause, DeviceCause, Goes, IfFull, InUse, MovesToAlloc, Owes, SameBlocks, Transfers}
 use Rattle.em_space.specs.declared.fault.EmFault.{EmFault}
+use Rattle.em_space.specs.declared.fault.EmFault.TheVariants.{DeviceFault, Full, Damaged}
+use Rattle.em_space.proofs.Ledgers.{full_never}
 use Rattle.em_space.proofs.Paying.{pays_kept, pays_of_owes, pays_then}
 use Rattle.em_space.proofs.Sessions.{session_allocates, session_trans}
 use Rattle.em_space.proofs.Steps.{block_cause, cause_after, device_block_cause, same_frames_then}
@@ -244,6 +246,7 @@ module _ {s a : RigState} {new : ℕ} (g : Goes [] s a) (given : Allocates s a n
           loses = λ z. let taken = given.used in omega (arith, taken, same);
         };
         below = (let b = given.below in let e = g.touches.blocks in omega (arith, b, e));
+        used = same ∙ given.used;
         is = λ z w. record {
           in_use = x.in_use;
           head = x.head (g.touches.told ∙ z);
@@ -268,13 +271,21 @@ module _ {s a : RigState} {new : ℕ} (g : Goes [] s a) (given : Allocates s a n
           pays = pays_then before after later;
           cause = cause_after [] s a t fault g.touches (block_cause a t fault x.cause);
         };
+        full = full_never a t fault (s.blocks ≡ s.used) x.cause;
         moves = omega (arith, first, second);
       }
 
+-- All blocks were in use.
+full_before : (s a : RigState) (e : EmFault) → Cause s a e → a.used ≡ s.used → a.blocks ≡ s.blocks
+    → IfFull e (λ _. s.blocks ≡ s.used)
+full_before s a DeviceFault c u b = tt
+full_before s a (Full used) c u b = sym b ∙ (sym c.1 ∙ u)
+full_before s a (Damaged block) c u b = tt
+
 -- No block could be taken.
 pub unallotted : {s a : RigState} {fault : EmFault} → Goes [] s a → MovesToAlloc s a → Owes 1 s a
-    → Cause s a fault → StopsNewLeaf s a fault
-unallotted {s} {a} {fault} g moves owes cause =
+    → Cause s a fault → SameBlocks s a → StopsNewLeaf s a fault
+unallotted {s} {a} {fault} g moves owes cause still =
     let first = alloc_moves s a moves in
     record {
       stops = record {
@@ -282,6 +293,7 @@ unallotted {s} {a} {fault} g moves owes cause =
         pays = pays_of_owes 1 0 1 owes (omega arith);
         cause = cause;
       };
+      full = full_before s a fault cause still.used g.touches.blocks;
       moves = omega (arith, first);
     }
 

@@ -5,6 +5,7 @@ pub mod Regions
 pub mod Losses
 pub mod Payments
 pub mod FirstSettles
+pub mod LoadRooms
 pub mod SettlesAt
 pub mod Alterations
 pub mod LowKeys
@@ -18,6 +19,7 @@ pub mod LeafRanges
 pub mod NodeLoaded
 pub mod NodeParted
 pub mod NodeStops
+pub mod LoadTaken
 pub mod NodeFrames
 pub mod PouredNodes
 pub mod PouredLoads

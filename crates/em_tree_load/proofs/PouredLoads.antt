@@ -91,7 +91,7 @@ module _ {key : Record → Record} {step : Option Record → Record → Step} {s
   on_told : IsTrue s.device.told → IsTrue t.device.told
   on_told z = h.runs.session.touches.told ∙ z
 
-  over_here : IsTrue t.device.told → IsOver t node x.rest
+  pub over_here : IsTrue t.device.told → IsOver t node x.rest
   over_here y = over_leaves t node x.rest v (here_node (back_told y))
       (h.runs.session.holds (back_told y))
 
@@ -136,7 +136,7 @@ module _ {key : Record → Record} {step : Option Record → Record → Step} {s
       }
 
   -- how many operations are left
-  rest_count : (z : IsTrue s.device.told)
+  pub rest_count : (z : IsTrue s.device.told)
       → (let n = length (waiting_over s node i) in x.rest.count ≡ n - taken_of s n)
   rest_count z =
       let o = h.told z in

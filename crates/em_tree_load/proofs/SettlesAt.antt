@@ -129,7 +129,7 @@ module _ {key : Record → Record} {s r : RigState} {q stored buffer : Chain} {w
   read_stored z = chain_stays [] s r q x.goes.touches
       (λ y. apart_none (chain_blocks s q)) (stands z)
 
-  read_items : IsTrue s.device.told → chain_items r stored ≡ chain_items s q
+  pub read_items : IsTrue s.device.told → chain_items r stored ≡ chain_items s q
   read_items z = ap (chain_items r) (same z) ∙ (read_stored z).items z
 
   read_blocks : IsTrue s.device.told

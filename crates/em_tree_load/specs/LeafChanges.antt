@@ -4,7 +4,7 @@ use Rattle.std.specs.Prelude.{◌≡◌, ℕ, ◌+◌, ◌<◌, ◌≤◌, List,
 use Rattle.em_record.specs.declared.record.Record.{Record}
 use Rattle.em_frames.specs.Device.{block_at}
 use Rattle.em_space.specs.Free.{header}
-use Rattle.em_space.specs.Rig.{RigState, InUse}
+use Rattle.em_space.specs.Rig.{RigState, IfFull, InUse}
 use Rattle.em_space.specs.declared.fault.EmFault.{EmFault}
 use Rattle.em_chain.specs.Chain.{empty_chain, payload_in}
 use Rattle.em_chain.specs.Counts.{ceiling}
@@ -54,12 +54,14 @@ HasExactBlocks s c = c.blocks ≡ ceiling c.count (payload_in s)
 pub record StoredNewLeaf (s t : RigState) (c : Chain) (new : ℕ) : Type 0 where
   pub runs : RunsPaid [] (new ∷ []) 0 0 s t
   pub below : new < s.blocks
+  pub used : t.used ≡ s.used + 1
   pub is : IsTrue s.device.told → HasExactBlocks s c → IsLeafOf t new c
   pub moves : t.moves ≤ s.moves + 2
 
 -- None could be taken or stored.
 pub record StopsNewLeaf (s t : RigState) (fault : EmFault) : Type 0 where
   pub stops : StopsPaid [] 0 1 s t fault
+  pub full : IfFull fault (λ _. s.blocks ≡ s.used)
   pub moves : t.moves ≤ s.moves + 2
 
 -- what that did, by its result

@@ -4,6 +4,7 @@ pub mod Leaves
 pub mod LeafChanges
 pub mod LeafLoads
 pub mod LeafSettles
+pub mod LoadRoom
 pub mod Paid
 pub mod PathSplit
 pub mod Turns

@@ -1,6 +1,5 @@
 -- The first leaf of a tree, taken out of it, with the nodes that lead to nothing else.
-use Rattle.std.specs.Prelude.{◌≡◌, ℕ, ◌+◌, ◌*◌, ◌≤◌, List, [], IsTrue, Result, Ok, Err}
-use Rattle.em_record.specs.declared.record.Record.{Record}
+use Rattle.std.specs.Prelude.{◌≡◌, ℕ, ◌+◌, ◌*◌, ◌≤◌, [], IsTrue, Result, Ok, Err}
 use Rattle.em_frames.specs.Pool.{SameFrames}
 use Rattle.em_space.specs.Held.{Holds}
 use Rattle.em_space.specs.Ledger.{Session}

@@ -8,6 +8,7 @@ ghost use Rattle.em_space.specs.Seen.{seen};
 ghost use Rattle.em_chain.specs.Chain.{IsChain};
 ghost use Rattle.em_node.specs.Node.{Is, IsNode, IsNodeBlock, entries_of, level_of};
 ghost use Rattle.em_tree_walk.specs.Inserted.{CanFollow};
+ghost use Rattle.em_tree_load.specs.LoadRoom.{Takes, new_leaves};
 ghost use Rattle.em_tree_load.specs.NodeLoads.{CanChange, ChangesLeaf, kept_change, parted_change};
 ghost use Rattle.em_tree_load.specs.LeafChanges.{StoresEntries, StoresNewLeaf, divided_at, rebuffered_at};
 
@@ -53,6 +54,8 @@ pub(crate) fn store_change<D: Device>(
     ensures len { length frame.new ≡ length frame.old }
     ensures changes { ChangesLeaf (seen D.state rig.old) (seen D.state rig.new) leaf node
         (level_of frame.old) at (entries_of frame.old) change rest result }
+    ensures takes { Takes 0 (new_leaves change.high) (seen D.state rig.old) (seen D.state rig.new)
+        result }
 {
     let LeafChange { low, high } = change;
     match high {
@@ -85,6 +88,7 @@ fn store_kept<D: Device>(
     ensures len { length frame.new ≡ length frame.old }
     ensures changes { ChangesLeaf (seen D.state rig.old) (seen D.state rig.new) leaf node
         (level_of frame.old) at (entries_of frame.old) (kept_change low) rest result }
+    ensures takes { Takes 0 0 (seen D.state rig.old) (seen D.state rig.new) result }
 {
     store_rest(rig, node, at, frame, &rest)?;
     store_leaf(rig, leaf, &low)?;
@@ -116,6 +120,7 @@ fn store_parts<D: Device>(
     ensures len { length frame.new ≡ length frame.old }
     ensures changes { ChangesLeaf (seen D.state rig.old) (seen D.state rig.new) leaf node
         (level_of frame.old) at (entries_of frame.old) (parted_change low high) rest result }
+    ensures takes { Takes 0 1 (seen D.state rig.old) (seen D.state rig.new) result }
 {
     let (key, stored) = high;
     if !can_follow(frame, at, key) {

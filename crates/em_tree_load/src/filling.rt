@@ -6,6 +6,7 @@ ghost use Rattle.em_space.specs.Seen.{seen};
 ghost use Rattle.em_chain.specs.Chain.{IsChain};
 ghost use Rattle.em_chain.specs.Reader.{IsReader, ReaderHasFrame};
 ghost use Rattle.em_tree_load.specs.AreaFills.{FillsArea, FillsFrom, PutsRead, ReadsIntoArea};
+ghost use Rattle.em_tree_load.specs.LoadRoom.{Takes};
 
 use em_chain::{Chain, Reader};
 use em_frames::{Area, Device};
@@ -27,6 +28,7 @@ pub(crate) fn fill_area<D: Device>(
     ensures len { length area.new ≡ length area.old }
     ensures fills { FillsArea (seen D.state rig.old) (seen D.state rig.new) buffer area.new count
         result }
+    ensures takes { Takes 0 0 (seen D.state rig.old) (seen D.state rig.new) result }
 {
     fill_from(rig, buffer, area, 0, count)
 }
@@ -47,6 +49,7 @@ pub(crate) fn fill_from<D: Device>(
     ensures len { length area.new ≡ length area.old }
     ensures fills { FillsFrom (seen D.state rig.old) (seen D.state rig.new) buffer area.old area.new
         from count result }
+    ensures takes { Takes 0 0 (seen D.state rig.old) (seen D.state rig.new) result }
 {
     let mut reader = Reader::taking(rig, buffer);
     match read_into(rig, &mut reader, area, from, count) {

@@ -19,7 +19,7 @@ use em_space::{EmFault, Rig};
 /// others stay in the leaf. A leaf of which all are taken has an empty chain.
 ///
 /// Each block that is left over is released, by two moves at most, and the leaf's block is stored. `Full`
-/// never comes. `DeviceFault` comes if the device's count of faults rose, and `Damaged` only over a device
+/// never comes. `DeviceFault` comes only if the device's count of faults rose, and `Damaged` only over a device
 /// that doesn't tell; then the leaf's blocks may hold anything and stay in use.
 pub fn take_leaf<D: Device>(
     rig: &mut Rig<'_, D>,

@@ -13,9 +13,11 @@ ghost use Rattle.em_record.specs.Shape.{fan_of};
 ghost use Rattle.em_frames.specs.Pool.{load_of};
 ghost use Rattle.em_space.specs.Rig.{Sound};
 ghost use Rattle.em_space.specs.Seen.{seen};
+ghost use Rattle.em_chain.specs.Effects.{Completes};
 ghost use Rattle.em_chain.specs.Writer.{WriterHasFrame};
 ghost use Rattle.em_node.specs.Node.{IsNode, entries_of};
 ghost use Rattle.em_tree_load.specs.LeafLoads.{CanLoadLeaf, LoadsLeafAt};
+ghost use Rattle.em_tree_load.specs.LoadRoom.{TakesHere, load_leaf_need, load_leaf_room};
 ghost use Rattle.em_tree_load.specs.NodeLoads.{LoadsHereTo};
 
 use crate::changing::{Split, store_change};
@@ -33,10 +35,13 @@ use em_tree_walk::{buffer_of, child_in, load_node};
 /// `answers`. A leaf that is split gets a neighbour, whose least key is answered: the rest of the
 /// buffer goes to both, and the node may be full then.
 ///
-/// `DeviceFault` comes if the device's count of faults rose, and `Full` only if all blocks are in use.
-/// Over a device that doesn't tell, a block that is no node with such an entry, or no leaf, is
-/// `Damaged`. After a fault the blocks of the node and of all below it may hold anything and stay in
-/// use, and `answers` may only be abandoned. All frames are back on each way out.
+/// `DeviceFault` comes only if the device's count of faults rose, and `Full` only if all blocks are in use.
+/// Over a device that tells and counts no fault the load is Ok with 2·ceil(n/P) + min(x, 2f) + 5
+/// blocks free, for n operations that are taken and x that are left; and with as many as the records
+/// that result and the answers need, and min(x, 2f) + 2 more if the leaf is split. Over a device
+/// that doesn't tell, a block that is no node with such an entry, or no leaf, is `Damaged`. After a
+/// fault the blocks of the node and of all below it may hold anything, some may be released and the
+/// others stay in use, and `answers` may only be abandoned. All frames are back on each way out.
 pub fn load_leaf<D: Device, S: Settle>(
     rig: &mut Rig<'_, D>,
     settle: &S,
@@ -54,6 +59,13 @@ pub fn load_leaf<D: Device, S: Settle>(
     ensures frame { WriterHasFrame (seen D.state rig.new) answers.new }
     ensures loads { LoadsLeafAt (S.key_of settle.now) (S.step_of settle.now) (seen D.state rig.old)
         (seen D.state rig.new) node at answers.old answers.new result }
+    ensures complete { (seen D.state rig.old).used
+        + load_leaf_room (seen D.state rig.old) node at ≤ (seen D.state rig.old).blocks
+        → Completes (seen D.state rig.old) (seen D.state rig.new) result }
+    ensures enough { (seen D.state rig.old).used + load_leaf_need (S.key_of settle.now)
+        (S.step_of settle.now) (seen D.state rig.old) node at answers.old
+        ≤ (seen D.state rig.old).blocks + answers.old.blocks
+        → Completes (seen D.state rig.old) (seen D.state rig.new) result }
 {
     let split = match load_at(rig, settle, answers, node, at)? {
         Some(split) => split,
@@ -83,6 +95,9 @@ fn load_at<D: Device, S: Settle>(
     ensures frame { WriterHasFrame (seen D.state rig.new) answers.new }
     ensures loads { LoadsHereTo (S.key_of settle.now) (S.step_of settle.now) (seen D.state rig.old)
         (seen D.state rig.new) node at answers.old answers.new result }
+    ensures takes { IsTrue (seen D.state rig.old).device.told → TakesHere (S.key_of settle.now)
+        (S.step_of settle.now) (seen D.state rig.old) (seen D.state rig.new) node at answers.old
+        result }
 {
     let mut frame = rig.lend();
     let mut area = rig.lend_area();
@@ -113,6 +128,9 @@ fn load_in<D: Device, S: Settle>(
     ensures area { length area.new ≡ length area.old }
     ensures loads { LoadsHereTo (S.key_of settle.now) (S.step_of settle.now) (seen D.state rig.old)
         (seen D.state rig.new) node at answers.old answers.new result }
+    ensures takes { IsTrue (seen D.state rig.old).device.told → TakesHere (S.key_of settle.now)
+        (S.step_of settle.now) (seen D.state rig.old) (seen D.state rig.new) node at answers.old
+        result }
 {
     load_node(rig, node, 1, frame)?;
     let shape = rig.shape();

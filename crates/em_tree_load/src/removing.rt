@@ -26,7 +26,7 @@ use em_tree_walk::{child_in, load_node};
 /// entry are released. On the new way to the first leaf each node begins with the least key afterwards.
 ///
 /// At most 4 blocks are moved for each level of the fork, and one fewer in all. `Full` never comes.
-/// `DeviceFault` comes if the device's count of faults rose, and `Damaged` only over a device that doesn't
+/// `DeviceFault` comes only if the device's count of faults rose, and `Damaged` only over a device that doesn't
 /// tell; then the blocks of the fork and of all below it may hold anything and stay in use.
 pub fn remove_first<D: Device>(rig: &mut Rig<'_, D>, fork: Root) -> Result<(), EmFault>
     requires sound { Sound (seen D.state rig.old) }

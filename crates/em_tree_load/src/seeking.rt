@@ -36,7 +36,7 @@ pub(crate) struct FirstWay {
 /// Finds the first leaf of a tree, by one move at most for each level and one for the leaf. Nothing is
 /// changed.
 ///
-/// `Full` never comes. `DeviceFault` comes if the device's count of faults rose, and `Damaged` only over a
+/// `Full` never comes. `DeviceFault` comes only if the device's count of faults rose, and `Damaged` only over a
 /// device that doesn't tell.
 pub fn first_leaf<D: Device>(
     rig: &mut Rig<'_, D>,

@@ -8,6 +8,7 @@ ghost use Rattle.em_chain.specs.Writer.{WriterHasFrame};
 ghost use Rattle.em_leaf.specs.Leaf.{CanGrowBy};
 ghost use Rattle.em_tree_blocks.specs.Reading.{stored_chain};
 ghost use Rattle.em_tree_load.specs.LeafSettles.{CanSettleAt, CanSettleOver, SettlesOver, load_count};
+ghost use Rattle.em_tree_load.specs.LoadRoom.{TakesSettling};
 
 use crate::filling::fill_area;
 use crate::leaf_block::read_leaf;
@@ -44,6 +45,9 @@ pub(crate) fn settle_leaf<D: Device, S: Settle>(
     ensures settles { SettlesOver (S.key_of settle.now) (S.step_of settle.now)
         (seen D.state rig.old) (seen D.state rig.new)
         (stored_chain (seen D.state rig.old) leaf) buffer answers.old answers.new 1 result }
+    ensures takes { TakesSettling (S.key_of settle.now) (S.step_of settle.now)
+        (seen D.state rig.old) (seen D.state rig.new)
+        (stored_chain (seen D.state rig.old) leaf) buffer answers.old result }
 {
     let shape = rig.shape();
     let count = count_to_load(&buffer, &shape);
@@ -77,6 +81,8 @@ fn settle_stored<D: Device, S: Settle>(
     ensures settles { SettlesOver (S.key_of settle.now) (S.step_of settle.now)
         (seen D.state rig.old) (seen D.state rig.new) stored buffer answers.old answers.new 0
         result }
+    ensures takes { TakesSettling (S.key_of settle.now) (S.step_of settle.now)
+        (seen D.state rig.old) (seen D.state rig.new) stored buffer answers.old result }
 {
     let rest = fill_area(rig, buffer, area, count)?;
     let change = apply_load(rig, settle, stored, area, count, answers)?;

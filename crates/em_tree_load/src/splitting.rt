@@ -46,7 +46,7 @@ pub struct Root {
 /// root that is split gets a new root over it, and the answer is that one. Six frames must be free.
 ///
 /// At most 7 blocks are moved for each level, and 4 for a new root; a block is taken for each node that
-/// is split, and one for a new root. `Full` comes if all blocks are in use, and `DeviceFault` if the
+/// is split, and one for a new root. `Full` comes only if all blocks are in use, and `DeviceFault` if the
 /// device's count of faults rose. `Damaged` comes only over a device that doesn't tell, also if a root
 /// on the last level would be split. After a fault the tree's blocks may hold anything.
 pub fn split_up<D: Device>(rig: &mut Rig<'_, D>, root: Root, key: Record) -> Result<Root, EmFault>

@@ -2,6 +2,7 @@ use Rattle.std.proofs.Common.{take, ap, sym, ◌∙◌}
 use Rattle.em_space.specs.Seen.{seen}
 use Rattle.em_leaf.specs.Leaf.{ops_of}
 use Rattle.em_leaf.proofs.Applied.{answers_of, can_settle, completes_load, load_count, moves_of_load, ops_ascend, runs_of_load, settles_of}
+use Rattle.em_leaf.proofs.Needs.{needs_of}
 use Rattle.em_leaf.proofs.applying.apply_load.Goals as goal
 
 pub slice_bounds-settle_leaf-end : goal.slice_bounds-settle_leaf-end
@@ -73,3 +74,12 @@ returns-clause-complete g c =
     c.args.stored c.args.answers.now c.settle_leaf.new.answers
     c.args.load.now ops n c.settle_leaf.result c.requires.sound c.requires.can same
     c.settle_leaf.ensures.runs
+
+pub returns-clause-needs : goal.returns-clause-needs
+returns-clause-needs g c =
+    let n = c.args.count in
+    let ops = take n c.records.result.now in
+    let same = ap (take n) c.records.ensures ∙ c.put_in_order.ensures.ordered in
+    needs_of (g.S.Settle.key_of c.args.settle.now) (g.S.Settle.step_of c.args.settle.now)
+    (seen g.D.Device.state c.args.rig.now) c.args.stored c.args.answers.now
+    ops (ops_of c.args.load.now n) c.settle_leaf.result same c.settle_leaf.ensures.needs

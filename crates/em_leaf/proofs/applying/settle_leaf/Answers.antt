@@ -3,6 +3,8 @@ use Rattle.em_frames.specs.Pool.{load_of}
 use Rattle.em_space.specs.Seen.{seen}
 use Rattle.em_chain.specs.declared.chain.Chain.{Chain}
 use Rattle.em_leaf.proofs.Loading.{begun_by, chain_counted, count_stops, limit_room, load_damaged}
+use Rattle.em_leaf.specs.Needs.{LacksBlocks}
+use Rattle.em_leaf.proofs.Needs.{err_by, lacks_count, lacks_leaf}
 use Rattle.em_leaf.proofs.Settling.{leaf_runs, leaf_settled, loads_of, most_is}
 use Rattle.em_leaf.proofs.applying.settle_leaf.Goals as goal
 
@@ -66,3 +68,26 @@ returns-clause-settled g c =
     c.requires.sound c.requires.can most c.in_ok-limit.ensures.limits
     (begun_by c.requires.sound c.requires.can c.in_ok-limit.ensures.limits.runs r.lends r.unmoved
     r.opens) c.write_leaf-change.ensures.writes c.abandon.ensures.gives c.abandon.ensures.unmoved
+
+pub returns-in_err-limit-clause-needs : goal.returns-in_err-limit-clause-needs
+returns-in_err-limit-clause-needs g c =
+    let key = g.S.Settle.key_of c.args.settle.now in
+    let step = g.S.Settle.step_of c.args.settle.now in
+    let ops = c.args.ops.now in
+    err_by (LacksBlocks key step (seen g.D.Device.state c.args.rig.now) c.args.stored ops
+    c.args.answers.now) _ _ c.from_residual.ensures.1
+    (lacks_count key step ops c.args.stored c.args.answers.now _ c.requires.sound
+    c.in_err-limit.ensures.limits)
+
+pub returns-clause-needs : goal.returns-clause-needs
+returns-clause-needs g c =
+    let s = seen g.D.Device.state c.args.rig.now in
+    let r = c.taking-reader.ensures in
+    let most = most_is s.pool.shape c.shape-shape.result c.wide.result c.block.result
+    c.shape-shape.ensures c.wide.ensures.value c.block.ensures.value in
+    lacks_leaf (g.S.Settle.key_of c.args.settle.now) (g.S.Settle.step_of c.args.settle.now)
+    c.args.ops.now (seen g.D.Device.state c.write_leaf-change.new.rig) c.in_ok-limit.limit
+    (4 * c.wide.result * c.block.result) c.write_leaf-change.new.reader c.write_leaf-change.new.answers
+    c.write_leaf-change.result c.requires.sound c.requires.can most c.in_ok-limit.ensures.limits
+    (begun_by c.requires.sound c.requires.can c.in_ok-limit.ensures.limits.runs r.lends r.unmoved
+    r.opens) c.write_leaf-change.ensures.writes c.write_leaf-change.ensures.needs

@@ -4,6 +4,8 @@ use Rattle.std.proofs.lemmas.List.{append-nil, length_push}
 use Rattle.em_record.specs.declared.record.Record.{Record}
 use Rattle.em_space.specs.Seen.{seen}
 use Rattle.em_leaf.specs.Writing.{WritesNext, first_or, head_of}
+use Rattle.em_leaf.specs.Needs.{LacksItems}
+use Rattle.em_leaf.proofs.Needs.{err_by, lacks_records}
 use Rattle.em_leaf.proofs.Written.{can_write, head_push, records_none, records_of, records_stop, records_then}
 use Rattle.em_leaf.proofs.writing.write_records.Goals as goal
 
@@ -74,3 +76,16 @@ loop-preserved g c =
       c.first_or-first.ensures ∙ (ap (λ o. first_or o x) i.2 ∙ head_push i.0 x),
       omega arith,
     )
+
+pub returns-in_err-item-clause-needs : goal.returns-in_err-item-clause-needs
+returns-in_err-item-clause-needs g c =
+    let key = g.S.Settle.key_of c.args.settle.now in
+    let step = g.S.Settle.step_of c.args.settle.now in
+    let ops = c.args.ops.now in
+    let i = c.loop.invariant in
+    let m = i.3 in
+    let t = c.loop-test.true in
+    err_by (LacksItems c.args.limit key step ops (seen g.D.Device.state c.args.rig.now)
+    (seen g.D.Device.state c.write_next.new.rig) c.args.reader.now c.args.answers.now
+    c.args.out.now c.args.front.now) _ _ c.from_residual.ensures.1
+    (lacks_records key step ops (seen g.D.Device.state c.write_next.new.rig) _ i.0 (omega arith) i.1 c.in_err-item.ensures.needs)

@@ -1,4 +1,7 @@
-use Rattle.std.proofs.Common.{arith, refl}
+use Rattle.std.proofs.Common.{◌+◌, ◌<◌, arith, refl}
+use Rattle.em_space.specs.Seen.{seen}
+use Rattle.em_space.proofs.Ledgers.{full_never}
+use Rattle.em_tree_load.proofs.LoadRooms.{takes_of}
 use Rattle.em_tree_load.proofs.Changed.{changes_of, kept_leaf, leaf_in_use, leaf_unstored, node_unstored}
 use Rattle.em_tree_load.proofs.changing.store_kept.Goals as goal
 
@@ -31,3 +34,25 @@ pub returns-clause-changes : goal.returns-clause-changes
 returns-clause-changes g c =
     kept_leaf c.requires.sound c.requires.leaf_in_use c.requires.in_use c.requires.can refl
     c.in_ok-store_rest.ensures.stores c.in_ok-store_leaf.ensures
+
+pub returns-in_err-store_rest-clause-takes : goal.returns-in_err-store_rest-clause-takes
+returns-in_err-store_rest-clause-takes g c =
+    let s = seen g.D.Device.state c.args.rig.now in
+    let t = seen g.D.Device.state c.store_rest.new.rig in
+    takes_of 0 0 s t c.from_residual.result _ c.from_residual.ensures.1
+    (full_never s t _ (s.blocks + 0 < s.used + 0) c.in_err-store_rest.ensures.stores.cause)
+
+pub returns-in_err-store_leaf-clause-takes : goal.returns-in_err-store_leaf-clause-takes
+returns-in_err-store_leaf-clause-takes g c =
+    let s = seen g.D.Device.state c.args.rig.now in
+    let m = seen g.D.Device.state c.store_rest.new.rig in
+    let t = seen g.D.Device.state c.store_leaf.new.rig in
+    takes_of 0 0 s t c.from_residual-in_err-store_leaf.result _
+    c.from_residual-in_err-store_leaf.ensures.1
+    (full_never m t _ (s.blocks + 0 < s.used + 0) c.in_err-store_leaf.ensures.cause)
+
+pub returns-clause-takes : goal.returns-clause-takes
+returns-clause-takes g c =
+    let a = c.in_ok-store_rest.ensures.stores.moves.same.used in
+    let b = c.in_ok-store_leaf.ensures.moves.same.used in
+    omega (arith, a, b)

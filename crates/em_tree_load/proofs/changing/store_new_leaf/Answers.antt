@@ -5,7 +5,7 @@ pub returns-in_err-block : goal.returns-in_err-block
 returns-in_err-block g c =
     let o = c.in_err-block.ensures in
     new_of _ _ _ c.from_residual.result _ c.from_residual.ensures.1
-    (unallotted o.goes o.moves o.owes o.cause)
+    (unallotted o.goes o.moves o.owes o.cause o.same)
 
 pub returns-in_err-store_leaf : goal.returns-in_err-store_leaf
 returns-in_err-store_leaf g c =

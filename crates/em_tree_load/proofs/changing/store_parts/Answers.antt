@@ -1,4 +1,7 @@
-use Rattle.std.proofs.Common.{ap, arith, refl, sym, ◌∙◌}
+use Rattle.std.proofs.Common.{◌≡◌, ◌+◌, ◌<◌, ap, arith, refl, sym, ◌∙◌}
+use Rattle.em_space.specs.Seen.{seen}
+use Rattle.em_space.proofs.Ledgers.{full_by, full_never}
+use Rattle.em_tree_load.proofs.LoadRooms.{takes_of}
 use Rattle.std.proofs.lemmas.Bool.{false≢true}
 use Rattle.em_record.specs.Shape.{ShapeNumbers}
 use Rattle.em_tree_load.proofs.Alterations.{room_later}
@@ -81,3 +84,36 @@ pub returns-clause-changes : goal.returns-clause-changes
 returns-clause-changes g c =
     parted_leaf c.requires.sound c.requires.leaf_in_use c.requires.in_use c.requires.can
     c.in_ok-block.ensures refl c.in_ok-store_two.ensures.stores c.in_ok-store_leaf.ensures
+
+pub returns-in_err-block-clause-takes : goal.returns-in_err-block-clause-takes
+returns-in_err-block-clause-takes g c =
+    let s = seen g.D.Device.state c.args.rig.now in
+    let t = seen g.D.Device.state c.store_new_leaf.new.rig in
+    takes_of 0 1 s t c.from_residual.result _ c.from_residual.ensures.1
+    (full_by _ (s.blocks ≡ s.used) (s.blocks + 0 < s.used + 1) (λ e. omega (arith, e))
+    c.in_err-block.ensures.full)
+
+pub returns-in_err-store_two-clause-takes : goal.returns-in_err-store_two-clause-takes
+returns-in_err-store_two-clause-takes g c =
+    let s = seen g.D.Device.state c.args.rig.now in
+    let m = seen g.D.Device.state c.store_new_leaf.new.rig in
+    let t = seen g.D.Device.state c.store_two.new.rig in
+    takes_of 0 1 s t c.from_residual-in_err-store_two.result _
+    c.from_residual-in_err-store_two.ensures.1
+    (full_never m t _ (s.blocks + 0 < s.used + 1) c.in_err-store_two.ensures.stores.cause)
+
+pub returns-in_err-store_leaf-clause-takes : goal.returns-in_err-store_leaf-clause-takes
+returns-in_err-store_leaf-clause-takes g c =
+    let s = seen g.D.Device.state c.args.rig.now in
+    let m = seen g.D.Device.state c.store_two.new.rig in
+    let t = seen g.D.Device.state c.store_leaf.new.rig in
+    takes_of 0 1 s t c.from_residual-in_err-store_leaf.result _
+    c.from_residual-in_err-store_leaf.ensures.1
+    (full_never m t _ (s.blocks + 0 < s.used + 1) c.in_err-store_leaf.ensures.cause)
+
+pub returns-clause-takes : goal.returns-clause-takes
+returns-clause-takes g c =
+    let a = c.in_ok-block.ensures.used in
+    let b = c.in_ok-store_two.ensures.stores.moves.same.used in
+    let d = c.in_ok-store_leaf.ensures.moves.same.used in
+    omega (arith, a, b, d)

@@ -1,4 +1,8 @@
+use Rattle.std.proofs.Common.{◌+◌, ◌<◌}
+use Rattle.em_space.specs.Seen.{seen}
+use Rattle.em_space.proofs.Ledgers.{full_never}
 use Rattle.em_tree_load.proofs.AreaFroms.{filled_from, stops_fill}
+use Rattle.em_tree_load.proofs.LoadRooms.{filled_takes}
 use Rattle.em_tree_load.proofs.filling.fill_from.Goals as goal
 
 pub returns-in-Ok-clause-fills : goal.returns-in-Ok-clause-fills
@@ -14,3 +18,16 @@ returns-in-Err-clause-fills g c =
     let o = c.taking-reader.ensures in
     let e = c.abandon.ensures in
     stops_fill c.requires.chain o.lends o.unmoved o.opens c.in-Err.ensures.reads e.gives e.unmoved
+
+pub returns-in-Ok-clause-takes : goal.returns-in-Ok-clause-takes
+returns-in-Ok-clause-takes g c =
+    filled_takes c.taking-reader.ensures.unmoved c.in-Ok.ensures.reads c.end.ensures.unmoved
+
+pub returns-in-Err-clause-takes : goal.returns-in-Err-clause-takes
+returns-in-Err-clause-takes g c =
+    let o = c.taking-reader.ensures in
+    let e = c.abandon.ensures in
+    let s = seen g.D.Device.state c.args.rig.now in
+    full_never s (seen g.D.Device.state c.abandon.new.rig) c.in-Err.fault
+    (s.blocks + 0 < s.used + 0) (stops_fill c.requires.chain o.lends o.unmoved o.opens
+    c.in-Err.ensures.reads e.gives e.unmoved).cause

@@ -1,12 +1,14 @@
-use Rattle.std.proofs.Common.{◌<◌, ◌≤◌, ap, arith, subst, sym, ◌∙◌}
+use Rattle.std.proofs.Common.{◌<◌, ◌≤◌, IsTrue, ap, arith, subst, sym, ◌∙◌}
 use Rattle.em_record.specs.Shape.{ShapeNumbers}
 use Rattle.em_frames.specs.Pool.{load_of, singles_of}
 use Rattle.em_space.specs.Rig.{RigState, Sound}
 use Rattle.em_space.specs.Seen.{seen}
 use Rattle.em_chain.specs.Writer.{WriterHasFrame}
 use Rattle.em_tree_load.specs.LeafLoads.{CanLoadLeaf}
+use Rattle.em_tree_load.specs.LoadRoom.{TakesHere}
 use Rattle.em_tree_load.specs.NodeLoads.{LoadsHereTo}
 use Rattle.em_tree_load.proofs.NodeFrames.{can_lent, given_both, here_sound, lent_both, loaded_back, writer_back}
+use Rattle.em_tree_load.proofs.LoadTaken.{here_back}
 use Rattle.em_tree_load.proofs.loading.load_at.Goals as goal
 
 pub lend_area-area-requires-clause-free : goal.lend_area-area-requires-clause-free
@@ -116,3 +118,19 @@ give-requires-clause-out g c =
     let most = c.lend-frame.ensures.most in
     let some = c.requires.free in
     omega (arith, a, b, d, k, l, m, most, some)
+
+pub returns-clause-takes : goal.returns-clause-takes
+returns-clause-takes g c =
+    let s = seen g.D.Device.state c.args.rig.now in
+    let t = seen g.D.Device.state c.load_in-loaded.new.rig in
+    let key = g.S.Settle.key_of c.args.settle.now in
+    let step = g.S.Settle.step_of c.args.settle.now in
+    let w = c.args.answers.now in
+    let e = lent_both s c.lend-frame.ensures.lent c.lend_area-area.ensures.lent in
+    let u = given_both t c.give_area.ensures.given c.give.ensures.given in
+    let P : RigState → Type 0 = λ r. IsTrue r.device.told → TakesHere key step r t c.args.node
+    c.args.at w c.load_in-loaded.result in
+    let Q : RigState → Type 0 = λ r. IsTrue s.device.told → TakesHere key step s r c.args.node
+    c.args.at w c.load_in-loaded.result in
+    subst Q (sym u) (λ z. here_back key step s t c.args.node c.args.at w c.load_in-loaded.result
+    (subst P e c.load_in-loaded.ensures.takes z))

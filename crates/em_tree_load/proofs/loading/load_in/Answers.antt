@@ -10,6 +10,9 @@ use Rattle.em_tree_walk.proofs.Standing.{linked_up}
 use Rattle.em_tree_walk.proofs.Takings.{limit_of}
 use Rattle.em_tree_load.proofs.Changed.{node_later}
 use Rattle.em_tree_load.proofs.NodeStops.{can_change, can_settle, frames_changed, here_of, leaf_later, loads_here, node_used_later, reading_frame, settles_here, settling_here, unread_here, unroomed}
+use Rattle.em_space.proofs.Ledgers.{full_never}
+use Rattle.em_tree_load.specs.LoadRoom.{LacksLoad}
+use Rattle.em_tree_load.proofs.LoadTaken.{changed_takes, here_stops, settling_lacks, took_settling}
 use Rattle.em_tree_load.proofs.loading.load_in.Goals as goal
 
 pub load_node-requires-clause-leads : goal.load_node-requires-clause-leads
@@ -173,3 +176,43 @@ returns-clause-loads g c =
     (settles_here c.requires.sound c.requires.can x one c.child_in-leaf.ensures buffer _ _ step
     (Ok c.in_ok-settled.settled) c.in_ok-settled.ensures.settles) _ _ c.store_change.result
     x.is.level_is c.store_change.ensures.changes
+
+pub returns-in_err-load_node-clause-takes : goal.returns-in_err-load_node-clause-takes
+returns-in_err-load_node-clause-takes g c z =
+    let key = g.S.Settle.key_of c.args.settle.now in
+    let step = g.S.Settle.step_of c.args.settle.now in
+    let s = seen g.D.Device.state c.args.rig.now in
+    let t = seen g.D.Device.state c.load_node.new.rig in
+    here_stops key step s t c.args.node c.args.at c.args.answers.now c.from_residual.result _
+    c.from_residual.ensures.1 (full_never s t _ (LacksLoad key step s c.args.node c.args.at
+    c.args.answers.now) c.in_err-load_node.ensures.reads.stops.cause)
+
+pub returns-in_err-settled-clause-takes : goal.returns-in_err-settled-clause-takes
+returns-in_err-settled-clause-takes g c z =
+    let x = c.in_ok-load_node.ensures.reads in
+    let one = (c.has_room_at.ensures.0 c.if-not-has_room_at.false).0 in
+    let buffer = c.buffer_of-buffer.ensures ∙ ap buffer_of c.entry_at-entry.ensures in
+    let step = g.S.Settle.step_of c.args.settle.now in
+    let t = seen g.D.Device.state c.settle_leaf.new.rig in
+    here_stops (g.S.Settle.key_of c.args.settle.now) step
+    (seen g.D.Device.state c.args.rig.now) t c.args.node c.args.at c.args.answers.now
+    c.from_residual-in_err-settled.result _ c.from_residual-in_err-settled.ensures.1
+    (settling_lacks c.requires.sound c.requires.can x one c.child_in-leaf.ensures buffer step _ z
+    (took_settling c.requires.sound c.requires.can x one c.child_in-leaf.ensures buffer step t
+    (Err c.in_err-settled.field-0.0) c.in_err-settled.ensures.takes))
+
+pub returns-clause-takes : goal.returns-clause-takes
+returns-clause-takes g c z =
+    let x = c.in_ok-load_node.ensures.reads in
+    let one = (c.has_room_at.ensures.0 c.if-not-has_room_at.false).0 in
+    let buffer = c.buffer_of-buffer.ensures ∙ ap buffer_of c.entry_at-entry.ensures in
+    let step = g.S.Settle.step_of c.args.settle.now in
+    changed_takes c.requires.sound c.requires.can x one c.child_in-leaf.ensures buffer step
+    c.in_ok-settled.settled z
+    (settles_here c.requires.sound c.requires.can x one c.child_in-leaf.ensures buffer _ _ step
+    (Ok c.in_ok-settled.settled) c.in_ok-settled.ensures.settles)
+    (took_settling c.requires.sound c.requires.can x one c.child_in-leaf.ensures buffer step _
+    (Ok c.in_ok-settled.settled) c.in_ok-settled.ensures.takes)
+    (seen g.D.Device.state c.store_change.new.rig) (entries_of c.load_node.new.frame) _
+    c.store_change.result
+    c.store_change.ensures.changes c.store_change.ensures.takes

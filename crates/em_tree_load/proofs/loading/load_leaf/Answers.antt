@@ -1,9 +1,11 @@
-use Rattle.std.proofs.Common.{Option, arith, subst}
+use Rattle.std.proofs.Common.{ℕ, Option, Ok, arith, refl, subst}
 use Rattle.em_empty.specs.Effects.{EmptiedAt}
 use Rattle.em_space.specs.Seen.{seen}
 use Rattle.em_tree_load.specs.NodeLoads.{LoadedHere}
 use Rattle.em_tree_load.specs.declared.changing.Split.{Split}
 use Rattle.em_tree_load.proofs.PouredLoads.{loaded_cut, loaded_poured, loaded_whole, pouring_stops, rest_pours, stops_of}
+use Rattle.em_tree_load.specs.LoadRoom.{TakesHere}
+use Rattle.em_tree_load.proofs.LoadTaken.{here_loading, need_never, need_pours, ok_never, pour_never, room_never, room_pours}
 use Rattle.em_tree_load.proofs.loading.load_leaf.Goals as goal
 
 pub returns-in-None-clause-loads : goal.returns-in-None-clause-loads
@@ -61,3 +63,70 @@ returns-clause-loads g c =
       frees = e.frees;
     } in
     loaded_poured (subst P c.in-Some.is c.in_ok-split.ensures.loads) done
+
+pub returns-in_err-split-clause-complete : goal.returns-in_err-split-clause-complete
+returns-in_err-split-clause-complete g c l z r = ok_never c.from_residual.result
+    (room_never (g.S.Settle.key_of c.args.settle.now)
+    (g.S.Settle.step_of c.args.settle.now) c.in_err-split.field-0.0 c.in_err-split.ensures.loads c.in_err-split.ensures.takes l z r)
+
+pub returns-in-None-clause-complete : goal.returns-in-None-clause-complete
+returns-in-None-clause-complete g c l z r = refl
+
+pub returns-then-len-eq0-clause-complete : goal.returns-then-len-eq0-clause-complete
+returns-then-len-eq0-clause-complete g c l z r = refl
+
+pub returns-in_err-empty_node-clause-complete : goal.returns-in_err-empty_node-clause-complete
+returns-in_err-empty_node-clause-complete g c l z r =
+    let key = g.S.Settle.key_of c.args.settle.now in
+    let step = g.S.Settle.step_of c.args.settle.now in
+    let s = seen g.D.Device.state c.args.rig.now in
+    let t = seen g.D.Device.state c.load_at.new.rig in
+    let w = c.args.answers.now in
+    let P : Option Split → Type 0 = λ o. LoadedHere key step s t c.args.node c.args.at w
+    c.load_at.new.answers o in
+    let Q : Option Split → Type 0 = λ o. TakesHere key step s t c.args.node c.args.at w (Ok o) in
+    let h = subst P c.in-Some.is c.in_ok-split.ensures.loads in
+    let took = subst Q c.in-Some.is (c.in_ok-split.ensures.takes z) in
+    ok_never c.from_residual-in_err-empty_node.result
+    (pour_never h took z (Option ℕ) (seen g.D.Device.state c.empty_node.new.rig)
+    c.in_err-empty_node.field-0.0 r
+    (c.in_err-empty_node.ensures.complete (room_pours h took z l)))
+
+pub returns-clause-complete : goal.returns-clause-complete
+returns-clause-complete g c l z r = refl
+
+pub returns-in_err-split-clause-enough : goal.returns-in_err-split-clause-enough
+returns-in_err-split-clause-enough g c l z r = ok_never c.from_residual.result
+    (need_never (g.S.Settle.key_of c.args.settle.now)
+    (g.S.Settle.step_of c.args.settle.now) c.in_err-split.field-0.0 c.in_err-split.ensures.loads c.in_err-split.ensures.takes l z r)
+
+pub returns-in-None-clause-enough : goal.returns-in-None-clause-enough
+returns-in-None-clause-enough g c l z r = refl
+
+pub returns-then-len-eq0-clause-enough : goal.returns-then-len-eq0-clause-enough
+returns-then-len-eq0-clause-enough g c l z r = refl
+
+pub returns-in_err-empty_node-clause-enough : goal.returns-in_err-empty_node-clause-enough
+returns-in_err-empty_node-clause-enough g c l z r =
+    let key = g.S.Settle.key_of c.args.settle.now in
+    let step = g.S.Settle.step_of c.args.settle.now in
+    let s = seen g.D.Device.state c.args.rig.now in
+    let t = seen g.D.Device.state c.load_at.new.rig in
+    let w = c.args.answers.now in
+    let P : Option Split → Type 0 = λ o. LoadedHere key step s t c.args.node c.args.at w
+    c.load_at.new.answers o in
+    let Q : Option Split → Type 0 = λ o. TakesHere key step s t c.args.node c.args.at w (Ok o) in
+    let h = subst P c.in-Some.is c.in_ok-split.ensures.loads in
+    let took = subst Q c.in-Some.is (c.in_ok-split.ensures.takes z) in
+    ok_never c.from_residual-in_err-empty_node.result
+    (pour_never h took z (Option ℕ) (seen g.D.Device.state c.empty_node.new.rig)
+    c.in_err-empty_node.field-0.0 r
+    (c.in_err-empty_node.ensures.complete (need_pours h took z l)))
+
+pub returns-clause-enough : goal.returns-clause-enough
+returns-clause-enough g c l z r = refl
+
+pub returns-in_err-split-clause-loads : goal.returns-in_err-split-clause-loads
+returns-in_err-split-clause-loads g c =
+    stops_of _ _ _ _ _ _ _ _ c.from_residual.result c.in_err-split.field-0.0
+    c.from_residual.ensures.1 (here_loading c.in_err-split.ensures.loads)

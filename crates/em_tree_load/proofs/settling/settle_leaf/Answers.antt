@@ -1,9 +1,13 @@
-use Rattle.std.proofs.Common.{min, ap, arith, sym, ◌∙◌}
+use Rattle.std.proofs.Common.{◌+◌, ◌<◌, min, ap, arith, sym, ◌∙◌}
 use Rattle.std.proofs.lemmas.Bool.{false≢true}
 use Rattle.em_record.specs.Shape.{ShapeNumbers}
 use Rattle.em_frames.specs.Pool.{load_of}
 use Rattle.em_tree_load.proofs.FirstSettles.{settles_of}
-use Rattle.em_tree_load.proofs.SettlesAt.{grow_stops, read_can, settles_at, unread_frame, unread_settles}
+use Rattle.em_tree_load.proofs.SettlesAt.{grow_stops, read_buffer, read_can, read_items, settles_at, unread_frame, unread_settles}
+use Rattle.em_space.specs.Seen.{seen}
+use Rattle.em_space.proofs.Ledgers.{full_never}
+use Rattle.em_tree_blocks.specs.Reading.{stored_chain}
+use Rattle.em_tree_load.proofs.LoadRooms.{settling_from, settling_never}
 use Rattle.em_tree_load.proofs.settling.settle_leaf.Goals as goal
 
 pub returns-then-not-can_grow-clause-settles : goal.returns-then-not-can_grow-clause-settles
@@ -52,3 +56,29 @@ returns-clause-settles g c =
     let can = c.requires.can in
     settles_at can.buffer_is can.writer can.told o.reads o.is (λ z. (can.leads.told z).is.stored) _
     _ 0 (g.S.Settle.step_of c.args.settle.now) c.settle_stored.result c.settle_stored.ensures.settles
+
+pub returns-then-not-can_grow-clause-takes : goal.returns-then-not-can_grow-clause-takes
+returns-then-not-can_grow-clause-takes g c = record { room = tt; needs = λ z. tt }
+
+pub returns-in_err-stored-clause-takes : goal.returns-in_err-stored-clause-takes
+returns-in_err-stored-clause-takes g c =
+    let s = seen g.D.Device.state c.args.rig.now in
+    let t = seen g.D.Device.state c.read_leaf.new.rig in
+    settling_never (g.S.Settle.key_of c.args.settle.now) (g.S.Settle.step_of c.args.settle.now)
+    s t (stored_chain s c.args.leaf) c.args.buffer c.args.answers.now c.from_residual.result _
+    c.from_residual.ensures.1 c.requires.sound c.requires.can.writer
+    (full_never s t _ (s.blocks + 0 < s.used + 0) c.in_err-stored.ensures.stops.cause)
+
+pub returns-clause-takes : goal.returns-clause-takes
+returns-clause-takes g c =
+    let s = seen g.D.Device.state c.args.rig.now in
+    let r = seen g.D.Device.state c.read_leaf.new.rig in
+    let o = c.in_ok-stored.ensures in
+    let can = c.requires.can in
+    settling_from (g.S.Settle.key_of c.args.settle.now) (g.S.Settle.step_of c.args.settle.now)
+    s r (seen g.D.Device.state c.settle_stored.new.rig) (stored_chain s c.args.leaf)
+    c.in_ok-stored.stored c.args.buffer c.args.answers.now c.settle_stored.result
+    o.reads.same.used o.reads.goes.touches
+    (read_items can.buffer_is can.writer can.told o.reads o.is (λ z. (can.leads.told z).is.stored))
+    (read_buffer can.buffer_is can.writer can.told o.reads o.is
+    (λ z. (can.leads.told z).is.stored)).items c.settle_stored.ensures.takes

@@ -1,5 +1,7 @@
 use Rattle.std.proofs.Common.{arith, ◌∙◌}
 use Rattle.em_tree_load.proofs.FirstSettles.{filled_can, filling_frame, filling_stops, settled_first, settled_stops, settles_of}
+use Rattle.em_space.specs.Seen.{seen}
+use Rattle.em_tree_load.proofs.LoadRooms.{applied_stops, applied_takes, settling_never}
 use Rattle.em_tree_load.proofs.settling.settle_stored.Goals as goal
 
 pub apply_load-requires-clause-can : goal.apply_load-requires-clause-can
@@ -40,3 +42,27 @@ fill_area-requires-clause-room g c = omega (arith, c.requires.count, c.requires.
 pub apply_load-requires-clause-free : goal.apply_load-requires-clause-free
 apply_load-requires-clause-free g c =
     omega (arith, c.in_ok-rest.ensures.fills.runs.frames.free, c.requires.free)
+
+pub returns-in_err-rest-clause-takes : goal.returns-in_err-rest-clause-takes
+returns-in_err-rest-clause-takes g c =
+    settling_never (g.S.Settle.key_of c.args.settle.now) (g.S.Settle.step_of c.args.settle.now)
+    (seen g.D.Device.state c.args.rig.now) (seen g.D.Device.state c.fill_area.new.rig)
+    c.args.stored c.args.buffer c.args.answers.now c.from_residual.result _
+    c.from_residual.ensures.1 c.requires.sound c.requires.can.writer c.in_err-rest.ensures.takes
+
+pub returns-in_err-change-clause-takes : goal.returns-in_err-change-clause-takes
+returns-in_err-change-clause-takes g c =
+    let e = c.in_err-change.ensures in
+    applied_stops (g.S.Settle.key_of c.args.settle.now) (g.S.Settle.step_of c.args.settle.now)
+    c.requires.sound c.requires.can c.in_ok-rest.ensures.fills c.in_ok-rest.ensures.takes
+    c.requires.count (omega (arith, c.requires.count, c.fill_area.ensures.len, c.requires.room))
+    c.apply_load.new.answers c.from_residual-in_err-change.result _
+    c.from_residual-in_err-change.ensures.1 e.runs e.needs
+
+pub returns-clause-takes : goal.returns-clause-takes
+returns-clause-takes g c =
+    let o = c.in_ok-change.ensures in
+    applied_takes (g.S.Settle.key_of c.args.settle.now) (g.S.Settle.step_of c.args.settle.now)
+    c.requires.sound c.requires.can c.in_ok-rest.ensures.fills c.in_ok-rest.ensures.takes
+    c.requires.count (omega (arith, c.requires.count, c.fill_area.ensures.len, c.requires.room))
+    c.in_ok-change.change _ o.runs o.settles o.leaves o.answers
