@@ -17,8 +17,8 @@ lev_within (suc most) fan x = if nat_le x 1 then 0 else 1 + lev_within most fan 
 abbrev pub lev : ShapeNumbers → ℕ → ℕ
 lev shape x = lev_within x (fan_of shape) x
 
--- 2048 moves for each block that n records fill, and one more, at each level and once more. No call is
--- held to it yet. The room that the top call asks is this number of blocks and 4m more.
+-- 2048 moves for each block that n records fill, and one more, at each level and once more. A tree, a
+-- queue and a circuit's evaluation stay within it; the top call asks this number of blocks and 4m more.
 abbrev pub cost : ShapeNumbers → ℕ → ℕ
 cost shape n = 2048 * (blocks_of shape n + 1) * (1 + lev shape (blocks_of shape n))
 

@@ -42,7 +42,7 @@ use Rattle.em_tree_cost.specs.Sizes.{IsCeil}
 use Rattle.em_tree_cost.proofs.Ceilings.{ceil_most, ceiling_is}
 use Rattle.em_tree_cost.proofs.Levels.{size_is}
 use Rattle.em_tree_cost.proofs.OneLeaf.{load_into_one}
-use Rattle.em_tree.proofs.Losing.{list_loses}
+use Rattle.em_tree_model.proofs.Losing.{list_loses}
 use Rattle.em_tree_outline.specs.Outline.{outline_of}
 use Rattle.em_tree_load.specs.Forms.{AreFormed}
 use Rattle.em_tree_load.specs.LeafLoads.{LoadedLeaf, LoadsOne, SettlesLoad, leaf_size, loading_over}

@@ -120,7 +120,6 @@ pub mod FirstBooks
 pub mod FirstLowered
 pub mod FirstSteps
 pub mod FirstByLevel
-pub mod Losing
 pub mod FirstLoads
 pub mod FirstLoops
 pub mod FirstNext
