@@ -1,6 +1,6 @@
 -- Bits that are read and written, one after another.
 use mir.Val.{bool_byte}
-use Rattle.std.proofs.Common.{◌≡◌, ℕ, suc, ◌+◌, ◌-◌, ◌*◌, ◌<◌, ◌≤◌, min, Bool, true, false, List, [], ◌∷◌, ◌++◌, length, map, refl, sym, ap, ◌∙◌, subst, arith, append_assoc, IsTrue, Result, Ok, Err, OnOk}
+use Rattle.std.proofs.Common.{◌≡◌, ℕ, suc, ◌+◌, ◌-◌, ◌*◌, ◌<◌, ◌≤◌, inl, inr, min, Bool, true, false, List, [], ◌∷◌, ◌++◌, length, map, refl, sym, ap, ◌∙◌, subst, arith, append_assoc, IsTrue, Result, Ok, Err, OnOk}
 use Rattle.std.proofs.lemmas.List.{append-nil, length-append, length-map, map-append}
 use Rattle.em_record.specs.declared.record.Record.{Record}
 use Rattle.em_space.specs.Ledger.{Halts, Spends, Stops}
@@ -30,7 +30,7 @@ use Rattle.aig_text.proofs.Steadies.{advances_then, steady_none}
 use Rattle.aig_edges.specs.declared.stop.StepStop.{StepStop}
 use Rattle.aig_edges.specs.declared.stop.StepStop.TheVariants as stop
 use Rattle.aig_forward.specs.BitList.{ListMoment, Added, AddedFront, AddedSome, CanAdd, FaultIs, ReadsToList, StopsAdding, after_bits, one_bit, read_now}
-use Rattle.aig_forward.specs.Line.{bit_blocks, bit_record, step_stop}
+use Rattle.aig_forward.specs.Line.{MovesAfterByte, bit_blocks, bit_record, step_stop}
 use Rattle.aig_forward.proofs.StimulusLines.{line_splits}
 
 -- No bit yet,
@@ -215,6 +215,17 @@ unread text n bits aig.Read few h later c = (
 )
 unread text n bits (aig.Em fault) few h later c = absurd c
 
+-- Blocks were moved only if a byte was taken, before a moment and after it.
+pub idle_then : (s t u : RigState) (p q r : ℕ) → p ≤ q → q ≤ r → MovesAfterByte s t p q
+    → MovesAfterByte t u q r → MovesAfterByte s u p r
+idle_then s t u p q r l m (inl still) (inl quiet) = inl (omega (arith, still, quiet))
+idle_then s t u p q r l m (inl still) (inr further) = inr (omega (arith, l, further))
+idle_then s t u p q r l m (inr further) next = inr (omega (arith, m, further))
+
+-- No block was moved.
+pub idle_still : (s t : RigState) (p q : ℕ) → t.moves ≡ s.moves → MovesAfterByte s t p q
+idle_still s t p q same = inl (omega (arith, same))
+
 module _ {tells : Bool} {old : ListMoment} {text : Source} (can : CanAdd 1 old) where
   -- The bit wasn't read.
   pub bit_unread : (e : AigStop) (k : StepStop) → k ≡ step_stop e
@@ -228,6 +239,7 @@ module _ {tells : Bool} {old : ListMoment} {text : Source} (can : CanAdd 1 old) 
         by = record {
           stops = unread text 1 [] e (omega arith) (added_none can.sound can.list.is) (omega arith)
               h.cause;
+          idle = idle_still old.rig old.rig old.text.feed.place text.feed.place refl;
           reads = λ z. fault_then (step_stop e) _ _ (fault_of e _ (h.gives z));
         };
       })
@@ -237,12 +249,12 @@ module _ {tells : Bool} {old : ListMoment} {text : Source} (can : CanAdd 1 old) 
       (frame : WriterHasFrame rig list) (goes : Goes (writer_blocks old.rig old.list) old.rig rig)
     where
       -- It was read, and its record wasn't written.
-      pub bit_refused : (fault : EmFault)
+      pub bit_refused : (fault : EmFault) → old.text.feed.place < text.feed.place
           → Halts (one_more old.rig old.list) (2 * one_more old.rig old.list) (min old.list.blocks 1)
           (writer_account old.list) old.rig rig fault → Cause old.rig rig fault
           → ReadsToList tells 1 one_bit old (record { text = text; rig = rig; list = list })
           (Err (stop.Em fault))
-      bit_refused fault k c =
+      bit_refused fault further k c =
           let m : one_more old.rig old.list ≡ bit_blocks (old.list.count + 1) old.rig =
           ap (λ (n : ℕ). ceiling (n + 1) (payload_in old.rig)) can.list.filled_is in
           record {
@@ -251,6 +263,7 @@ module _ {tells : Bool} {old : ListMoment} {text : Source} (can : CanAdd 1 old) 
             by = record {
               stops = stops_wider (omega (arith, m)) (omega (arith, m)) (omega arith)
                   (record { goes = goes; halts = k; cause = c });
+              idle = inr further;
               reads = λ z. tt;
             };
           }
@@ -306,6 +319,7 @@ front_none {tells} {m} inputs c =
         later = omega arith;
       };
       further = omega arith;
+      idle = idle_still m.rig m.rig m.text.feed.place m.text.feed.place refl;
       reads = λ z. after_none (read_now (stimulus_line inputs) m);
     })
 
@@ -337,6 +351,7 @@ module _ {tells : Bool} {old mid : ListMoment} (inputs count : ℕ) (can : CanAd
     added = added_then s.bits r.by.bits s.added r.by.added;
     advances = advances_then s.advances r.advances;
     further = omega (arith, s.further, r.by.further);
+    idle = inr (omega (arith, s.further, r.by.further));
     reads = λ z. front_splits l z
         ∙ ap (λ k. and_then (and_then k (λ bits q y.
         and_then (stimulus_line (inputs - (count + 1)) q y) (after_bits bits))) (after_bits s.bits))
@@ -354,6 +369,8 @@ module _ {tells : Bool} {old mid : ListMoment} (inputs count : ℕ) (can : CanAd
     by = record {
       stops = stops_fewer old now (length s.bits + 1) inputs e can.sound (omega (arith, l, s.long))
           (stops_then old mid now 1 s.bits e can.list s.advances.later s.added r.by.stops);
+      idle = idle_then old.rig mid.rig now.rig old.text.feed.place mid.text.feed.place
+          now.text.feed.place s.advances.steady.forward r.advances.steady.forward s.idle r.by.idle;
       reads = λ z. fault_as e _ _ (front_splits l z)
           (fault_then e _ (after_bits s.bits)
           (fault_then e (read_now one_bit mid) (λ bits q y.
@@ -399,6 +416,9 @@ module _ {tells : Bool} {old mid : ListMoment} (inputs count : ℕ) (can : CanAd
         by = record {
           stops = unread text inputs s.bits e (omega (arith, s.long, all)) s.added s.advances.later
               r.cause;
+          idle = idle_then old.rig mid.rig mid.rig old.text.feed.place mid.text.feed.place
+              text.feed.place s.advances.steady.forward r.advances.steady.forward s.idle
+              (idle_still mid.rig mid.rig mid.text.feed.place text.feed.place refl);
           reads = λ z. fault_as (step_stop e) _ _ (front_end all z)
               (fault_then (step_stop e) _ (after_bits s.bits)
               (fault_then (step_stop e) _ (λ _. Reads []) (fault_of e _ (r.gives z))));

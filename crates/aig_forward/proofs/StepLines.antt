@@ -1,5 +1,5 @@
 -- A step that reads a line of the stimulus.
-use Rattle.std.proofs.Common.{◌≡◌, ℕ, [], ◌++◌, refl, sym, ap, ◌∙◌, append_assoc, IsTrue, IsErr, Result, Ok, Err}
+use Rattle.std.proofs.Common.{◌≡◌, ℕ, [], ◌++◌, refl, sym, ap, ◌∙◌, append_assoc, inl, inr, IsTrue, IsErr, Result, Ok, Err}
 use Rattle.std.specs.Prelude.{IfErr}
 use Rattle.em_space.specs.Ledger.{Session}
 use Rattle.em_space.specs.Rig.{RigState, Sound, Goes}
@@ -13,7 +13,8 @@ use Rattle.em_chain.proofs.Keeps.{payload_kept}
 use Rattle.em_chain.proofs.Laws.{chain_stays}
 use Rattle.aig_edges.specs.declared.stop.StepStop.{StepStop}
 use Rattle.aig_forward.specs.Evaluator.{IsEvaluator, evaluator_blocks, lists_blocks}
-use Rattle.aig_forward.specs.Step.{IfPrinted}
+use Rattle.aig_forward.specs.Line.{MovesAfterByte}
+use Rattle.aig_forward.specs.Step.{ActsAfterByte, IfPrinted}
 use Rattle.aig_forward.specs.StepPass.{pass_blocks}
 use Rattle.aig_forward.specs.declared.evaluator.Evaluator.{Evaluator}
 use Rattle.aig_forward.specs.declared.step_end.StepEnd.{StepEnd}
@@ -69,6 +70,12 @@ module _ {Q : Type 0} (queue : Ghosts Q) {s t : RigState} (e : Evaluator Q) (sou
         rw (blocks_on y) (holds_kept [] s t (evaluator_blocks queue s e) goes.touches
         (λ w. apart_none (evaluator_blocks queue s e)) (i.holds y));
   }
+
+-- No line was read, and the evaluator is what it was.
+pub line_idle : {Q : Type 0} (s t : RigState) (e : Evaluator Q) (place later : ℕ)
+    → MovesAfterByte s t place later → ActsAfterByte s t e e place later
+line_idle s t e place later (inl still) = inl (refl, still)
+line_idle s t e place later (inr further) = inr further
 
 -- A stop prints no line.
 pub none_printed : (r : Result StepEnd StepStop) (P : Type 0) → IsErr r → IfPrinted r P

@@ -33,7 +33,8 @@ use Rattle.aig_edges.specs.declared.stop.StepStop.{StepStop}
 use Rattle.aig_edges.specs.declared.stop.StepStop.TheVariants as stop
 use Rattle.aig_forward.specs.Bits.{bits_of}
 use Rattle.aig_forward.specs.BitList.{Added, FailsAdding, ReadsToList}
-use Rattle.aig_forward.specs.Line.{AnswersLine, LineCause, LineCosts, TakesBits, bit_blocks, bit_record, line_here}
+use Rattle.aig_forward.specs.Line.{AnswersLine, LineCause, LineCosts, MovesAfterByte, TakesBits, bit_blocks, bit_record, line_here}
+use Rattle.aig_forward.proofs.BitLists.{idle_still, idle_then}
 use Rattle.aig_forward.proofs.StimulusLines.{bits_of_records}
 
 -- What a line that was asked for did, by its answer.
@@ -44,6 +45,7 @@ pub record LineDone (tells : Bool) (inputs : ℕ) (old new : Source) (s t : RigS
   pub line : AnswersLine tells inputs old new t result
   pub costs : LineCosts inputs s t result
   pub takes : TakesBits inputs s t
+  pub idle : MovesAfterByte s t old.feed.place new.feed.place
   pub cause : IfErr result (LineCause old new s t)
 
 -- A byte is left, and none was taken.
@@ -203,6 +205,13 @@ here inputs {before} {old} looks z =
     ap (λ (p : ℕ). stimulus_line inputs p (left before)) (sym looks.place)
     ∙ ap (λ (x : List ℕ). stimulus_line inputs old.feed.place x) (sym (looks.same z))
 
+-- Blocks were moved between a list's begin and its end only, and if a byte was taken.
+idle_between : (s a b t : RigState) (p q r : ℕ) → Unmoved s a → q ≡ p → q ≤ r
+    → MovesAfterByte a b q r → Unmoved b t → MovesAfterByte s t p r
+idle_between s a b t p q r first same later idle last =
+    idle_then s a t p q r (omega (arith, same)) later (idle_still s a p q first.moves)
+    (idle_then a b t q r r later (omega arith) idle (idle_still b t r r last.moves))
+
 module _ {tells : Bool} (inputs : ℕ) {before old new : Source} {s a b t : RigState}
     {w v : Writer} (sound : Sound s) (lends : LendsFrame s a) (unmoved : Unmoved s a)
     (begins : Begins a w) (looks : LooksOn tells before old) where
@@ -260,17 +269,18 @@ module _ {tells : Bool} (inputs : ℕ) {before old new : Source} {s a b t : RigS
           };
         };
         takes = takes_spends (omega (arith, room)) spent (omega (arith, room, blocks)) (omega arith);
+        idle = inr (omega (arith, further, looks.place));
         cause = tt;
       }
 
   -- which gave up,
-  pub line_refused : (u : Unit {0}) (fault : EmFault)
+  pub line_refused : (u : Unit {0}) (fault : EmFault) → old.feed.place < new.feed.place
       → ReadsToList tells inputs (stimulus_line inputs) (record { text = old; rig = a; list = w })
       (record { text = new; rig = b; list = v }) (Ok u)
       → GivesFrame (writer_blocks b v) b t → FinishSpends b t v (Err fault)
       → DeviceCause b t fault
       → LineDone tells inputs before new s t (Err (stop.Em fault))
-  line_refused u fault r g k c =
+  line_refused u fault further r g k c =
       let q = grown lends unmoved begins r.by.added in
       let room : v.blocks ≡ bit_blocks inputs s =
       q.room ∙ ap (λ (j : ℕ). bit_blocks j s) r.by.long in
@@ -284,6 +294,7 @@ module _ {tells : Bool} (inputs : ℕ) {before old new : Source} {s a b t : RigS
         line = tt;
         costs = record { goes = grown_goes q g; halts = halts; cause = cause };
         takes = takes_halts halts;
+        idle = inr (omega (arith, further, looks.place));
         cause = cause;
       }
 
@@ -307,6 +318,8 @@ module _ {tells : Bool} (inputs : ℕ) {before old new : Source} {s a b t : RigS
         line = record { some = looks.some; fails = λ z. here inputs looks z ∙ f.reads z };
         costs = tt;
         takes = x.1;
+        idle = idle_between s a b t before.feed.place old.feed.place new.feed.place unmoved
+            looks.place on.steady.forward f.idle u;
         cause = tt;
       }
   line_stopped stop.Read f on g u =
@@ -317,6 +330,8 @@ module _ {tells : Bool} (inputs : ℕ) {before old new : Source} {s a b t : RigS
         line = tt;
         costs = tt;
         takes = x.1;
+        idle = idle_between s a b t before.feed.place old.feed.place new.feed.place unmoved
+            looks.place on.steady.forward f.idle u;
         cause = omega (arith, looks.advances.later, f.stops.1);
       }
   line_stopped stop.Write f on g u = absurd f.stops
@@ -348,6 +363,8 @@ module _ {tells : Bool} (inputs : ℕ) {before old new : Source} {s a b t : RigS
         line = tt;
         costs = record { goes = goes; halts = halts; cause = cause };
         takes = takes_halts halts;
+        idle = idle_between s a b t before.feed.place old.feed.place new.feed.place unmoved
+            looks.place on.steady.forward f.idle u;
         cause = cause;
       }
 

@@ -15,7 +15,7 @@ use Rattle.aig_text.specs.Reads.{Advances}
 use Rattle.aig_text.specs.Source.{Source, CanRead, left, source}
 use Rattle.aig_edges.specs.declared.stop.StepStop.{StepStop}
 use Rattle.aig_edges.specs.declared.stop.StepStop.TheVariants as stop
-use Rattle.aig_forward.specs.Line.{bit_blocks, bit_record}
+use Rattle.aig_forward.specs.Line.{MovesAfterByte, bit_blocks, bit_record}
 
 -- The text, the rig and the list at one moment.
 pub record ListMoment : Type 0 where
@@ -76,10 +76,11 @@ pub record AddsBits (tells : Bool) (n : ℕ) (item : Item (List Bool)) (old new 
   pub further : old.text.feed.place + n ≤ new.text.feed.place
   pub reads : IsTrue tells → read_now item old ≡ Reads bits new.text.feed.place (left new.text)
 
--- They weren't.
+-- They weren't. Blocks were moved only if a byte was taken.
 pub record FailsAdding (tells : Bool) (n : ℕ) (item : Item (List Bool)) (old new : ListMoment)
     (e : StepStop) : Type 0 where
   pub stops : StopsAdding n old new e
+  pub idle : MovesAfterByte old.rig new.rig old.text.feed.place new.text.feed.place
   pub reads : IsTrue tells → FaultIs e (read_now item old)
 
 abbrev pub AddsBy : Bool → ℕ → Item (List Bool) → ListMoment → ListMoment
@@ -103,7 +104,7 @@ abbrev pub after_bits : List Bool → List Bool → Item (List Bool)
 after_bits bits more = Reads (bits ++ more)
 
 -- Of an item the first n bits were read and written, each by a byte of the text; the rest of it is to
--- be read here.
+-- be read here. Blocks were moved only if a byte was taken.
 pub record AddedFront (tells : Bool) (n : ℕ) (item rest : Item (List Bool)) (old now : ListMoment)
     : Type 0 where
   pub bits : List Bool
@@ -111,4 +112,5 @@ pub record AddedFront (tells : Bool) (n : ℕ) (item rest : Item (List Bool)) (o
   pub added : Added old now bits
   pub advances : Advances tells old.text now.text
   pub further : old.text.feed.place + n ≤ now.text.feed.place
+  pub idle : MovesAfterByte old.rig now.rig old.text.feed.place now.text.feed.place
   pub reads : IsTrue tells → read_now item old ≡ and_then (read_now rest now) (after_bits bits)

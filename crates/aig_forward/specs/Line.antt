@@ -1,5 +1,5 @@
 -- A line of the stimulus that is read into a list of its bits.
-use Rattle.std.specs.Prelude.{◌≡◌, ℕ, ◌+◌, ◌*◌, ◌<◌, ◌≤◌, max, Bool, List, [], length, if◌then◌else◌, Option, Some, None, IsTrue, Result, Ok, Err}
+use Rattle.std.specs.Prelude.{◌≡◌, ℕ, ◌+◌, ◌*◌, ◌<◌, ◌≤◌, ◌⊎◌, max, Bool, List, [], length, if◌then◌else◌, Option, Some, None, IsTrue, Result, Ok, Err}
 use Rattle.em_io.specs.Feed.{Fed}
 use Rattle.em_io.specs.Shelf.{Stand}
 use Rattle.em_record.specs.Count.{Rose}
@@ -99,6 +99,10 @@ pub record TakesBits (n : ℕ) (s t : RigState) : Type 0 where
   pub most : t.most ≤ max s.most (s.used + bit_blocks n s)
   pub moves : t.moves ≤ s.moves + 2 * bit_blocks n s + 1
   pub owes : Owes 1 s t
+
+-- blocks were moved only if a byte of the text was taken
+abbrev pub MovesAfterByte : RigState → RigState → ℕ → ℕ → Type 0
+MovesAfterByte s t place later = (t.moves ≤ s.moves) ⊎ (place < later)
 
 -- what a reader's stop is in a step
 abbrev pub step_stop : AigStop → StepStop

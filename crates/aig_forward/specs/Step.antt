@@ -137,10 +137,10 @@ IfPrinted (Ok Printed) P = P
 IfPrinted (Ok End) P = Unit {0}
 IfPrinted (Err e) P = Unit {0}
 
--- a call of the queue came only if something was taken of the stimulus
-abbrev pub CallsAfterLine : {Q : Type 0} → Ghosts Q → Evaluator Q → Evaluator Q → ℕ → ℕ → Type 0
-CallsAfterLine queue e f place later =
-    ((queue.counts f.queue).n ≤ (queue.counts e.queue).n) ⊎ (place < later)
+-- the evaluator is what it was, and no block was moved, unless a byte of the stimulus was taken
+abbrev pub ActsAfterByte : {Q : Type 0} → RigState → RigState → Evaluator Q → Evaluator Q → ℕ → ℕ
+    → Type 0
+ActsAfterByte s t e f place later = ((f ≡ e) × (t.moves ≤ s.moves)) ⊎ (place < later)
 
 -- what a step of this circuit, from this state, did
 abbrev pub AnswersStep : {Q : Type 0} → Ghosts Q → (List ℕ → List ℕ → List ℕ) → Circuit → List Gate

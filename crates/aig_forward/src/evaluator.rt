@@ -46,7 +46,7 @@ pub struct Evaluator<Q> {
 impl<Q: Queue> Evaluator<Q> {
     ghost use Rattle.aig_forward.specs.Evaluator.{BeginsFor, BeginsTo, EndsEvaluator, EndsTo, Evaluates, HasEvaluatorFrames, IsEvaluator};
     ghost use Rattle.aig_forward.specs.Bits.{bits_of};
-    ghost use Rattle.aig_forward.specs.Step.{CallsAfterLine, CanStep, FollowsText, IfPrinted, Keeps, StepCause, StepCosts, AnswersStep, scene};
+    ghost use Rattle.aig_forward.specs.Step.{ActsAfterByte, AnswersStep, CanStep, FollowsText, IfPrinted, Keeps, StepCause, StepCosts, scene};
     ghost use Rattle.aig_forward.specs.StepPass.{IsInput, PassesFor, PassesTo, pass_blocks};
 
     /// An evaluator along these edges, by a queue with no item. All latches are 0.
@@ -99,8 +99,9 @@ impl<Q: Queue> Evaluator<Q> {
     /// of shelf or sink rose, and `Em` if a call on the rig gave up: then, over a device and a shelf that
     /// tell, a front of the line went out or is pending. After a stop only `abandon` may be called.
     ///
-    /// The queue is called at most twice for each edge, and only if a byte of the stimulus was taken. Its
-    /// calls in all, with these, are below 2^100. Beside its moves at most `step_moves` are made.
+    /// The queue is called at most twice for each edge. Its calls in all, with these, are below 2^100.
+    /// Beside its moves at most `step_moves` are made. Nothing is called or moved before a byte of the
+    /// stimulus was taken.
     pub fn step<D: Device, H: Shelf, W: Sink>(
         &mut self,
         rig: &mut Rig<'_, D>,
@@ -118,8 +119,8 @@ impl<Q: Queue> Evaluator<Q> {
         ensures feed { Advances H.tells (source H.Shelf feed.old shelf.old)
             (source H.Shelf feed.new shelf.new) }
         ensures further { IfPrinted result (feed.old.place < feed.new.place) }
-        ensures idle { IfErr result (λ stopped. CallsAfterLine Q.Queue self.old self.new
-            feed.old.place feed.new.place) }
+        ensures idle { IfErr result (λ stopped. ActsAfterByte (seen D.state rig.old)
+            (seen D.state rig.new) self.old self.new feed.old.place feed.new.place) }
         ensures costs { StepCosts Q.Queue (seen D.state rig.old) (seen D.state rig.new)
             self.old self.new result }
         ensures same { IsTrue H.tells → FollowsText self.old.header.inputs

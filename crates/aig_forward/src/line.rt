@@ -7,7 +7,7 @@ ghost use Rattle.aig_defs.specs.Stimulus.{stimulus_bit, stimulus_end, stimulus_l
 ghost use Rattle.aig_text.specs.Reads.{Advances, ReadsItem};
 ghost use Rattle.aig_text.specs.Source.{CanRead, source};
 ghost use Rattle.aig_forward.specs.BitList.{CanAdd, ReadsToList, list_moment, one_bit};
-ghost use Rattle.aig_forward.specs.Line.{AnswersLine, LineCause, LineCosts, ReadsEnd, TakesBits, step_stop};
+ghost use Rattle.aig_forward.specs.Line.{AnswersLine, LineCause, LineCosts, MovesAfterByte, ReadsEnd, TakesBits, step_stop};
 
 use aig_defs::AigKind;
 use aig_edges::StepStop;
@@ -209,7 +209,7 @@ fn read_from<D: Device, H: Shelf>(
 /// `Fault` is the line's first fault: `StimLength` if a byte is missing or one too many stands
 /// there, `StimChar` at another byte than `0` and `1`, `TooLong` at the offset 2^50. `Read` comes
 /// only if the shelf's count of faults rose, `Em` if the rig gave up, and never `Write`. The blocks
-/// of a list that wasn't finished stay in use.
+/// of a list that wasn't finished stay in use. No block is moved before a byte was taken.
 pub(crate) fn read_line<D: Device, H: Shelf>(
     rig: &mut Rig<'_, D>,
     feed: &mut Feed,
@@ -227,6 +227,8 @@ pub(crate) fn read_line<D: Device, H: Shelf>(
         (source H.Shelf feed.new shelf.new) (seen D.state rig.new) result }
     ensures costs { LineCosts inputs (seen D.state rig.old) (seen D.state rig.new) result }
     ensures takes { TakesBits inputs (seen D.state rig.old) (seen D.state rig.new) }
+    ensures idle { MovesAfterByte (seen D.state rig.old) (seen D.state rig.new) feed.old.place
+        feed.new.place }
     ensures cause { IfErr result (LineCause (source H.Shelf feed.old shelf.old)
         (source H.Shelf feed.new shelf.new) (seen D.state rig.old) (seen D.state rig.new)) }
 {

@@ -10,4 +10,4 @@ returns-in-Ok-append g c = bit_done c.requires c.in-Ok.bit c.in-Ok.ensures.reads
 
 pub returns-in-Err-append : goal.returns-in-Err-append
 returns-in-Err-append g c = bit_refused c.requires _ c.in-Ok.ensures.reads c.append.ensures.frame
-    c.append.ensures.goes _ c.in-Err-append.ensures.spends c.in-Err-append.ensures.cause
+    c.append.ensures.goes _ c.in-Ok.ensures.further c.in-Err-append.ensures.spends c.in-Err-append.ensures.cause

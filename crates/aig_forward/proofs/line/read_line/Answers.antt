@@ -15,6 +15,7 @@ returns-in-Ok-finish g c =
       line = r.line;
       costs = r.costs;
       takes = r.takes;
+      idle = r.idle;
       cause = r.cause;
     }
 
@@ -24,7 +25,7 @@ returns-in-Err-finish g c =
     c.peek.ensures.cause.later c.in-Ok-Some.ensures.first in
     let r = line_refused c.args.inputs c.requires.sound c.new-bits.ensures.lends
     c.new-bits.ensures.unmoved c.new-bits.ensures.begins looks _ c.in-Err-finish.fault
-    c.in-Ok.ensures.reads c.finish.ensures.gives c.in-Err-finish.ensures.spends
+    c.in-Ok.ensures.further c.in-Ok.ensures.reads c.finish.ensures.gives c.in-Err-finish.ensures.spends
     c.in-Err-finish.ensures.cause in
     record {
       goes = r.goes;
@@ -32,6 +33,7 @@ returns-in-Err-finish g c =
       line = r.line;
       costs = r.costs;
       takes = r.takes;
+      idle = r.idle;
       cause = r.cause;
     }
 
@@ -48,5 +50,6 @@ returns-in-Err-read_from g c =
       line = r.line;
       costs = r.costs;
       takes = r.takes;
+      idle = r.idle;
       cause = r.cause;
     }

@@ -1,7 +1,7 @@
-use Rattle.std.proofs.Common.{◌≤◌, ◌∙◌, refl, sym, [], arith, inl, inr}
+use Rattle.std.proofs.Common.{◌∙◌, refl, sym, [], inr}
 use Rattle.aig_forward.specs.Outputs.{printing}
 use Rattle.aig_forward.proofs.StepEnds.{evaluates_on, line_room, outputs_are, put_stops, step_costs, step_is, step_next, takes_line}
-use Rattle.aig_forward.proofs.StepLines.{evaluator_on, line_session, none_printed, stop_says}
+use Rattle.aig_forward.proofs.StepLines.{evaluator_on, line_idle, line_session, none_printed, stop_says}
 use Rattle.aig_forward.proofs.StepStops.{input_of, line_halted, line_unread, pass_halted, pass_quiet, step_halted, stop_costs}
 use Rattle.em_queued.proofs.Queued.{unstored_frames}
 use Rattle.em_space.specs.Seen.{seen}
@@ -250,9 +250,10 @@ returns-clause-further g c =
 
 pub returns-in_err-inputs-clause-idle : goal.returns-in_err-inputs-clause-idle
 returns-in_err-inputs-clause-idle g c =
-    let n = (g.Q.Queue.counts c.args.self.now.queue).n in
-    let same : n ≤ n = omega arith in
-    stop_says c.from_residual.result (inl same)
+    let s = seen g.D.Device.state c.args.rig.now in
+    let t = seen g.D.Device.state c.read_line.new.rig in
+    stop_says c.from_residual.result (line_idle s t c.args.self.now c.args.feed.now.place
+    c.read_line.new.feed.place c.read_line.ensures.idle)
 
 pub returns-in_err-pass-clause-idle : goal.returns-in_err-pass-clause-idle
 returns-in_err-pass-clause-idle g c =
