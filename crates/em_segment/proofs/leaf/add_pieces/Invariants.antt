@@ -1,0 +1,8 @@
+use Rattle.em_space.specs.Seen.{seen}
+use Rattle.em_segment.specs.Leaves.{TakesPieces}
+use Rattle.em_segment.proofs.leaf.add_pieces.Given as goal
+
+abbrev pub invariant-loop : goal.invariant-loop
+invariant-loop g l =
+    TakesPieces l.load l.counter (seen g.D.Device.state l.fn.rig) (seen g.D.Device.state l.rig)
+    l.fn.reader l.reader l.fn.pairs l.pairs

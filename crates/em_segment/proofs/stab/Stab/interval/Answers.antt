@@ -1,0 +1,25 @@
+use Rattle.std.proofs.Common.{arith}
+use Rattle.em_segment.proofs.StabCalls.{interval_takes, take_costs}
+use Rattle.em_segment.proofs.Writing.{pairs_grow}
+use Rattle.em_segment.proofs.stab.Stab.interval.Goals as goal
+
+pub append-requires-clause-room : goal.append-requires-clause-room
+append-requires-clause-room g c =
+    pairs_grow c.requires.sound c.requires.is.intervals (omega (arith, c.requires.few))
+
+pub append-requires-clause-is : goal.append-requires-clause-is
+append-requires-clause-is g c = c.requires.is.intervals.writer
+
+pub append-requires-clause-free : goal.append-requires-clause-free
+append-requires-clause-free g c = omega (arith, c.requires.free.singles)
+
+pub returns-clause-takes : goal.returns-clause-takes
+returns-clause-takes g c =
+    let e = c.append.ensures in
+    interval_takes c.args.low c.args.high c.append.result c.requires.sound c.requires.is
+    (omega (arith, c.requires.few)) e.goes e.frame (rw c.len-number.ensures at e.appends) e.costs e.spends
+    e.cause
+
+pub returns-clause-costs : goal.returns-clause-costs
+returns-clause-costs g c =
+    take_costs c.args.self.now c.append.result c.requires.sound c.requires.is c.append.ensures.costs
