@@ -9,7 +9,7 @@ use Rattle.em_io.proofs.Sent.{part-of, sent-nothing}
 use Rattle.em_frames.specs.Device.{DeviceState}
 use Rattle.em_space.specs.Rig.{RigState, Sound, Touches}
 use Rattle.em_space.specs.declared.fault.EmFault.TheVariants as em
-use Rattle.emtool.specs.Asked.{Asked, ToldIf, asked_of_file, limits_of}
+use Rattle.emtool.specs.Asked.{Asked, ToldIf, asked_of_file, by_cost}
 use Rattle.emtool.specs.FileDue.{due_status, output_text}
 use Rattle.emtool.specs.Run.{Ended, Outside, stop_status}
 use Rattle.emtool.specs.RunSize.{run_size}
@@ -237,8 +237,8 @@ ended_as {took} tells kind x y shape blocks old mid new status device output e r
       full = r.full;
       paid = r.paid;
       size = λ t d. subst (λ (z : List ℕ). IfEndsFull status
-          (λ used. used ≤ (limits_of kind).most shape (run_size kind z (new.stand.slot First).left)))
-          (e t) (r.size t (subst (λ (v : DeviceState). ToldIf (limits_of kind).most_told v.told)
+          (λ used. used ≤ by_cost.most shape (run_size kind z (new.stand.slot First).left)))
+          (e t) (r.size t (subst (λ (v : DeviceState). ToldIf by_cost.most_told v.told)
           (sym device) d));
       moves = λ t d. subst (λ (z : List ℕ). IfSome (asked_of_file kind z).moves
           (λ f. new.device.moves ≤ old.device.moves + f shape new.stand.slot)) (e t)

@@ -1,35 +1,18 @@
--- The moves of an evaluation's parts are together within its transfer cost, and none of these numbers
--- falls where a size rises.
-use Rattle.std.proofs.Common.{◌≡◌, ℕ, ◌+◌, ◌*◌, ◌<◌, ◌≤◌, arith}
-use Rattle.std.proofs.Math.Nat.{mul-le-mul, mul-le-mul_right}
+-- The moves of an evaluation's parts add up to its transfer cost: reading and ordering a circuit in r
+-- passes, and making its evaluator, is within r + 2 times the cost of 2E records, and T steps within T times
+-- that. None of these numbers falls if a size rises.
+use Rattle.std.proofs.Common.{◌≡◌, ℕ, ◌+◌, ◌*◌, ◌<◌, ◌≤◌, zero, suc, arith}
+use Rattle.std.proofs.Math.Nat.{mul-le-mul}
 use Rattle.em_record.specs.Cost.{blocks_of, cost}
 use Rattle.em_record.specs.Shape.{IsShape, ShapeNumbers, payload_of}
-use Rattle.em_record.proofs.Blocks.{blocks_rise, shares_add}
-use Rattle.em_record.proofs.Levels.{lev_rises}
 use Rattle.em_chain.specs.Counts.{ceiling}
 use Rattle.em_chain.proofs.Sessions.{ceiling_rises}
 use Rattle.em_tree_cost.specs.Shares.{cost_unit, floors_of, queue_share}
+use Rattle.em_tree_cost.proofs.Circuits.{queue_units}
 use Rattle.em_tree_cost.proofs.Rising.{cost_rises, queue_share_rises}
-use Rattle.emtool.specs.EvalMoves.{circuit_moves, steps_moves}
+use Rattle.emtool.specs.EvalMoves.{circuit_moves, making_moves, steps_moves}
 use Rattle.emtool.specs.EvalSize.{eval_cost}
 use Rattle.emtool.proofs.RoomLaws.{ceiling_most, fits_payloads, times_rises}
-
--- A queue of at most j times 2 * E calls, 2 * E of them at most between two moments at which it is empty,
--- moves at most 240 * j units.
-queue_units : (shape : ShapeNumbers) (E j n k : ℕ) → IsShape shape → 1 ≤ j → n ≤ j * (2 * E)
-    → k ≤ 2 * E → queue_share shape n k ≤ 240 * j * cost_unit shape E
-queue_units shape E j n k is one h l =
-    let q = blocks_of shape (2 * E) in
-    let floors = floors_of shape (2 * E) in
-    let all = shares_add shape j (2 * E) is in
-    let blocks = blocks_rise shape n (j * (2 * E)) is h in
-    let levels = lev_rises shape (blocks_of shape k) q is (blocks_rise shape k (2 * E) is l) in
-    let m : queue_share shape n k ≤ 240 * (j * q + 1) * floors =
-    mul-le-mul {n₁ = 240 * (blocks_of shape n + 1)} {m₁ = floors_of shape k}
-    {n₂ = 240 * (j * q + 1)} {m₂ = floors} (omega (arith, blocks, all)) (omega (arith, levels)) in
-    let p : (240 * (j * q + 1)) * floors ≤ (240 * (j * (q + 1))) * floors =
-    mul-le-mul_right floors (omega arith) in
-    omega (arith, m, p)
 
 -- half of both
 halved : (size q p : ℕ) → 2 * size ≤ (2 * q) * p → size ≤ q * p
@@ -53,60 +36,100 @@ list_unit shape E is =
 lists_units : (k c more u : ℕ) → c + 1 ≤ u → more ≤ k → k * c + more ≤ k * u
 lists_units k c more u h few = let rises = times_rises k (c + 1) u h in omega (arith, rises, few)
 
--- all parts together
-units_sum : (r t u first second third lists : ℕ) → first ≤ 240 * 3 * u
-    → second ≤ 240 * (r + 4) * u → third ≤ 240 * (t + 1) * u → lists ≤ (10 * r + 9 * t + 77) * u
-    → lists + first + second + third ≤ (t + r + 2) * (2048 * u)
-units_sum r t u first second third lists a b c d = omega (arith, a, b, c, d)
+-- the lists and queues of a circuit's parts, by units
+circuit_sum : (r u first second lists : ℕ) → first ≤ 240 * 3 * u → second ≤ 240 * (r + 4) * u
+    → lists ≤ (10 * r + 68) * u → lists + first + second ≤ (r + 2) * (2048 * u)
+circuit_sum r u first second lists a b c = omega (arith, a, b, c)
 
--- the moves of lists, of both parts
-both_lists : (r t c x y z : ℕ) → ((10 * r + 62) * c + r + 40 + x + y) + ((9 * t + 15) * c + 7 * t + 13 + z)
-    ≡ ((10 * r + 9 * t + 77) * c + (r + 7 * t + 53)) + x + y + z
-both_lists r t c x y z = omega arith
+-- those of steps
+steps_sum : (t u queue lists : ℕ) → queue ≤ 240 * t * u → lists ≤ 9 * t * u
+    → lists + queue ≤ t * (2048 * u)
+steps_sum t u queue lists a b = omega (arith, a, b)
 
--- as many units cost as much
+-- the moves of a circuit's lists, in one sum
+circuit_lists : (r c x y : ℕ) → ((10 * r + 62) * c + r + 40 + x + y) + (6 * c + 10)
+    ≡ ((10 * r + 68) * c + (r + 50)) + x + y
+circuit_lists r c x y = omega arith
+
+-- so many units cost as much
 cost_units : (shape : ShapeNumbers) (E : ℕ) → 2048 * cost_unit shape E ≡ cost shape (2 * E)
 cost_units shape E = omega arith
 
--- So an evaluation is within its cost.
-pub evaluation_within : (shape : ShapeNumbers) (size passes steps : ℕ) → IsShape shape
-    → circuit_moves shape size passes + steps_moves shape size steps
-    ≤ eval_cost shape size steps passes
-evaluation_within shape size passes steps is =
+-- what is within some units is within so many costs
+within : (a b v w k : ℕ) → a ≡ b → v ≡ w → b ≤ k * v → a ≤ k * w
+within a b v w k e f h = rw (e, ← f) h
+
+-- Reading a circuit, checking it, ordering it in r passes and making its evaluator move together at most
+-- r + 2 times the cost of 2E records.
+pub circuit_within : (shape : ShapeNumbers) (size passes : ℕ) → IsShape shape
+    → circuit_moves shape size passes + making_moves shape size
+    ≤ (passes + 2) * cost shape (2 * size)
+circuit_within shape size passes is =
     let c = ceiling size (payload_of shape) in
     let u = cost_unit shape size in
     let x = queue_share shape (6 * size) (2 * size) in
     let y = queue_share shape (2 * (passes + 4) * size) (2 * size) in
-    let z = queue_share shape (2 * size * steps) (2 * size) in
     let first : x ≤ 240 * 3 * u =
     queue_units shape size 3 (6 * size) (2 * size) is (omega arith) (omega arith) (omega arith) in
     let second : y ≤ 240 * (passes + 4) * u =
     queue_units shape size (passes + 4) (2 * (passes + 4) * size) (2 * size) is (omega arith)
     (omega arith) (omega arith) in
-    let third : z ≤ 240 * (steps + 1) * u =
-    queue_units shape size (steps + 1) (2 * size * steps) (2 * size) is (omega arith) (omega arith)
+    let lists = lists_units (10 * passes + 68) c (passes + 50) u (list_unit shape size is)
     (omega arith) in
-    let lists = lists_units (10 * passes + 9 * steps + 77) c (passes + 7 * steps + 53) u
-    (list_unit shape size is) (omega arith) in
-    let all = units_sum passes steps u x y z
-    ((10 * passes + 9 * steps + 77) * c + (passes + 7 * steps + 53)) first second third lists in
-    within (circuit_moves shape size passes + steps_moves shape size steps)
-    (((10 * passes + 9 * steps + 77) * c + (passes + 7 * steps + 53)) + x + y + z) (2048 * u)
-    (cost shape (2 * size)) (steps + passes + 2) (both_lists passes steps c x y z)
-    (cost_units shape size) all
-  where
-    within : (a b v w k : ℕ) → a ≡ b → v ≡ w → b ≤ k * v → a ≤ k * w
-    within a b v w k e f h = rw (e, ← f) h
+    within (circuit_moves shape size passes + making_moves shape size)
+    (((10 * passes + 68) * c + (passes + 50)) + x + y) (2048 * u) (cost shape (2 * size)) (passes + 2)
+    (circuit_lists passes c x y) (cost_units shape size)
+    (circuit_sum passes u x y ((10 * passes + 68) * c + (passes + 50)) first second lists)
 
--- No fewer steps along no fewer edges make no fewer moves.
+-- T steps move at most T times that, and no step moves nothing.
+pub steps_within : (shape : ShapeNumbers) (size steps : ℕ) → IsShape shape
+    → steps_moves shape size steps ≤ steps * cost shape (2 * size)
+steps_within shape size zero is = omega arith
+steps_within shape size (suc n) is =
+    let c = ceiling size (payload_of shape) in
+    let u = cost_unit shape size in
+    let z = queue_share shape (2 * size * suc n) (2 * size) in
+    let queue : z ≤ 240 * suc n * u =
+    queue_units shape size (suc n) (2 * size * suc n) (2 * size) is (omega arith) (omega arith)
+    (omega arith) in
+    let lists = lists_units (9 * suc n) c (7 * suc n) u (list_unit shape size is) (omega arith) in
+    within (steps_moves shape size (suc n)) ((9 * suc n * c + 7 * suc n) + z) (2048 * u)
+    (cost shape (2 * size)) (suc n) (step_lists (suc n) c z) (cost_units shape size)
+    (steps_sum (suc n) u z (9 * suc n * c + 7 * suc n) queue lists)
+  where
+    step_lists : (t c z : ℕ) → t * (9 * c + 7) + z ≡ (9 * t * c + 7 * t) + z
+    step_lists t c z = omega arith
+
+-- So all parts of an evaluation together are within its cost.
+pub evaluation_within : (shape : ShapeNumbers) (size passes steps : ℕ) → IsShape shape
+    → circuit_moves shape size passes + (making_moves shape size + steps_moves shape size steps)
+    ≤ eval_cost shape size steps passes
+evaluation_within shape size passes steps is =
+    together (circuit_moves shape size passes) (making_moves shape size)
+    (steps_moves shape size steps) passes steps (cost shape (2 * size))
+    (circuit_within shape size passes is) (steps_within shape size steps is)
+  where
+    together : (a b d r t w : ℕ) → a + b ≤ (r + 2) * w → d ≤ t * w
+        → a + (b + d) ≤ (t + r + 2) * w
+    together a b d r t w h k = omega (arith, h, k)
+
+-- Making an evaluator for no fewer edges makes no fewer moves,
+pub making_rises : (shape : ShapeNumbers) (small large : ℕ) → 0 < payload_of shape → small ≤ large
+    → making_moves shape small ≤ making_moves shape large
+making_rises shape small large some h =
+    let lists = ceiling_rises small large (payload_of shape) some h in omega (arith, lists)
+
+-- and no fewer steps along them make no fewer.
 pub steps_moves_rise : (shape : ShapeNumbers) (small large steps : ℕ) → 0 < payload_of shape
     → small ≤ large → steps_moves shape small steps ≤ steps_moves shape large steps
-steps_moves_rise shape small large steps some h =
+steps_moves_rise shape small large zero some h = omega arith
+steps_moves_rise shape small large (suc n) some h =
     let p = payload_of shape in
     let lists = ceiling_rises small large p some h in
-    let rises = times_rises (9 * steps + 15) (ceiling small p) (ceiling large p) lists in
-    let twice = times_rises steps small large h in
-    let queue = queue_share_rises shape (2 * small * steps) (2 * large * steps) (2 * small)
+    let rises = times_rises (suc n) (9 * ceiling small p + 7) (9 * ceiling large p + 7)
+    (omega (arith, lists)) in
+    let twice = times_rises (suc n) small large h in
+    let queue = queue_share_rises shape (2 * small * suc n) (2 * large * suc n) (2 * small)
     (2 * large) (omega (arith, twice)) (omega (arith, h)) in
     omega (arith, rises, queue)
 

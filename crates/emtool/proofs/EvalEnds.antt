@@ -1,5 +1,5 @@
 -- How the steps of an evaluation end: its rig, what went out, and why it stopped.
-use Rattle.std.proofs.Common.{◌≡◌, ℕ, ◌+◌, ◌-◌, ◌*◌, ◌<◌, ◌≤◌, ◌^◌, ◌⊎◌, max, Bool, false, replicate, List, [], ◌++◌, length, ap, sym, subst, ◌∙◌, refl, arith, IsTrue, inl, inr, ⊎_elim, Result, Ok, Err, IfErr, OnOk}
+use Rattle.std.proofs.Common.{◌≡◌, ℕ, ◌+◌, ◌-◌, ◌*◌, ◌≤◌, ◌^◌, ◌⊎◌, false, replicate, List, [], ◌++◌, length, ap, sym, subst, ◌∙◌, refl, arith, IsTrue, inl, inr, ⊎_elim, Result, Ok, Err, IfErr, OnOk}
 use Rattle.em_record.specs.Count.{Rose}
 use Rattle.em_record.specs.Shape.{ShapeNumbers, fan_of}
 use Rattle.em_io.specs.Sink.{IsRule, Sent, SentPart}
@@ -32,7 +32,7 @@ use Rattle.aig_edges.specs.declared.graph.Ordered.{Ordered}
 use Rattle.aig_forward.specs.Evaluator.{BeginsEvaluator, BeginsFor, Evaluates, FailsToBegin, evaluator_blocks}
 use Rattle.aig_forward.specs.Outputs.{KeepsFront}
 use Rattle.aig_forward.specs.declared.evaluator.Evaluator.{Evaluator}
-use Rattle.emtool.specs.EvalMoves.{steps_moves}
+use Rattle.emtool.specs.EvalMoves.{making_moves, steps_moves}
 use Rattle.emtool.specs.Evaluation.{CanBegin, CanRunSteps, EndsAs, EndsSteps, FillsEval, OnDue, PrintsAll, PrintsLines, PrintsSteps, RunsSteps, SendsRest, StepsCause, UnlessWrite, steps_of}
 use Rattle.emtool.specs.Opens.{IsAllRead}
 use Rattle.emtool.specs.Queues.{FailsToMake, MakesQueue}
@@ -343,11 +343,12 @@ evaluates_first {queue = queue} {a = a} {e = e} u meaning z c order is =
     (meaning (u.makes.session.touches.told ∙ z) c order
     (ordered_of c order u.can.is u.makes.session.touches z is))
 
--- The moves of an evaluation are those of the steps that were begun.
+-- The moves of an evaluation are those of making its evaluator, and of the steps that were begun.
 abbrev pub KeepsSteps : {H : Type 0} → ShelfGhosts H → RigState → RigState → Ordered → H → H → Type 0
-KeepsSteps h s t o shelf shelf_after = IsTrue h.tells → IsTrue s.device.told → t.moves
-    ≤ s.moves + steps_moves s.pool.shape (circuit_size o.header)
-    (steps_of o.header.inputs ((h.stand shelf).slot Second).left ((h.stand shelf_after).slot Second))
+KeepsSteps h s t o shelf shelf_after = IsTrue h.tells → IsTrue s.device.told
+    → t.moves ≤ s.moves + (making_moves s.pool.shape (circuit_size o.header)
+    + steps_moves s.pool.shape (circuit_size o.header)
+    (steps_of o.header.inputs ((h.stand shelf).slot Second).left ((h.stand shelf_after).slot Second)))
 
 -- An evaluator was made, its steps were made, its frames came back, and what was pending was sent.
 pub record Evaluated {H W Q : Type 0} (h : ShelfGhosts H) (w : SinkGhosts W) (queue : QueueGhosts Q)

@@ -1,6 +1,6 @@
 -- The moves of an evaluation along the edges of a circuit: those of its evaluator and of its queue are
 -- within those of a circuit of this size and of the steps that were begun.
-use Rattle.std.proofs.Common.{◌≡◌, ℕ, ◌+◌, ◌*◌, ◌<◌, ◌≤◌, max, List, ap, sym, subst, ◌∙◌, arith, IsTrue, Result}
+use Rattle.std.proofs.Common.{◌≡◌, ℕ, ◌+◌, ◌*◌, ◌<◌, ◌≤◌, ◌⊎◌, ⊎_elim, zero, suc, List, ap, sym, subst, ◌∙◌, arith, IsTrue, Result}
 use Rattle.std.proofs.Math.Nat.{mul-le-mul}
 use Rattle.em_record.specs.Shape.{ShapeNumbers, payload_of}
 use Rattle.em_io.specs.declared.shelf.Shelf.{Ghosts as ShelfGhosts}
@@ -19,25 +19,34 @@ use Rattle.aig_defs.specs.Begun.{circuit_size}
 use Rattle.aig_edges.specs.Graph.{edge_count}
 use Rattle.aig_edges.specs.declared.graph.Ordered.{Ordered}
 use Rattle.aig_forward.specs.Lists.{begin_moves, latch_room}
-use Rattle.aig_forward.specs.Step.{input_room, step_moves}
+use Rattle.aig_forward.specs.Step.{step_moves}
 use Rattle.aig_forward.specs.declared.evaluator.Evaluator.{Evaluator}
-use Rattle.emtool.specs.Evaluation.{CanBegin, steps_of}
+use Rattle.emtool.specs.EvalMoves.{making_moves, steps_moves}
+use Rattle.emtool.specs.Evaluation.{CanBegin, StepsMove, steps_of}
 use Rattle.emtool.specs.Queues.{FailsToMake}
 use Rattle.emtool.specs.declared.stop.Stop.{Stop}
-use Rattle.emtool.proofs.EvalEnds.{Evaluated, KeepsSteps, Made, Unmade, counts_same, made_touches}
+use Rattle.emtool.proofs.EvalEnds.{Evaluated, KeepsSteps, Unmade, counts_same, made_touches}
 use Rattle.emtool.proofs.CircuitCosts.{lists_fit}
 
--- The evaluator's lists were made, at most, and no step came;
-without_steps : (c n q s t : ℕ) → t ≤ s + (6 * c + 10) → t ≤ s + ((9 * n + 15) * c + 7 * n + 13 + q)
-without_steps c n q s t h = omega (arith, h)
+-- The evaluator's lists were made, at most, and nothing was moved after that;
+without_steps : (c steps s t : ℕ) → t ≤ s + (6 * c + 10) → t ≤ s + (6 * c + 10 + steps)
+without_steps c steps s t h = omega (arith, h)
 
--- or steps came after that.
-with_steps : (c n x q s t begin step : ℕ) → t ≤ s + x + (begin + (1 + n) * step)
-    → begin ≤ 6 * c + 6 → step ≤ 9 * c + 7 → x ≤ q → t ≤ s + ((9 * n + 15) * c + 7 * n + 13 + q)
-with_steps c n x q s t begin step h a b d =
-    let all : (1 + n) * step ≤ (1 + n) * (9 * c + 7) =
-    mul-le-mul {n₁ = 1 + n} {m₁ = step} {n₂ = 1 + n} {m₂ = 9 * c + 7} (omega arith) b in
-    omega (arith, h, a, all, d)
+-- or steps came, and moved this,
+with_steps : (c n x s t begin step : ℕ) → t ≤ s + x + (begin + n * step) → begin ≤ 6 * c + 6
+    → step ≤ 9 * c + 7 → t ≤ s + (6 * c + 10) + (n * (9 * c + 7) + x)
+with_steps c n x s t begin step h a b =
+    let all : n * step ≤ n * (9 * c + 7) =
+    mul-le-mul {n₁ = n} {m₁ = step} {n₂ = n} {m₂ = 9 * c + 7} (omega arith) b in
+    omega (arith, h, a, all)
+
+-- which is what so many steps move.
+steps_counted : (shape : ShapeNumbers) (size n s t : ℕ) → 0 < n
+    → t ≤ s + making_moves shape size + (n * (9 * ceiling size (payload_of shape) + 7)
+    + queue_share shape (2 * size * n) (2 * size))
+    → t ≤ s + (making_moves shape size + steps_moves shape size n)
+steps_counted shape size zero s t some h = absurd (omega (arith, some))
+steps_counted shape size (suc n) s t some h = omega (arith, h)
 
 -- No queue was made.
 pub refused_moves : {H : Type 0} (h : ShelfGhosts H) {s t : RigState} (o : Ordered) {fault : EmFault}
@@ -46,8 +55,8 @@ refused_moves h {s} {t} o shelf f = λ z told.
     let size = circuit_size o.header in
     let n = steps_of o.header.inputs ((h.stand shelf).slot Second).left ((h.stand shelf).slot Second) in
     let few = f.moves in
-    without_steps (ceiling size (payload_of s.pool.shape)) n
-    (queue_share s.pool.shape (2 * size * n) (2 * size)) s.moves t.moves (omega (arith, few))
+    without_steps (ceiling size (payload_of s.pool.shape)) (steps_moves s.pool.shape size n) s.moves
+    t.moves (omega (arith, few))
 
 -- What making the evaluator's lists moves, by the blocks of the circuit's size.
 begins_few : {s : RigState} {o : Ordered} (m : RigState) → CanBegin s o → m.pool.shape ≡ s.pool.shape
@@ -62,6 +71,10 @@ begins_few {s} {o} m can shape =
     let latches : ceiling o.header.latches p ≤ ceiling (circuit_size o.header) p = fit.latches in
     omega (arith, can.packed, fit.edges, bits, latches)
 
+-- a queue was made, and then lists
+added : (t m s n c : ℕ) → t ≤ m + n → m ≤ s + 4 → n ≤ 6 * c + 6 → t ≤ s + (6 * c + 10)
+added t m s n c h a b = omega (arith, h, a, b)
+
 module _ {Q : Type 0} {queue : QueueGhosts Q} {s m t : RigState} {o : Ordered} {q : Q}
     {fault : EmFault} (u : Unmade queue s m t o q fault) where
   -- No evaluator was made, after a queue that moved few blocks.
@@ -74,16 +87,13 @@ module _ {Q : Type 0} {queue : QueueGhosts Q} {s m t : RigState} {o : Ordered} {
       let begin = begins_few m u.can u.makes.session.touches.shape in
       let all : t.moves ≤ m.moves + begin_moves m o =
       halts t.moves (queue.counts q).spent m.moves (begin_moves m o) u.fails.halted.moves in
-      without_steps (ceiling size (payload_of s.pool.shape)) n
-      (queue_share s.pool.shape (2 * size * n) (2 * size)) s.moves t.moves
+      without_steps (ceiling size (payload_of s.pool.shape)) (steps_moves s.pool.shape size n) s.moves
+      t.moves
       (added t.moves m.moves s.moves (begin_moves m o) (ceiling size (payload_of s.pool.shape)) all few
       begin)
     where
       halts : (t c m n : ℕ) → t + (c + 0) ≤ m + (n + c) → t ≤ m + n
       halts t c m n h = omega (arith, h)
-
-      added : (t m s n c : ℕ) → t ≤ m + n → m ≤ s + 4 → n ≤ 6 * c + 6 → t ≤ s + (6 * c + 10)
-      added t m s n c h a b = omega (arith, h, a, b)
 
 -- Steps by an evaluator over a new queue, with making both: `s` moves were made before, `m` when the queue
 -- was made, `a` when the evaluator was, and `b` after the steps.
@@ -171,27 +181,56 @@ module _ {H W Q : Type 0} {h : ShelfGhosts H} {w : SinkGhosts W} {queue : QueueG
         most_calls : (x y z : ℕ) → x ≤ y → y ≤ z → x ≤ z
         most_calls x y z h k = omega (arith, h, k)
 
-    -- An evaluation moves at most that, beside the moves of its evaluator.
-    pub evaluated_moves : (IsTrue b.device.told → (queue.counts d.queue).spent
+    -- No step was begun: what was moved is what making the evaluator moved.
+    still_moves : m.moves ≤ s.moves + 4 → b.moves ≤ a.moves
+        → b.moves ≤ s.moves + (making_moves s.pool.shape (circuit_size o.header)
+        + steps_moves s.pool.shape (circuit_size o.header) begun)
+    still_moves few none =
+        let u = v.made in
+        let size = circuit_size o.header in
+        let all = begun_by b.moves a.moves (queue.counts q).spent m.moves (begin_moves m o) none
+        u.begins.runs.runs.spends.moves in
+        without_steps (ceiling size (payload_of s.pool.shape)) (steps_moves s.pool.shape size begun)
+        s.moves b.moves
+        (added b.moves m.moves s.moves (begin_moves m o) (ceiling size (payload_of s.pool.shape)) all
+        few (begins_few m u.can u.makes.session.touches.shape))
+      where
+        begun_by : (b a c m n : ℕ) → b ≤ a → a + (c + 0) + (0 + 0) ≤ m + (0 + n) + (c + 0)
+            → b ≤ m + n
+        begun_by b a c m n none h = omega (arith, none, h)
+
+    -- Steps were begun.
+    steps_made : IsTrue h.tells → IsTrue s.device.told
+        → (IsTrue b.device.told → (queue.counts d.queue).spent
         ≤ queue_share b.pool.shape (queue.counts d.queue).n (queue.counts d.queue).k)
-        → KeepsSteps h s t o shelf shelf_after
-    evaluated_moves spends = λ z told.
+        → StepsMove queue a b e d begun
+        → b.moves ≤ s.moves + (making_moves s.pool.shape (circuit_size o.header)
+        + steps_moves s.pool.shape (circuit_size o.header) begun)
+    steps_made z told spends r =
         let u = v.made in
         let size = circuit_size o.header in
         let later : IsTrue b.device.told = v.steps.touches.told ∙ ((made_touches u).told ∙ told) in
         let share = queue_share s.pool.shape (2 * size * begun) (2 * size) in
-        let steps : b.moves + (queue.counts e.queue).spent
-        ≤ a.moves + (queue.counts d.queue).spent + (1 + begun) * step_moves a e =
-        subst (λ (x : Header). b.moves + (queue.counts e.queue).spent
-        ≤ a.moves + (queue.counts d.queue).spent + (1 + steps_of x.inputs
-        ((h.stand shelf).slot Second).left ((h.stand shelf_after).slot Second)) * step_moves a e)
-        u.begins.header (v.steps.moves z) in
         let all = run_by (queue.counts q) (queue.counts e.queue) (queue.counts d.queue) s.moves
-        m.moves a.moves b.moves (begin_moves m o) ((1 + begun) * step_moves a e) share (counts_same u)
-        u.makes.spent u.begins.runs.runs.spends.moves steps (spent_few z (spends later)) in
-        let ended : t.moves ≡ b.moves = ap (λ (r : RigState). r.moves) v.leaves.same in
-        subst (λ (n : ℕ). n ≤ s.moves + ((9 * begun + 15)
-        * ceiling size (payload_of s.pool.shape) + 7 * begun + 13 + share)) (sym ended)
-        (with_steps (ceiling size (payload_of s.pool.shape)) begun share share s.moves b.moves
+        m.moves a.moves b.moves (begin_moves m o) (begun * step_moves a e) share (counts_same u)
+        u.makes.spent u.begins.runs.runs.spends.moves r.most (spent_few z (spends later)) in
+        steps_counted s.pool.shape size begun s.moves b.moves r.some
+        (with_steps (ceiling size (payload_of s.pool.shape)) begun share s.moves b.moves
         (begin_moves m o) (step_moves a e) all (begins_few m u.can u.makes.session.touches.shape)
-        step_few (omega arith))
+        step_few)
+
+    -- An evaluation moves at most what making its evaluator does, and its steps.
+    pub evaluated_moves : m.moves ≤ s.moves + 4 → (IsTrue b.device.told → (queue.counts d.queue).spent
+        ≤ queue_share b.pool.shape (queue.counts d.queue).n (queue.counts d.queue).k)
+        → KeepsSteps h s t o shelf shelf_after
+    evaluated_moves few spends = λ z told.
+        let size = circuit_size o.header in
+        let steps : (b.moves ≤ a.moves) ⊎ StepsMove queue a b e d begun =
+        subst (λ (x : Header). (b.moves ≤ a.moves) ⊎ StepsMove queue a b e d (steps_of x.inputs
+        ((h.stand shelf).slot Second).left ((h.stand shelf_after).slot Second)))
+        v.made.begins.header (v.steps.moves z) in
+        let ended : t.moves ≡ b.moves = ap (λ (r : RigState). r.moves) v.leaves.same in
+        subst (λ (n : ℕ). n ≤ s.moves + (making_moves s.pool.shape size
+        + steps_moves s.pool.shape size begun)) (sym ended)
+        (⊎_elim (λ (none : b.moves ≤ a.moves). still_moves few none)
+        (λ (r : StepsMove queue a b e d begun). steps_made z told spends r) steps)

@@ -20,7 +20,7 @@ use Rattle.aig_defs.proofs.EitherText.{text_none}
 use Rattle.aig_defs.specs.Begun.{circuit_size}
 use Rattle.aig_edges.specs.declared.graph.Ordered.{Ordered}
 use Rattle.emtool.specs.Asked.{asked_of_eval}
-use Rattle.emtool.specs.EvalMoves.{circuit_moves, steps_moves}
+use Rattle.emtool.specs.EvalMoves.{circuit_moves, making_moves, steps_moves}
 use Rattle.emtool.specs.EvalDue.{aig_status, eval_output, eval_status}
 use Rattle.emtool.specs.EvalSize.{circuit_read, eval_cost, given_of, passes_read, steps_read}
 use Rattle.emtool.specs.Evaluation.{CircuitCause, EndsSteps, FillsEval, PrintsAll, SpellsEdges, StepsCause, steps_of}
@@ -32,7 +32,7 @@ use Rattle.emtool.specs.declared.status.Status.TheVariants.{Done}
 use Rattle.emtool.specs.declared.stop.Stop.{Stop}
 use Rattle.emtool.specs.declared.stop.Stop.TheVariants.{Fault, Read, Write, Em}
 use Rattle.emtool.proofs.EndLaws.{KeepsMoves, Stopped, done_whole, ended_due}
-use Rattle.emtool.proofs.EvalCosts.{evaluation_within, steps_moves_rise}
+use Rattle.emtool.proofs.EvalCosts.{evaluation_within, making_rises, steps_moves_rise}
 use Rattle.emtool.proofs.Evaluating.{fault_due, lines_due, nothing_due, steps_counted, steps_due}
 use Rattle.emtool.proofs.Moves.{full_by_moves}
 
@@ -66,6 +66,9 @@ part_within u s a b c h k = omega (arith, h, k)
 
 both_within : (u t s a few b c : ℕ) → t ≤ s + a → u ≤ t + few → few ≤ b → a + b ≤ c → u ≤ s + c
 both_within u t s a few b c g h i k = omega (arith, g, h, i, k)
+
+both_rise : (a b c d : ℕ) → a ≤ b → c ≤ d → a + c ≤ b + d
+both_rise a b c d h k = omega (arith, h, k)
 
 -- What a full device says: it has few blocks, since few were moved.
 pub eval_fills : (tells : Bool) (y w : List ℕ) (slots : Slot → SlotState) {a c : RigState}
@@ -131,7 +134,8 @@ module _ (tells : Bool) (x y stimulus : List ℕ) (e : IsTrue tells → x ≡ y)
       subst (λ (v : List ℕ). c.moves ≤ a.moves
       + circuit_moves a.pool.shape (circuit_read (slots First) v) (passes_read v)) (e t) (moves t d) in
       part_within c.moves a.moves (circuit_moves a.pool.shape size passes)
-      (steps_moves a.pool.shape size steps) (eval_cost a.pool.shape size steps passes) own
+      (making_moves a.pool.shape size + steps_moves a.pool.shape size steps)
+      (eval_cost a.pool.shape size steps passes) own
       (evaluation_within a.pool.shape size passes steps is)
 
   module _ {IsState : List ℕ → Type 0} {took : List ℕ → List ℕ → List ℕ}
@@ -224,8 +228,9 @@ module _ (tells told : Bool) (x y z w : List ℕ) (m : RigState) (o : Ordered)
       → (IsTrue tells → IsTrue a.device.told → m.moves ≤ a.moves
       + circuit_moves a.pool.shape (circuit_read (slots First) x) (passes_read x))
       → (IsTrue tells → IsTrue m.device.told → c.moves ≤ m.moves
+      + (making_moves m.pool.shape (circuit_size o.header)
       + steps_moves m.pool.shape (circuit_size o.header)
-      (steps_of o.header.inputs z (slots Second)))
+      (steps_of o.header.inputs z (slots Second))))
       → KeepsEval tells y w slots a c
   steps_keep slots a c sound touches small first then = λ t d.
       let slot = slots Second in
@@ -244,14 +249,18 @@ module _ (tells told : Bool) (x y z w : List ℕ) (m : RigState) (o : Ordered)
       let own : m.moves ≤ a.moves + circuit_moves shape read passes =
       subst (λ (v : List ℕ). m.moves ≤ a.moves
       + circuit_moves shape (circuit_read (slots First) v) (passes_read v)) (e t) (first t d) in
-      let steps : c.moves ≤ m.moves + steps_moves shape (circuit_size o.header) n =
-      subst (λ (v : ShapeNumbers). c.moves ≤ m.moves + steps_moves v (circuit_size o.header) n)
+      let size = circuit_size o.header in
+      let steps : c.moves ≤ m.moves + (making_moves shape size + steps_moves shape size n) =
+      subst (λ (v : ShapeNumbers). c.moves ≤ m.moves + (making_moves v size + steps_moves v size n))
       touches.shape (then t (touches.told ∙ d)) in
+      let makes : making_moves shape size ≤ making_moves shape read =
+      making_rises shape size read some large in
       subst (λ (k : ℕ). c.moves ≤ a.moves + eval_cost shape read k passes) (sym count)
       (both_within c.moves m.moves a.moves (circuit_moves shape read passes)
-      (steps_moves shape (circuit_size o.header) n) (steps_moves shape read n)
-      (eval_cost shape read n passes) own steps
-      (steps_moves_rise shape (circuit_size o.header) read n some large)
+      (making_moves shape size + steps_moves shape size n)
+      (making_moves shape read + steps_moves shape read n) (eval_cost shape read n passes) own steps
+      (both_rise (making_moves shape size) (making_moves shape read) (steps_moves shape size n)
+      (steps_moves shape read n) makes (steps_moves_rise shape size read n some large))
       (evaluation_within shape read passes n sound.shape))
 
   told_here : (old : Outside) → old.device.told ≡ told → IsTrue old.device.told → IsTrue told

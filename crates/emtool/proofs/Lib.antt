@@ -17,6 +17,7 @@ pub mod Evaluating
 pub mod InOrder
 mod JobRows
 pub mod LineLemmas
+pub mod ListQueue
 pub mod Listing
 pub mod LoopEnds
 pub mod LoopPrints
@@ -39,6 +40,8 @@ pub mod Running
 pub mod Scanning
 pub mod ServiceMoves
 pub mod Serving
+pub mod StabAnswers
+pub mod Stabbing
 pub mod StepLoop
 pub mod Stepping
 pub mod Steps

@@ -11,8 +11,6 @@ use Rattle.em_space.specs.Rig.{RigState, Cause, Goes, Sound, Touches}
 use Rattle.em_space.specs.declared.fault.EmFault.{EmFault}
 use Rattle.em_space.specs.declared.fault.EmFault.TheVariants as em
 use Rattle.em_space.proofs.Within.{touches_within, within_none, within_then}
-use Rattle.em_plain.specs.Room.{plain_room}
-use Rattle.em_chain.proofs.Sessions.{ceiling_rises}
 use Rattle.emtool.specs.Asked.{ToldIf}
 use Rattle.emtool.specs.CommandLine.{good_commands}
 use Rattle.emtool.specs.Run.{CountsBy, IsReady}
@@ -25,12 +23,6 @@ use Rattle.emtool.specs.declared.text.FileKind.TheVariants.{Map, Queue}
 use Rattle.emtool.specs.declared.text.FileKind.TheVariants as kind
 use Rattle.std.proofs.lemmas.List.{take_all}
 use Rattle.emtool.proofs.Answered.{pairs_counted}
-
--- more commands take no less room
-pub room_rises : (shape : ShapeNumbers) (m n : ℕ) → 0 < payload_of shape → m ≤ n
-    → plain_room shape m ≤ plain_room shape n
-room_rises shape m n some h =
-    let c = ceiling_rises m n (payload_of shape) some h in omega (arith, c)
 
 -- the commands that were taken are at most the size of the run
 pub taken_most : (kind : FileKind) (text left : List ℕ)

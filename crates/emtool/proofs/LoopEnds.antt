@@ -27,12 +27,12 @@ use Rattle.aig_edges.specs.declared.stop.StepStop.{StepStop}
 use Rattle.aig_edges.specs.declared.stop.StepStop.TheVariants as stop
 use Rattle.aig_forward.specs.Evaluator.{Halted, IsEvaluator, evaluator_blocks, lists_size}
 use Rattle.aig_forward.specs.Lists.{lists_account}
-use Rattle.aig_forward.specs.Step.{CallsAfterLine, FollowsText, Scene, StepCause, StepCosts, line_at, step_account, step_calls, step_moves, step_room}
+use Rattle.aig_forward.specs.Step.{ActsAfterByte, FollowsText, Scene, StepCause, StepCosts, line_at, step_account, step_calls, step_moves, step_room}
 use Rattle.aig_forward.specs.declared.evaluator.Evaluator.{Evaluator}
 use Rattle.aig_forward.specs.declared.step_end.StepEnd.{StepEnd}
 use Rattle.aig_forward.specs.declared.step_end.StepEnd.TheVariants.{Printed, End}
 use Rattle.emtool.specs.EvalSize.{given_of}
-use Rattle.emtool.specs.Evaluation.{EndsSteps, ReadsSecond, StepsCause}
+use Rattle.emtool.specs.Evaluation.{EndsSteps, ReadsSecond, StepsCause, StepsMove}
 use Rattle.emtool.specs.Opens.{IsAllRead}
 use Rattle.emtool.specs.Stop.{fault_counts, step_stop}
 use Rattle.emtool.specs.declared.stop.Stop.{Stop}
@@ -102,25 +102,41 @@ last_halted {Q} queue {s} {t} e f (Ok End) last costs sound stored =
     s s) (sym costs.1) (halted_none queue s e sound stored))
 last_halted queue e f (Err stopped) last costs sound stored = costs
 
--- It made a call of the queue only if it took something of the stimulus.
+-- It did nothing unless it took something of the stimulus.
 pub last_idle : {Q : Type 0} (queue : QueueGhosts Q) (old new : Scene Q)
     (r : Result StepEnd StepStop) → IsLast r
     → StepCosts queue old.rig new.rig old.evaluator new.evaluator r
-    → IfErr r (λ stopped. CallsAfterLine queue old.evaluator new.evaluator old.text.feed.place
-    new.text.feed.place)
-    → CallsAfterLine queue old.evaluator new.evaluator old.text.feed.place new.text.feed.place
+    → IfErr r (λ stopped. ActsAfterByte old.rig new.rig old.evaluator new.evaluator
+    old.text.feed.place new.text.feed.place)
+    → ActsAfterByte old.rig new.rig old.evaluator new.evaluator old.text.feed.place
+    new.text.feed.place
 last_idle queue old new (Ok Printed) last costs idle = absurd last
-last_idle {Q} queue old new (Ok End) last costs idle =
-    let same = ap (λ (x : Evaluator Q). (queue.counts x.queue).n) costs.1 in
-    inl (omega (arith, same))
+last_idle queue old new (Ok End) last costs idle =
+    let same = ap (λ (x : RigState). x.moves) costs.0 in inl (costs.1, omega (arith, same))
 last_idle queue old new (Err stopped) last costs idle = idle
 
--- the moves of some steps and of one more, by how many were begun
-moves_few : (steps begun each owed now before spent after later : ℕ) → steps ≤ begun
+-- So it made no call of the queue.
+pub idle_calls : {Q : Type 0} (queue : QueueGhosts Q) (s t : RigState) (e f : Evaluator Q)
+    (place later : ℕ) → ActsAfterByte s t e f place later
+    → ((queue.counts f.queue).n ≤ (queue.counts e.queue).n) ⊎ (place < later)
+idle_calls {Q} queue s t e f place later (inl still) =
+    let same = ap (λ (x : Evaluator Q). (queue.counts x.queue).n) still.0 in
+    inl (omega (arith, same))
+idle_calls queue s t e f place later (inr further) = inr further
+
+-- the moves of some steps, and of one more that was begun, by how many were begun
+moves_few : (steps begun each owed now before spent after later : ℕ) → steps + 1 ≤ begun
     → owed ≡ steps * each → now ≡ each → later + (before + 0) ≤ spent + ((owed + now) + after)
-    → later + before ≤ spent + after + (1 + begun) * each
+    → later + before ≤ spent + after + begun * each
 moves_few steps begun each owed now before spent after later few e f h =
-    let rises = times_rises each steps begun few in omega (arith, rises, e, f, h)
+    let rises = times_rises each (steps + 1) begun few in omega (arith, rises, e, f, h)
+
+-- the moves of some steps alone
+moves_none : (steps begun each owed before spent after mid later : ℕ) → steps ≤ begun
+    → owed ≡ steps * each → mid + (before + 0) ≤ spent + (owed + (after + 0)) → later ≤ mid
+    → later + before ≤ spent + after + begun * each
+moves_none steps begun each owed before spent after mid later few e h still =
+    let rises = times_rises each steps begun few in omega (arith, rises, e, h, still)
 
 module _ {Q : Type 0} {queue : QueueGhosts Q} {tells : Bool} {took : List ℕ → List ℕ → List ℕ}
     {first mid : Scene Q} (m : MadeSteps queue tells took first mid)
@@ -163,20 +179,48 @@ module _ {Q : Type 0} {queue : QueueGhosts Q} {tells : Bool} {took : List ℕ �
       let own = last_halted queue mid.evaluator f r last costs m.runs.runs.session.sound stored in
       omega (arith, own.called.k, since, m.run, last_calls)
 
-  -- and the moves beside the queue's are those of the steps that were begun, and of one more.
-  pub last_moves : (t : RigState) (f : Evaluator Q) (r : Result StepEnd StepStop) (begun : ℕ)
-      → IsLast r → StepCosts queue mid.rig t mid.evaluator f r
+  -- The moves beside the queue's are those of the steps, if the last one did nothing,
+  quiet_moves : (t : RigState) (f : Evaluator Q) (begun : ℕ) → m.steps ≤ begun
+      → f ≡ mid.evaluator → t.moves ≤ mid.rig.moves
+      → (t.moves ≤ first.rig.moves)
+      ⊎ StepsMove queue first.rig t first.evaluator f begun
+  quiet_moves t f begun few same still =
+      let run = m.runs.runs.spends.moves in
+      let spent : (queue.counts f.queue).spent ≡ (queue.counts mid.evaluator.queue).spent =
+      ap (λ (x : Evaluator Q). (queue.counts x.queue).spent) same in
+      ⊎_elim (λ (none : mid.rig.moves ≤ first.rig.moves). inl (omega (arith, none, still)))
+      (λ (some : 0 < m.steps). inr (record {
+        some = omega (arith, some, few);
+        most = subst (λ (n : ℕ). t.moves + (queue.counts first.evaluator.queue).spent
+            ≤ first.rig.moves + n + begun * step_moves first.rig first.evaluator) (sym spent)
+            (moves_none m.steps begun (step_moves first.rig first.evaluator) m.owed
+            (queue.counts first.evaluator.queue).spent first.rig.moves
+            (queue.counts mid.evaluator.queue).spent mid.rig.moves t.moves few m.owed_is
+            (omega (arith, run)) still);
+      }))
+      m.idle
+
+  -- and else those of the steps that were begun: it was one of them.
+  pub last_moves : (t : RigState) (f : Evaluator Q) (r : Result StepEnd StepStop)
+      (place later begun : ℕ) → IsLast r → StepCosts queue mid.rig t mid.evaluator f r
       → (queue.counts mid.evaluator.queue).unstored ≤ mid.rig.pool.shape.frames → m.steps ≤ begun
-      → t.moves + (queue.counts first.evaluator.queue).spent
-      ≤ first.rig.moves + (queue.counts f.queue).spent
-      + (1 + begun) * step_moves first.rig first.evaluator
-  last_moves t f r begun last costs stored few =
+      → (place < later → m.steps + 1 ≤ begun)
+      → ActsAfterByte mid.rig t mid.evaluator f place later
+      → (t.moves ≤ first.rig.moves)
+      ⊎ StepsMove queue first.rig t first.evaluator f begun
+  last_moves t f r place later begun last costs stored few further (inl idle) =
+      quiet_moves t f begun few idle.0 idle.1
+  last_moves t f r place later begun last costs stored few further (inr less) =
+      let more = further less in
       let all = steps_halted t f r last costs stored in
       let each = moves_kept queue first.rig mid.rig first.evaluator mid.evaluator m.keeps
       m.runs.runs.session.touches.shape in
-      moves_few m.steps begun (step_moves first.rig first.evaluator) m.owed
-      (step_moves mid.rig mid.evaluator) (queue.counts first.evaluator.queue).spent first.rig.moves
-      (queue.counts f.queue).spent t.moves few m.owed_is each all.moves
+      inr (record {
+        some = omega (arith, more);
+        most = moves_few m.steps begun (step_moves first.rig first.evaluator) m.owed
+            (step_moves mid.rig mid.evaluator) (queue.counts first.evaluator.queue).spent
+            first.rig.moves (queue.counts f.queue).spent t.moves more m.owed_is each all.moves;
+      })
 
 -- Blocks of which all but some were stored at first are stored but for those in frames.
 pub steps_paid : (s t : RigState) (own before : ℕ) → Sound s

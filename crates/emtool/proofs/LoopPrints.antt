@@ -28,7 +28,7 @@ use Rattle.aig_forward.specs.declared.step_end.StepEnd.{StepEnd}
 use Rattle.aig_forward.specs.declared.step_end.StepEnd.TheVariants.{Printed, End}
 use Rattle.emtool.specs.EvalSize.{given_of}
 use Rattle.emtool.specs.Evaluation.{CanRunSteps, PrintsLines, PrintsSteps, steps_of}
-use Rattle.emtool.proofs.LoopEnds.{IsLast, all_read, calls_begun, cause_of, ends_of, given_least, last_calls, last_idle, last_moves, last_run, reads_second, result_of, steps_begun_few, steps_halted, steps_paid}
+use Rattle.emtool.proofs.LoopEnds.{IsLast, all_read, calls_begun, cause_of, ends_of, given_least, idle_calls, last_calls, last_idle, last_moves, last_run, line_begun, reads_second, result_of, steps_begun_few, steps_halted, steps_paid}
 use Rattle.emtool.proofs.Printing.{part_step}
 use Rattle.emtool.proofs.StepLoop.{MadeSteps, PrintsRun, StepSays, first_scene}
 use Rattle.emtool.proofs.Stepping.{lines_left, lines_next, lines_stop}
@@ -201,6 +201,8 @@ module _ {H W Q : Type 0} (h : ShelfGhosts H) (w : SinkGhosts W) (queue : QueueG
       (y.follows z) in
       let begun = m.runs.calls_on.called.n in
       let calls = k.called.n in
+      let idle = last_idle queue mid new r last y.costs y.idle in
+      let given = given_of ((h.stand shelf_after).slot Second) ((h.stand shelf).slot Second).left in
       record {
         sound = k.sound;
         touches = k.touches;
@@ -223,18 +225,17 @@ module _ {H W Q : Type 0} (h : ShelfGhosts H) (w : SinkGhosts W) (queue : QueueG
         cause = cause_of (h.faults shelf) mid.text.faults (h.faults shelf_after) (w.faults out)
             middle (w.faults out_after) s mid.rig t (evaluator_blocks queue s e) r last
             m.runs.runs.session.touches m.reads.later before y.cause;
-        called = λ z. calls_begun (given_of ((h.stand shelf_after).slot Second)
-            ((h.stand shelf).slot Second).left) (2 * edge_count e.header)
+        called = λ z. calls_begun given (2 * edge_count e.header)
             (queue.counts mid.evaluator.queue).n (step_calls mid.evaluator.header)
             (queue.counts d.queue).n z (m.follows z) y.reads (given_least z all refl ready refl)
             (omega (arith, begun, can.new)) (omega (arith, calls, can.new)) (last_calls m can.is)
-            (last_idle queue mid new r last y.costs y.idle);
+            (idle_calls queue mid.rig t mid.evaluator d mid.text.feed.place feed.place idle);
         run = last_run m can.is t d r last y.costs stored since;
-        moves = λ z. last_moves m can.is t d r (steps_of e.header.inputs
+        moves = λ z. last_moves m can.is t d r mid.text.feed.place feed.place (steps_of e.header.inputs
             ((h.stand shelf).slot Second).left ((h.stand shelf_after).slot Second)) last y.costs stored
-            (steps_begun_few (given_of ((h.stand shelf_after).slot Second)
-            ((h.stand shelf).slot Second).left) (m.follows z) y.reads
-            (given_least z all refl ready refl));
+            (steps_begun_few given (m.follows z) y.reads (given_least z all refl ready refl))
+            (λ less. line_begun given z (m.follows z) y.reads less
+            (given_least z all refl ready refl)) idle;
         paid = steps_paid s t (queue.counts e.queue).unstored ((queue.counts e.queue).unstored + 0)
             can.sound can.paid (omega arith) k.pays k.touches.moves k.touches.shape;
       }

@@ -1,7 +1,7 @@
 -- A run on made texts, from the run of its task over the shelf that makes them, whose output a tally took.
 use Rattle.std.proofs.Common.{◌≡◌, ℕ, ◌<◌, ◌≤◌, List, [], ap, subst, ◌∙◌, refl, arith, true}
 use Rattle.em_record.specs.Count.{Rose}
-use Rattle.em_record.specs.Shape.{ShapeNumbers, payload_of}
+use Rattle.em_record.specs.Shape.{ShapeNumbers}
 use Rattle.em_io.specs.Shelf.{unopened}
 use Rattle.em_io.specs.Sink.{IsRule, SentPart}
 use Rattle.em_io.specs.declared.sink.Sink.{Ghosts as SinkGhosts}
@@ -102,8 +102,7 @@ unless_summed (Damaged block) P p = p
 
 -- The run of a task on such a shelf, whose tally was `first` at its start and `last` at its end.
 module _ {W : Type 0} (w : SinkGhosts W) {IsState : List ℕ → Type 0} (rule : IsRule IsState w.took)
-    (task : Task) (start count : ℕ) (s t : RigState) (shelf after : GenState) (first last : List ℕ)
-    (some : 0 < payload_of s.pool.shape) where
+    (task : Task) (start count : ℕ) (s t : RigState) (shelf after : GenState) (first last : List ℕ) where
   abbrev RunEnded : Status → Type 0
   RunEnded status = Ended true tallied (asked_of task (made_texts task start count)) s.pool.shape
       s.blocks (within s.device shelf (three 0 0 0)) (within t.device after last) status
@@ -119,7 +118,7 @@ module _ {W : Type 0} (w : SinkGhosts W) {IsState : List ℕ → Type 0} (rule :
     ended = λ stand faults. ends_unsummed rule task count (asked_of task (made_texts task start count))
         s.pool.shape s.blocks (beside stand faults w s.device out) (beside stand faults w t.device out)
         (stand_of shelf) (stand_of after) (tallied last []) ok status n (λ x. never (c.write x)) u
-        (most_rises task (made_texts task start count) s.pool.shape (stand_of after).slot some)
+        (most_rises task (made_texts task start count) s.pool.shape (stand_of after).slot)
         (moves_rise task (made_texts task start count) s.pool.shape (stand_of after).slot) refl e;
     caused = λ stand faults. record {
       goes_on = record {

@@ -1,11 +1,10 @@
--- The blocks that a run may hold are fewer than its stated room.
+-- Numbers of blocks that records fill.
 use Rattle.std.proofs.Common.{◌≡◌, ℕ, ◌+◌, ◌-◌, ◌*◌, ◌<◌, ◌≤◌, subst, arith}
 use Rattle.std.proofs.lemmas.Grind.{div_ceil_times}
 use Rattle.std.proofs.lemmas.Nat.{div_below}
-use Rattle.em_record.specs.Cost.{blocks_of, lev, cost}
+use Rattle.em_record.specs.Cost.{blocks_of}
 use Rattle.em_record.specs.Shape.{ShapeNumbers, IsShape, payload_of}
 use Rattle.em_chain.specs.Counts.{ceiling}
-use Rattle.em_plain.specs.Room.{plain_room}
 
 -- n records take at most this many blocks, where they fit
 pub ceiling_most : (n p b : ℕ) → 0 < p → n ≤ b * p → ceiling n p ≤ b
@@ -35,16 +34,6 @@ fits_payloads shape n is =
     let records : n ≤ q * (2 + y) = rw block enough.0 in
     let full : n ≤ (2 * q) * (1 + y) = omega (arith, records, twice q y) in
     rw payload at full
-
--- the blocks that a structure may hold are fewer than the bound, by any shape
-pub room_small : (shape : ShapeNumbers) (used n : ℕ) → IsShape shape
-    → used ≤ plain_room shape n → used < cost shape n
-room_small shape used n is h =
-    let q = blocks_of shape n in
-    let least : ceiling n (payload_of shape) ≤ 2 * q =
-    ceiling_most n (payload_of shape) (2 * q) (omega (arith, is.block_low)) (fits_payloads shape n is) in
-    let more = more_times (2048 * (q + 1)) (lev shape q) in
-    omega (arith, least, more, h)
 
 times_more : (k x more : ℕ) → k * x ≤ k * (x + more)
 times_more k x more = omega arith

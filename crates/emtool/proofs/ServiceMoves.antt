@@ -1,5 +1,5 @@
 -- The moves of a run over a service that states an allowance.
-use Rattle.std.proofs.Common.{◌≡◌, ℕ, ◌+◌, ◌*◌, ◌<◌, ◌≤◌, List, length, ap, ◌∙◌, arith, Bool, false, IsTrue, Option, Some, None, IfSome}
+use Rattle.std.proofs.Common.{◌≡◌, ℕ, ◌+◌, ◌*◌, ◌≤◌, List, length, ap, ◌∙◌, arith, Bool, false, IsTrue, Option, Some, None, IfSome}
 use Rattle.em_record.specs.Cost.{cost}
 use Rattle.em_record.specs.Shape.{IsShape, ShapeNumbers, payload_of}
 use Rattle.em_io.specs.Shelf.{SlotState}
@@ -8,15 +8,15 @@ use Rattle.em_io.specs.declared.shelf.Slot.{Slot}
 use Rattle.em_io.specs.declared.shelf.Slot.TheVariants.{First}
 use Rattle.em_io.specs.declared.sink.Sink.{Ghosts as SinkGhosts}
 use Rattle.em_model.specs.declared.command.Command.{Command}
-use Rattle.em_space.specs.Rig.{RigState, Sound}
+use Rattle.em_space.specs.Rig.{RigState}
 use Rattle.em_chain.specs.Chain.{IsChain, IsPacked, chain_items, payload_in}
 use Rattle.em_chain.specs.Counts.{ceiling}
 use Rattle.em_chain.specs.declared.chain.Chain.{Chain}
 use Rattle.em_chain.proofs.Counts.{packed_blocks}
 use Rattle.em_chain.proofs.Readers.{length_items}
 use Rattle.em_chain.proofs.Sessions.{ceiling_rises}
-use Rattle.em_tree_cost.specs.Shares.{batch_share, chain_share, queue_share}
-use Rattle.em_tree_cost.proofs.Services.{map_cost}
+use Rattle.em_tree_cost.specs.Shares.{batch_share, chain_share, queue_share, stab_share}
+use Rattle.em_tree_cost.proofs.Services.{map_cost, stab_cost}
 use Rattle.emtool.specs.Asked.{sized}
 use Rattle.emtool.specs.BatchService.{map_share}
 use Rattle.emtool.specs.CommandLine.{good_commands}
@@ -160,4 +160,26 @@ map_runs h w s t shelf out shelf_after out_after end unused none r =
     runs_by_cost Map (λ shape size. map_share shape size + ceiling size (payload_of shape))
     (λ shape size. s.blocks) false s t shelf out shelf_after out_after end r
     (map_few s.pool.shape sound.shape)
+    (let moves = sound.moves_is in omega (arith, moves, none)) sound.numbers.blocks_high
+
+-- the moves of a stab file's run are within its transfer cost,
+stab_few : (shape : ShapeNumbers) → IsShape shape → (n : ℕ)
+    → stab_share shape n + ceiling n (payload_of shape) ≤ cost shape n
+stab_few shape is n =
+    let other = ceiling_share shape n n (omega arith) (let low = is.block_low in omega (arith, low)) in
+    let all = stab_cost shape n (stab_share shape n) (ceiling n (payload_of shape)) 0 is (omega arith)
+    (omega (arith, other)) (omega arith) in
+    omega (arith, all)
+
+-- and so is the run.
+pub stab_runs : {H W : Type 0} (h : ShelfGhosts H) (w : SinkGhosts W) (s t : RigState) (shelf : H)
+    (out : W) (shelf_after : H) (out_after : W) (end : Status) → IsUnused s → s.moves ≡ 0
+    → RunsWithin h w (service_limits (Some stab_share) None s.blocks Stab) Stab s t shelf out
+    shelf_after out_after end
+    → Runs h w Stab s t shelf out shelf_after out_after end
+stab_runs h w s t shelf out shelf_after out_after end unused none r =
+    let sound = unused.sound in
+    runs_by_cost Stab (λ shape size. stab_share shape size + ceiling size (payload_of shape))
+    (λ shape size. s.blocks) false s t shelf out shelf_after out_after end r
+    (stab_few s.pool.shape sound.shape)
     (let moves = sound.moves_is in omega (arith, moves, none)) sound.numbers.blocks_high

@@ -1,5 +1,5 @@
 -- The loop over the steps of a stimulus: what was done after some of them.
-use Rattle.std.proofs.Common.{◌≡◌, ℕ, ◌+◌, ◌*◌, ◌^◌, ◌<◌, ◌≤◌, max, Bool, List, [], ◌++◌, ap, subst, ◌∙◌, refl, arith, IsTrue, Result, Ok}
+use Rattle.std.proofs.Common.{◌≡◌, ℕ, ◌+◌, ◌*◌, ◌^◌, ◌<◌, ◌≤◌, ◌⊎◌, inl, inr, max, Bool, List, [], ◌++◌, ap, subst, ◌∙◌, refl, arith, IsTrue, Result, Ok}
 use Rattle.std.specs.Prelude.{IfErr, OnOk}
 use Rattle.em_record.specs.Shape.{ShapeNumbers, fan_of, payload_of}
 use Rattle.em_io.specs.Sink.{IsRule, Sent}
@@ -28,7 +28,7 @@ use Rattle.aig_edges.specs.Graph.{CanBuild, edge_count}
 use Rattle.aig_edges.specs.declared.stop.StepStop.{StepStop}
 use Rattle.aig_forward.specs.Evaluator.{Evaluates, IsEvaluator, evaluator_blocks, lists_size}
 use Rattle.aig_forward.specs.Lists.{latch_room, lists_account}
-use Rattle.aig_forward.specs.Step.{AnswersStep, CallsAfterLine, CanStep, FollowsText, IfPrinted, Keeps, Scene, StepCause, StepCosts, TakesLine, input_room, line_of, scene, step_calls, step_moves, step_room}
+use Rattle.aig_forward.specs.Step.{ActsAfterByte, AnswersStep, CanStep, FollowsText, IfPrinted, Keeps, Scene, StepCause, StepCosts, TakesLine, input_room, line_of, scene, step_calls, step_moves, step_room}
 use Rattle.aig_forward.specs.declared.evaluator.Evaluator.{Evaluator}
 use Rattle.aig_forward.specs.declared.step_end.StepEnd.{StepEnd}
 use Rattle.aig_forward.specs.declared.step_end.StepEnd.TheVariants.{Printed}
@@ -63,6 +63,7 @@ pub record MadeSteps {Q : Type 0} (queue : QueueGhosts Q) (tells : Bool)
   pub steps : ℕ
   pub owed : ℕ
   pub owed_is : owed ≡ steps * step_moves first.rig first.evaluator
+  pub idle : (now.rig.moves ≤ first.rig.moves) ⊎ (0 < steps)
   pub run : (queue.counts now.evaluator.queue).k
       ≤ max (queue.counts first.evaluator.queue).k (2 * edge_count first.evaluator.header)
   pub is : IsEvaluator queue now.rig now.evaluator
@@ -96,7 +97,7 @@ pub record StepSays {Q : Type 0} (queue : QueueGhosts Q) (took : List ℕ → Li
   pub later : faults ≤ after
   pub cause : IfErr r (StepCause old.text.faults new.text.faults faults after old.rig new.rig)
   pub further : IfPrinted r (old.text.feed.place < new.text.feed.place)
-  pub idle : IfErr r (λ stopped. CallsAfterLine queue old.evaluator new.evaluator
+  pub idle : IfErr r (λ stopped. ActsAfterByte old.rig new.rig old.evaluator new.evaluator
       old.text.feed.place new.text.feed.place)
 
 -- An evaluator on a rig of one shape, and a later one with its header and edges.
@@ -213,6 +214,7 @@ module _ {IsState : List ℕ → Type 0} {took : List ℕ → List ℕ → List 
         steps = 0;
         owed = 0;
         owed_is = omega arith;
+        idle = inl (omega arith);
         run = omega arith;
         is = is;
         keeps = record {
@@ -317,6 +319,7 @@ module _ {IsState : List ℕ → Type 0} {took : List ℕ → List ℕ → List 
           owed = m.owed + step_moves mid.rig mid.evaluator;
           owed_is = owed_more m.steps (step_moves first.rig first.evaluator) m.owed
               (step_moves mid.rig mid.evaluator) m.owed_is each;
+          idle = inr (omega arith);
           run = omega (arith, calls, since, m.run, same);
           is = y.is;
           keeps = record {

@@ -14,33 +14,26 @@ use Rattle.emtool.specs.declared.job.Origin.{Origin}
 use Rattle.emtool.specs.declared.job.Origin.TheVariants.{Files, Made}
 use Rattle.emtool.specs.declared.job.Task.{Task}
 use Rattle.emtool.specs.declared.job.Task.TheVariants.{Answer, Eval}
-use Rattle.emtool.specs.declared.text.FileKind.TheVariants.{Map, Queue, Stab}
 use Rattle.emtool.specs.declared.status.Status.{Status}
 use Rattle.emtool.specs.declared.status.Status.TheVariants.{Done, Malformed, ReadFault, WriteFault, DeviceFault, Full, NoMemory, Damaged}
 use Rattle.emtool.specs.declared.status.Status.TheVariants as status
 use Rattle.emtool.specs.Asked.{Asked, asked_of}
-use Rattle.emtool.specs.Bound.{OnBounded, transfer_bound}
+use Rattle.emtool.specs.Bound.{transfer_bound}
 use Rattle.emtool.specs.Due.{due_by, texts_on}
 use Rattle.emtool.specs.Made.{read_whole}
 use Rattle.emtool.specs.Opens.{OpensNamed, ReadsNamed}
 use Rattle.emtool.specs.Origin.{LeavesOutside, OnMade, asked_on, slots_of, tells_of}
 use Rattle.emtool.specs.Promise.{Completes, EndsAsDue, FullHasCause, GivesDue, KeepsCost, Run, room_of}
 use Rattle.emtool.specs.Run.{Caused, Ended, HasSizes, Outside, RunsJob, RunsOn, outside}
-use Rattle.emtool.specs.RunSize.{run_size}
 use Rattle.emtool.specs.Status.{OnBegun, OnUsage}
 use Rattle.emtool.proofs.EndLaws.{ended_opened, told_if}
-use Rattle.emtool.proofs.RoomLaws.{room_small}
 
 -- the blocks that a task's run may hold are fewer than its bound, with four for each frame
 task_small : (task : Task) (shape : ShapeNumbers) (texts : Slot → List ℕ)
     (slots : Slot → SlotState) (used : ℕ) → IsShape shape
     → used ≤ (asked_of task texts).most shape slots
     → used < transfer_bound task shape texts slots + 4 * shape.frames
-task_small (Answer Map) shape texts slots used is h = let some = is.frames_low in omega (arith, h, some)
-task_small (Answer Queue) shape texts slots used is h = let some = is.frames_low in omega (arith, h, some)
-task_small (Answer Stab) shape texts slots used is h =
-    let less = room_small shape used (run_size Stab (texts First) (slots First).left) is h in
-    omega (arith, less)
+task_small (Answer kind) shape texts slots used is h = let some = is.frames_low in omega (arith, h, some)
 task_small Eval shape texts slots used is h = let some = is.frames_low in omega (arith, h, some)
 
 -- so are those of its run on texts of this origin
@@ -52,18 +45,14 @@ origin_small Files task shape texts slots used is h = task_small task shape text
 origin_small (Made start count) task shape texts slots used is h =
     task_small task shape texts (λ slot. read_whole) used is h
 
--- the moves of a run on texts of this origin are within the transfer cost, for a task that is held to it
+-- the moves of a run on texts of this origin are within the transfer cost
 origin_moves : (origin : Origin) (task : Task) (shape : ShapeNumbers) (texts : Slot → List ℕ)
     (slots : Slot → SlotState) (before after : ℕ)
     → IfSome (asked_on origin task texts).moves (λ f. after ≤ before + f shape slots)
-    → OnBounded task (after - before ≤ transfer_bound task shape texts (slots_of origin slots))
-origin_moves Files (Answer Map) shape texts slots before after h = omega (arith, h)
-origin_moves Files (Answer Queue) shape texts slots before after h = omega (arith, h)
-origin_moves Files (Answer Stab) shape texts slots before after h = tt
+    → after - before ≤ transfer_bound task shape texts (slots_of origin slots)
+origin_moves Files (Answer kind) shape texts slots before after h = omega (arith, h)
 origin_moves Files Eval shape texts slots before after h = omega (arith, h)
-origin_moves (Made start count) (Answer Map) shape texts slots before after h = omega (arith, h)
-origin_moves (Made start count) (Answer Queue) shape texts slots before after h = omega (arith, h)
-origin_moves (Made start count) (Answer Stab) shape texts slots before after h = tt
+origin_moves (Made start count) (Answer kind) shape texts slots before after h = omega (arith, h)
 origin_moves (Made start count) Eval shape texts slots before after h = omega (arith, h)
 
 -- Where the device isn't begun or there is no memory, shelf and output stay.

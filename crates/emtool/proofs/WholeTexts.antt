@@ -4,7 +4,7 @@ use Rattle.std.proofs.Common.{IfSome, ℕ, zero, suc, ◌-◌, ◌<◌, ◌≤�
 use Rattle.std.specs.List.{sum_by}
 use Rattle.std.proofs.lemmas.List.Sums.{sum_by-append}
 use Rattle.em_record.specs.Cost.{cost}
-use Rattle.em_record.specs.Shape.{ShapeNumbers, payload_of}
+use Rattle.em_record.specs.Shape.{ShapeNumbers}
 use Rattle.em_io.specs.Shelf.{SlotState}
 use Rattle.em_io.specs.declared.shelf.Slot.{Slot}
 use Rattle.em_io.specs.declared.shelf.Slot.TheVariants.{First, Second}
@@ -26,7 +26,6 @@ use Rattle.emtool.specs.declared.job.Task.TheVariants.{Answer, Eval}
 use Rattle.emtool.specs.declared.text.FileKind.{FileKind}
 use Rattle.emtool.specs.declared.text.FileKind.TheVariants.{Map, Queue, Stab}
 use Rattle.emtool.proofs.EvalCosts.{eval_cost_rises}
-use Rattle.emtool.proofs.Listing.{room_rises}
 use Rattle.emtool.proofs.ReadLaws.{within_grows}
 
 -- more commands report no fewer pairs
@@ -104,25 +103,17 @@ eval_rises shape circuit stimulus slots =
 
 -- No fewer blocks for whole texts.
 pub most_rises : (task : Task) (texts : Slot → List ℕ) (shape : ShapeNumbers)
-    (slots : Slot → SlotState) → 0 < payload_of shape
+    (slots : Slot → SlotState)
     → (asked_of task texts).most shape slots
     ≤ (asked_of task texts).most shape (λ slot. read_whole)
-most_rises (Answer Map) texts shape slots some =
-    let more = file_rises Map shape (texts First) (slots First).left in omega (arith, more)
-most_rises (Answer Queue) texts shape slots some =
-    let more = file_rises Queue shape (texts First) (slots First).left in omega (arith, more)
-most_rises (Answer Stab) texts shape slots some =
-    room_rises shape (run_size Stab (texts First) (slots First).left)
-    (run_size Stab (texts First) []) some
-    (size_rises Stab (texts First) (slots First).left [] (omega arith))
-most_rises Eval texts shape slots some =
+most_rises (Answer kind) texts shape slots =
+    let more = file_rises kind shape (texts First) (slots First).left in omega (arith, more)
+most_rises Eval texts shape slots =
     let more = eval_rises shape (texts First) (texts Second) slots in omega (arith, more)
 
 -- Nor fewer moves.
 pub moves_rise : (task : Task) (texts : Slot → List ℕ) (shape : ShapeNumbers)
     (slots : Slot → SlotState) → IfSome (asked_of task texts).moves
     (λ f. f shape slots ≤ f shape (λ slot. read_whole))
-moves_rise (Answer Map) texts shape slots = file_rises Map shape (texts First) (slots First).left
-moves_rise (Answer Queue) texts shape slots = file_rises Queue shape (texts First) (slots First).left
-moves_rise (Answer Stab) texts shape slots = tt
+moves_rise (Answer kind) texts shape slots = file_rises kind shape (texts First) (slots First).left
 moves_rise Eval texts shape slots = eval_rises shape (texts First) (texts Second) slots

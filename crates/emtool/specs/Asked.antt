@@ -5,7 +5,6 @@ use Rattle.em_record.specs.Shape.{ShapeNumbers}
 use Rattle.em_io.specs.Shelf.{SlotState}
 use Rattle.em_io.specs.declared.shelf.Slot.{Slot}
 use Rattle.em_io.specs.declared.shelf.Slot.TheVariants.{First, Second}
-use Rattle.em_plain.specs.Room.{plain_room}
 use Rattle.emtool.specs.EvalDue.{eval_output, eval_status}
 use Rattle.emtool.specs.EvalSize.{circuit_read, eval_cost, passes_read, steps_read}
 use Rattle.emtool.specs.FileDue.{due_status, output_text}
@@ -56,16 +55,6 @@ by_cost = record {
   most_told = true;
 }
 
--- Those of a list, which is read again for each answer: its moves have no such number, its blocks do.
-abbrev pub by_list : FileKind → Limits
-by_list kind = record { moves = None; most = plain_room; most_told = counts_pairs kind }
-
--- what a command file's run is held to
-abbrev pub limits_of : FileKind → Limits
-limits_of Map = by_cost
-limits_of Queue = by_cost
-limits_of Stab = by_list Stab
-
 -- a number by size as one by how far each slot was read
 abbrev pub sized : Option (ShapeNumbers → ℕ → ℕ) → ((Slot → SlotState) → ℕ)
     → Option (ShapeNumbers → (Slot → SlotState) → ℕ)
@@ -83,9 +72,9 @@ asked_by limits kind text = record {
   most_told = limits.most_told;
 }
 
--- what a command file asks
+-- what a command file asks: its run is held to the transfer cost
 abbrev pub asked_of_file : FileKind → List ℕ → Asked
-asked_of_file kind text = asked_by (limits_of kind) kind text
+asked_of_file kind text = asked_by by_cost kind text
 
 -- What an evaluation asks, by the texts of the circuit and of the stimulus. Whether the circuit has
 -- a fault is found from what the device gives back.

@@ -11,7 +11,6 @@ use Rattle.emtool.specs.RunSize.{run_size}
 use Rattle.emtool.specs.declared.job.Job.{Job}
 use Rattle.emtool.specs.declared.job.Task.{Task}
 use Rattle.emtool.specs.declared.job.Task.TheVariants.{Answer, Eval}
-use Rattle.emtool.specs.declared.text.FileKind.TheVariants.{Map, Queue, Stab}
 
 -- the transfer cost of a run's size, by the text of each slot and how far it was read
 abbrev pub transfer_bound : Task → ShapeNumbers → (Slot → List ℕ) → (Slot → SlotState) → ℕ
@@ -25,10 +24,3 @@ transfer_bound Eval shape texts slots =
 abbrev pub stated_room : Job → (Slot → List ℕ) → (Slot → SlotState) → ℕ
 stated_room job texts slots =
     transfer_bound job.task job.shape texts (slots_of job.origin slots) + 4 * job.shape.frames
-
--- P, if the moves of this task's runs are held to their transfer cost
-abbrev pub OnBounded : Task → Type 0 → Type 0
-OnBounded (Answer Map) P = P
-OnBounded (Answer Queue) P = P
-OnBounded (Answer Stab) P = Unit {0}
-OnBounded Eval P = P

@@ -1,6 +1,6 @@
--- The moves of the two parts of an evaluation: those of a circuit that is read and ordered, and those of
--- its steps. Each part's queues are within their shares.
-use Rattle.std.specs.Prelude.{ℕ, ◌+◌, ◌*◌}
+-- The moves of the parts of an evaluation: of a circuit that is read and ordered, of an evaluator that is
+-- made for it, and of its steps. Each part's queues are within their shares.
+use Rattle.std.specs.Prelude.{ℕ, zero, suc, ◌+◌, ◌*◌}
 use Rattle.em_record.specs.Shape.{ShapeNumbers, payload_of}
 use Rattle.em_chain.specs.Counts.{ceiling}
 use Rattle.em_tree_cost.specs.Shares.{queue_share}
@@ -13,9 +13,13 @@ circuit_moves shape size passes =
     + queue_share shape (6 * size) (2 * size)
     + queue_share shape (2 * (passes + 4) * size) (2 * size)
 
--- the moves of an evaluator for the edges of a circuit of this size, and of this many steps: those of its
--- lists, and those of a queue of two calls for each edge in each step
+-- the moves of making a queue, and an evaluator over it for the edges of a circuit of this size
+abbrev pub making_moves : ShapeNumbers → ℕ → ℕ
+making_moves shape size = 6 * ceiling size (payload_of shape) + 10
+
+-- the moves of this many steps along such edges: those of its lists, and those of a queue of two calls for
+-- each edge in each step. Before the first step is begun nothing is moved.
 abbrev pub steps_moves : ShapeNumbers → ℕ → ℕ → ℕ
-steps_moves shape size steps =
-    (9 * steps + 15) * ceiling size (payload_of shape) + 7 * steps + 13
-    + queue_share shape (2 * size * steps) (2 * size)
+steps_moves shape size zero = 0
+steps_moves shape size (suc n) = suc n * (9 * ceiling size (payload_of shape) + 7)
+    + queue_share shape (2 * size * suc n) (2 * size)

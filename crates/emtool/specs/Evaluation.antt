@@ -1,5 +1,5 @@
 -- An evaluation, from the circuit in the first slot over the steps of the stimulus in the second.
-use Rattle.std.specs.Prelude.{◌≡◌, ℕ, ◌+◌, ◌-◌, ◌*◌, ◌≤◌, ◌^◌, ◌⊎◌, Bool, List, [], false, max, IsTrue, Some, None, Result, Ok, Err, OnOk, IfErr}
+use Rattle.std.specs.Prelude.{◌≡◌, ℕ, ◌+◌, ◌-◌, ◌*◌, ◌<◌, ◌≤◌, ◌^◌, ◌⊎◌, Bool, List, [], false, max, IsTrue, Some, None, Result, Ok, Err, OnOk, IfErr}
 use Rattle.em_record.specs.Count.{Rose}
 use Rattle.em_record.specs.Shape.{fan_of}
 use Rattle.em_io.specs.Shelf.{Leaves, SlotState, Stand}
@@ -27,7 +27,7 @@ use Rattle.aig_forward.specs.Outputs.{KeepsFront}
 use Rattle.aig_forward.specs.Step.{step_moves}
 use Rattle.aig_forward.specs.declared.evaluator.Evaluator.{Evaluator}
 use Rattle.aig_order.specs.OrderGraph.{OrdersCircuit}
-use Rattle.emtool.specs.EvalMoves.{circuit_moves, steps_moves}
+use Rattle.emtool.specs.EvalMoves.{circuit_moves, making_moves, steps_moves}
 use Rattle.emtool.specs.EvalSize.{circuit_read, given_of, passes_read}
 use Rattle.emtool.specs.Opens.{IsAllRead}
 use Rattle.emtool.specs.Run.{IsReady, ReadsFirst}
@@ -167,9 +167,16 @@ pub record CanRunSteps {Q : Type 0} (queue : QueueGhosts Q) (s : RigState) (e : 
 abbrev pub steps_of : ℕ → List ℕ → SlotState → ℕ
 steps_of inputs text slot = steps_begun inputs (given_of slot text) text
 
+-- Steps were begun, this many, and beside the queue's moves come those of so many steps.
+pub record StepsMove {Q : Type 0} (queue : QueueGhosts Q) (s t : RigState) (e d : Evaluator Q)
+    (steps : ℕ) : Type 0 where
+  pub some : 0 < steps
+  pub most : t.moves + (queue.counts e.queue).spent
+      ≤ s.moves + (queue.counts d.queue).spent + steps * step_moves s e
+
 -- Steps over the stimulus in the second slot, from each state of a circuit that the evaluator has. Between
--- two moments at which its queue is empty come the calls of one step, and beside the queue's moves come
--- those of the steps that were begun, and of one more.
+-- two moments at which its queue is empty come the calls of one step. Nothing is moved before the first
+-- step is begun.
 pub record PrintsSteps {H W Q : Type 0} (h : ShelfGhosts H) (w : SinkGhosts W) (queue : QueueGhosts Q)
     (s t : RigState) (e d : Evaluator Q) (shelf shelf_after : H) (out out_after : W)
     (pending : List ℕ) (result : Result (Unit {0}) Stop) : Type 0 where
@@ -194,10 +201,9 @@ pub record PrintsSteps {H W Q : Type 0} (h : ShelfGhosts H) (w : SinkGhosts W) (
       * steps_of e.header.inputs ((h.stand shelf).slot Second).left
       ((h.stand shelf_after).slot Second)
   pub run : (queue.counts d.queue).k ≤ max (queue.counts e.queue).k (2 * edge_count e.header)
-  pub moves : IsTrue h.tells → t.moves + (queue.counts e.queue).spent
-      ≤ s.moves + (queue.counts d.queue).spent
-      + (1 + steps_of e.header.inputs ((h.stand shelf).slot Second).left
-      ((h.stand shelf_after).slot Second)) * step_moves s e
+  pub moves : IsTrue h.tells → (t.moves ≤ s.moves) ⊎ StepsMove queue s t e d
+      (steps_of e.header.inputs ((h.stand shelf).slot Second).left
+      ((h.stand shelf_after).slot Second))
   pub paid : (2 ^ 64 - 1 ≤ t.moves) ⊎ (t.used ≤ t.moves + 2 * t.pool.shape.frames)
 
 -- steps ended as due: all were made, or the stimulus has a fault
@@ -230,7 +236,7 @@ pub record PrintsAll (took : List ℕ → List ℕ → List ℕ) (lines old new 
 
 -- An evaluation by these edges, which are all that is on the rig: as `PrintsSteps`, with nothing pending,
 -- for a circuit in any order of its gates, from the state in which all latches are 0. At every end the
--- moves are those of the steps that were begun.
+-- moves are those of making an evaluator, and of the steps that were begun.
 pub record RunsSteps {H W : Type 0} (h : ShelfGhosts H) (w : SinkGhosts W) (s t : RigState)
     (o : Ordered) (shelf shelf_after : H) (out out_after : W) (result : Result (Unit {0}) Stop)
     : Type 0 where
@@ -248,6 +254,8 @@ pub record RunsSteps {H W : Type 0} (h : ShelfGhosts H) (w : SinkGhosts W) (s t 
   pub cause : IfErr result (StepsCause (fault_counts (h.faults shelf) (w.faults out))
       (fault_counts (h.faults shelf_after) (w.faults out_after)) s t)
   pub full : IfErr result (λ stop. IfStopsFull stop (FillsEval t))
-  pub moves : IsTrue h.tells → IsTrue s.device.told → t.moves ≤ s.moves + steps_moves s.pool.shape
-      (circuit_size o.header) (steps_of o.header.inputs ((h.stand shelf).slot Second).left
-      ((h.stand shelf_after).slot Second))
+  pub moves : IsTrue h.tells → IsTrue s.device.told
+      → t.moves ≤ s.moves + (making_moves s.pool.shape (circuit_size o.header)
+      + steps_moves s.pool.shape (circuit_size o.header)
+      (steps_of o.header.inputs ((h.stand shelf).slot Second).left
+      ((h.stand shelf_after).slot Second)))

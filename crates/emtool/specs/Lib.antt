@@ -32,6 +32,8 @@ pub mod ScanLaws
 pub mod ScanService
 pub mod Serve
 pub mod Service
+pub mod StabLaws
+pub mod StabService
 pub mod Status
 pub mod Stop
 pub mod Stops

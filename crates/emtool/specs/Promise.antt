@@ -7,7 +7,7 @@ use Rattle.em_io.specs.Sink.{SentPart}
 use Rattle.em_io.specs.declared.shelf.Shelf.{Ghosts as ShelfGhosts}
 use Rattle.em_io.specs.declared.sink.Sink.{Ghosts as SinkGhosts}
 use Rattle.em_frames.specs.declared.device.Device.{Ghosts as DeviceGhosts}
-use Rattle.emtool.specs.Bound.{OnBounded, stated_room, transfer_bound}
+use Rattle.emtool.specs.Bound.{stated_room, transfer_bound}
 use Rattle.emtool.specs.Asked.{ToldIf}
 use Rattle.emtool.specs.Due.{Due, due_of}
 use Rattle.emtool.specs.Origin.{LeavesOutside, OnMade, slots_of, tells_of}
@@ -96,11 +96,11 @@ SendsFront (Ok run) = IsTold run
 SendsFront (Err usage) = Unit {0}
 
 -- At every status, if texts and device are told, the moves that were made are at most the transfer cost of what was
--- read, for a task that is held to it.
+-- read.
 abbrev pub KeepsCost : Result Run Usage → Type 0
-KeepsCost (Ok run) = IsTold run → OnBounded run.due.job.task (moves_of run
+KeepsCost (Ok run) = IsTold run → moves_of run
     ≤ transfer_bound run.due.job.task run.due.job.shape run.due.texts
-    (slots_of run.due.job.origin run.new.stand.slot))
+    (slots_of run.due.job.origin run.new.stand.slot)
 KeepsCost (Err usage) = Unit {0}
 
 -- No slot is touched but those of the job's files.

@@ -22,7 +22,7 @@ use Rattle.emtool.specs.declared.job.Job.{Job}
 use Rattle.emtool.specs.declared.job.Origin.{Origin}
 use Rattle.emtool.specs.declared.job.Origin.TheVariants.{Made}
 use Rattle.emtool.specs.declared.job.Task.{Task}
-use Rattle.emtool.specs.Asked.{Asked, Limits, ToldIf, asked_by, asked_of, counts_pairs, limits_of}
+use Rattle.emtool.specs.Asked.{Asked, Limits, ToldIf, asked_by, asked_of, by_cost, counts_pairs}
 use Rattle.emtool.specs.Due.{texts_in, texts_on}
 use Rattle.emtool.specs.Opens.{IsAllRead, OpensNamed, ReadsNamed}
 use Rattle.emtool.specs.Made.{made_texts}
@@ -130,11 +130,11 @@ pub record RunsWithin {H W : Type 0} (h : ShelfGhosts H) (w : SinkGhosts W) (lim
   pub no_usage : OnUsage status ⊥
   pub no_memory : OnNoMemory status ⊥
 
--- such a run with the limits of its kind
+-- such a run that is held to the transfer cost
 abbrev pub Runs : {H W : Type 0} → ShelfGhosts H → SinkGhosts W → FileKind → RigState → RigState → H
     → W → H → W → Status → Type 0
 Runs h w kind s t shelf out shelf_after out_after status =
-    RunsWithin h w (limits_of kind) kind s t shelf out shelf_after out_after status
+    RunsWithin h w by_cost kind s t shelf out shelf_after out_after status
 
 -- The run of a task over the files of these names, on such a rig: how it ended, and why; and which
 -- slots were opened and read.

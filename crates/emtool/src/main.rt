@@ -27,6 +27,7 @@ mod run;
 mod scan_service;
 mod serve;
 mod service;
+mod stab_service;
 mod status;
 mod stop;
 #[cfg(test)]

@@ -26,8 +26,8 @@ use crate::text::FileKind;
 use em_frames::Device;
 use em_io::{Feed, Shelf, Sink, Slot};
 use em_map::Batch;
-use em_plain::ScanStab;
 use em_pqueue::ExtQueue;
+use em_segment::Stab;
 use em_space::{EmFault, Queue, Rig};
 
 /// The status of a run that stopped.
@@ -47,7 +47,7 @@ pub fn status_of(stop: Stop) -> Status
 }
 
 /// Reads the commands of the open slot into a new service of type S, and prints their answers.
-fn run_service<D: Device, H: Shelf, W: Sink, S: Service>(
+pub(crate) fn run_service<D: Device, H: Shelf, W: Sink, S: Service>(
     rig: &mut Rig<'_, D>,
     shelf: &mut H,
     out: &mut W,
@@ -74,7 +74,7 @@ fn run_service<D: Device, H: Shelf, W: Sink, S: Service>(
 
 /// Answers the commands of the open slot by a queue that was never called, on a rig of which all blocks
 /// in use are the queue's, and prints each answer when its pop is read. The queue is given up.
-fn run_queue<D: Device, H: Shelf, W: Sink, Q: Queue>(
+pub(crate) fn run_queue<D: Device, H: Shelf, W: Sink, Q: Queue>(
     rig: &mut Rig<'_, D>,
     mut queue: Q,
     shelf: &mut H,
@@ -126,7 +126,7 @@ fn run_open<D: Device, H: Shelf, W: Sink>(
             Ok(queue) => run_queue(rig, queue, shelf, out),
             Err(fault) => status_of(Stop::Em(fault)),
         },
-        FileKind::Stab => run_service::<D, H, W, ScanStab>(rig, shelf, out),
+        FileKind::Stab => run_service::<D, H, W, Stab>(rig, shelf, out),
     }
 }
 

@@ -6,13 +6,15 @@ mod damaged;
 mod each_call;
 mod each_evaluation;
 mod next_block;
+mod services;
 mod watched;
 
 use crate::print_text;
 use crate::status::Status;
 use crate::top::emtool;
 use em_frames::{Device, Grant, MemDevice};
-use em_io::{MemShelf, MemSink};
+use em_io::{MemShelf, MemSink, Printer};
+use em_record::Failed;
 use std::alloc::Global;
 use std::test::Fail;
 
@@ -24,6 +26,10 @@ const STEPS: &[u8] = b"11\n01\n";
 
 /// The words of the runs of several blocks.
 const SMALL: [&str; 5] = ["map", "--block=128", "--frames=64", "--blocks=100", "a"];
+
+/// The words of the runs of many keys. Of the blocks, 970,752 are the transfer cost of 20,001 commands,
+/// and 256 are four for each frame.
+const LARGE: [&str; 5] = ["map", "--block=128", "--frames=64", "--blocks=971008", "a"];
 
 /// The calls of each part of the outside that fail.
 #[derive(Clone, Copy)]
@@ -133,36 +139,24 @@ fn repeated(alloc: Global, line: &[u8], count: u64, last: &[u8]) -> Result<Vec<u
     Ok(text)
 }
 
-/// The digits of a key.
-const DIGITS: [u8; 10] = *b"0123456789";
-
-/// The lines `put K K` for the hundred keys of five digits that begin with these three.
-fn put_hundred(text: &mut Vec<u8>, front: [u8; 3]) -> Result<(), Fail> {
-    let [first, second, third] = front;
-    for fourth in DIGITS {
-        for fifth in DIGITS {
-            let key = [first, second, third, fourth, fifth];
-            text.extend_from_slice(b"put ")?;
-            text.extend_from_slice(&key)?;
-            text.extend_from_slice(b" ")?;
-            text.extend_from_slice(&key)?;
-            text.extend_from_slice(b"\n")?;
-        }
+/// Adds a line of a word and some numbers to a text.
+fn add_line(text: &mut MemSink, word: &[u8], numbers: &[u64]) -> Result<(), Failed> {
+    let mut line = Printer::new();
+    line.add(text, word)?;
+    for number in numbers {
+        line.add(text, b" ")?;
+        line.add_number(text, *number)?;
     }
-    Ok(())
+    line.end_line(text)
 }
 
-/// The lines `put K K` for 20,000 keys in order, from 10000 on, and a get of the first one.
-fn many_puts(alloc: Global) -> Result<Vec<u8>, Fail> {
-    let mut text = Vec::new(alloc);
-    for first in *b"12" {
-        for second in DIGITS {
-            for third in DIGITS {
-                put_hundred(&mut text, [first, second, third])?;
-            }
-        }
+/// The lines `put K K` for K from 1 to 20,000, and a get of 1.
+fn many_puts(alloc: Global) -> Result<MemSink, Fail> {
+    let mut text = MemSink::new(alloc, 4096, &[])?;
+    for key in 1..20_001 {
+        add_line(&mut text, b"put", &[key, key])?;
     }
-    text.extend_from_slice(b"get 10000\n")?;
+    add_line(&mut text, b"get", &[1])?;
     Ok(text)
 }
 

@@ -1,19 +1,35 @@
 //! A device that gives other records than were written.
-ghost use Rattle.std.specs.Prelude.{◌≡◌, false, []};
+ghost use Rattle.std.specs.Prelude.{◌≡◌, false, [], IfOk};
 ghost use Rattle.em_frames.specs.Device.{DeviceState};
 
 use crate::status::Status;
-use crate::tests::{Part, SMALL, failing, repeated, run_over};
+use crate::tests::{LARGE, Part, SMALL, failing, many_puts, repeated, run_over};
 use em_frames::{BeginFault, Device, MemDevice};
-use em_record::{Failed, Record};
+use em_record::{Failed, NoMemory, Record};
+use std::alloc::Global;
 use std::test::Fail;
 
 /// A device that tells nothing. It keeps the first `good` blocks, and gives the same record at every
-/// place of the others.
+/// place of the others. It notes the first block that was read.
 #[derive(Drop)]
 struct Forgetful {
     kept: MemDevice,
     good: u64,
+    first: Option<u64>,
+}
+
+impl Forgetful {
+    /// A device that isn't begun yet.
+    fn new(alloc: Global, good: u64) -> Result<Forgetful, NoMemory>
+        ensures { IfOk result (λ d. d.kept.blocks ≡ 0) }
+    {
+        let kept = MemDevice::new(alloc, &[])?;
+        Ok(Forgetful {
+            kept,
+            good,
+            first: None,
+        })
+    }
 }
 
 impl Device for Forgetful {
@@ -31,6 +47,8 @@ impl Device for Forgetful {
     }
 
     fn read(&mut self, at: u64, into: &mut [Record]) -> Result<(), Failed> {
+        let first = self.first.or(Some(at));
+        self.first = first;
         if at < self.good {
             return self.kept.read(at, into);
         }
@@ -66,13 +84,26 @@ fn a_block_of_other_records_is_damaged(rt: HostRuntime) -> Result<(), Fail> {
         (4, 4, b"emtool: scratch block 4 is damaged\n"),
     ];
     for (good, block, message) in cases {
-        let kept = MemDevice::new(rt.alloc(), &[])?;
-        let mut device = Forgetful { kept, good };
+        let mut device = Forgetful::new(rt.alloc(), good)?;
         let none = failing(Part::Device, &[]);
         let (status, out, err) = run_over(&mut device, &rt, &SMALL, &text, none)?;
         assert!(rt; status == Status::Damaged { block });
         assert_eq!(rt; out.bytes(), b"".as_slice());
         assert_eq!(rt; err.bytes(), message);
     }
+    Ok(())
+}
+
+/// No block of a map of many keys is as it was written: the first one that is read is named, and nothing is
+/// printed.
+#[test]
+fn the_first_block_that_is_read_is_damaged(rt: HostRuntime) -> Result<(), Fail> {
+    let text = many_puts(rt.alloc())?;
+    let mut device = Forgetful::new(rt.alloc(), 0)?;
+    let none = failing(Part::Device, &[]);
+    let (status, out, _) = run_over(&mut device, &rt, &LARGE, text.bytes(), none)?;
+    let block = device.first.unwrap_or(u64::MAX);
+    assert!(rt; status == Status::Damaged { block });
+    assert_eq!(rt; out.bytes(), b"".as_slice());
     Ok(())
 }

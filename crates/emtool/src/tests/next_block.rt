@@ -116,22 +116,23 @@ fn a_small_queue_reads_no_block(rt: HostRuntime) -> Result<(), Fail> {
     Ok(())
 }
 
-/// The commands take blocks 0, 1 and 2. A reader of 0 gets block 1, which leads to 2; there it gets
-/// block 0, which leads to 1; there it gets block 2, which is the last. So on three blocks the whole
-/// list is read, in another order: 3 moves write it and 3 read it. The first stab that an interval holds
-/// finds the device full of three blocks with the first interval that it reads. Three stabs that none
-/// holds read 3 blocks each; then block 0 is released by two moves, and read as a free one for 2. On more
-/// blocks, block 3 is read for 2, and nothing was written there.
+/// The intervals take blocks 0, 1 and 2, and the stabs block 3. Blocks 4 and 5 are the leaf and the root of a queue's tree. In
+/// place of the stabs the leaf is read, which is no block of a list: 2 moves write intervals as they come, 2 the leaf and the
+/// root, 2 the last intervals and the stabs, and one reads. Three blocks are full with the first stab, four with the leaf, and
+/// five with the root.
 #[test]
 fn an_interval_list_over_other_blocks_is_full_or_damaged(rt: HostRuntime) -> Result<(), Fail> {
-    let held = repeated(rt.alloc(), b"iv 1 2\n", 297, b"stab 1\nstab 1\nstab 1\n")?;
-    let none = repeated(rt.alloc(), b"iv 1 2\n", 297, b"stab 3\nstab 3\nstab 3\n")?;
-    let few = ("stab", "--blocks=3");
-    let many = ("stab", "--blocks=100");
-    let full = Status::Full { used: 3 };
-    let damaged = Status::Damaged { block: 2 };
-    assert!(rt; ends_so(&rt, few, &held, full, b"", 7)?);
-    assert!(rt; ends_so(&rt, few, &none, damaged, b"", 18)?);
-    assert!(rt; ends_so(&rt, many, &held, damaged, b"", 5)?);
+    let text = repeated(rt.alloc(), b"iv 1 2\n", 297, b"stab 1\nstab 1\nstab 1\n")?;
+    let damaged = Status::Damaged { block: 3 };
+    let few = [
+        (3, "--blocks=3", 2),
+        (4, "--blocks=4", 2),
+        (5, "--blocks=5", 3),
+    ];
+    for (used, blocks, moves) in few {
+        let full = Status::Full { used };
+        assert!(rt; ends_so(&rt, ("stab", blocks), &text, full, b"", moves)?);
+    }
+    assert!(rt; ends_so(&rt, ("stab", "--blocks=100"), &text, damaged, b"", 7)?);
     Ok(())
 }

@@ -74,4 +74,7 @@ returns g c =
     (made_by {a = a} c.requires.can (makes_ext c.in_ok-queue.ensures.makes) v.begins) v.meaning steps
     c.abandon.ensures.leaves c.send_rest.ensures.sends g.met.W.Sink.rule
     (g.met.W.Sink.is_state c.args.out.now) in
-    record { runs = runs_all all (evaluated_moves all steps.frames.is.share) }
+    record {
+      runs = runs_all all
+          (evaluated_moves all c.in_ok-queue.ensures.makes.moves steps.frames.is.share);
+    }

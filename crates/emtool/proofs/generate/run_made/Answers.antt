@@ -1,5 +1,3 @@
-use Rattle.std.proofs.Common.{◌<◌, arith}
-use Rattle.em_record.specs.Shape.{payload_of}
 use Rattle.em_space.specs.Seen.{seen}
 use Rattle.emtool.proofs.MadeRuns.{ended_made, made_cut, made_done, made_stops, shelf_made}
 use Rattle.emtool.proofs.generate.run_made.Goals as goal
@@ -12,8 +10,6 @@ returns-in_default g c =
     let r = run.ensures.runs in
     let s = seen g.D.Device.state a.rig.now in
     let t = seen g.D.Device.state run.new.rig in
-    let low = c.requires.unused.sound.shape.block_low in
-    let some : 0 < payload_of s.pool.shape = omega arith in
     let made = shelf_made a.task a.start a.count _ _ c.kind_for.ensures c.new-shelf.ensures in
     let e = ended_made a.task a.start a.count s.pool.shape s.blocks s.device t.device
     c.new-shelf.result run.new.shelf c.new-tally.result run.new.out run.result made c.new-tally.ensures
@@ -21,7 +17,7 @@ returns-in_default g c =
     record {
       goes = run.ensures.goes;
       runs = made_stops g.W.Sink g.met.W.Sink.rule a.task a.start a.count s t c.new-shelf.result
-          run.new.shelf c.new-tally.result run.new.out some a.out.now run.result
+          run.new.shelf c.new-tally.result run.new.out a.out.now run.result
           (g.met.W.Sink.is_state a.out.now) c.in_default.not-Done r.no_usage r.no_memory e r.caused;
     }
 
@@ -34,14 +30,12 @@ returns-in-Ok-clause-runs g c =
     let p = c.in-Ok.ensures in
     let s = seen g.D.Device.state a.rig.now in
     let t = seen g.D.Device.state run.new.rig in
-    let low = c.requires.unused.sound.shape.block_low in
-    let some : 0 < payload_of s.pool.shape = omega arith in
     let made = shelf_made a.task a.start a.count _ _ c.kind_for.ensures c.new-shelf.ensures in
     let e = ended_made a.task a.start a.count s.pool.shape s.blocks s.device t.device
     c.new-shelf.result run.new.shelf c.new-tally.result run.new.out run.result made c.new-tally.ensures
     r.ended in
     made_done g.W.Sink g.met.W.Sink.rule a.task a.start a.count s t c.new-shelf.result run.new.shelf
-    c.new-tally.result run.new.out some a.out.now c.print_summary.new.out run.result c.in-Done.is e
+    c.new-tally.result run.new.out a.out.now c.print_summary.new.out run.result c.in-Done.is e
     r.caused p.all p.cause.later (g.met.W.Sink.is_state a.out.now)
 
 -- the output failed at it
@@ -53,12 +47,10 @@ returns-in-Err-clause-runs g c =
     let p = c.in-Err.ensures in
     let s = seen g.D.Device.state a.rig.now in
     let t = seen g.D.Device.state run.new.rig in
-    let low = c.requires.unused.sound.shape.block_low in
-    let some : 0 < payload_of s.pool.shape = omega arith in
     let made = shelf_made a.task a.start a.count _ _ c.kind_for.ensures c.new-shelf.ensures in
     let e = ended_made a.task a.start a.count s.pool.shape s.blocks s.device t.device
     c.new-shelf.result run.new.shelf c.new-tally.result run.new.out run.result made c.new-tally.ensures
     r.ended in
     made_cut g.W.Sink g.met.W.Sink.rule a.task a.start a.count s t c.new-shelf.result run.new.shelf
-    c.new-tally.result run.new.out some a.out.now c.print_summary.new.out run.result c.in-Done.is e
+    c.new-tally.result run.new.out a.out.now c.print_summary.new.out run.result c.in-Done.is e
     r.caused p.part p.cause.later p.cause.failed (g.met.W.Sink.is_state a.out.now)

@@ -1,6 +1,6 @@
 use Rattle.em_space.specs.Seen.{seen}
 use Rattle.emtool.proofs.Moves.{queue_goes, queue_runs, unmade_runs}
-use Rattle.emtool.proofs.ServiceMoves.{map_runs}
+use Rattle.emtool.proofs.ServiceMoves.{map_runs, stab_runs}
 use Rattle.emtool.proofs.run.run_open.Goals as goal
 
 pub returns-in-Map-clause-runs : goal.returns-in-Map-clause-runs
@@ -24,3 +24,10 @@ returns-in-Err-clause-runs g c =
     rw (c.in-Queue.is, c.status_of.ensures.is) (unmade_runs g.met.W.Sink.rule
     (g.met.W.Sink.is_state c.args.out.now) c.requires.unused c.requires.none_moved
     c.in-Err.ensures.stops)
+
+pub returns-in-Stab-clause-runs : goal.returns-in-Stab-clause-runs
+returns-in-Stab-clause-runs g c =
+    rw c.in-Stab.is (stab_runs g.H.Shelf g.W.Sink (seen g.D.Device.state c.args.rig.now)
+    (seen g.D.Device.state c.run_service-in-Stab.new.rig) c.args.shelf.now c.args.out.now
+    c.run_service-in-Stab.new.shelf c.run_service-in-Stab.new.out c.run_service-in-Stab.result c.requires.unused
+    c.requires.none_moved c.run_service-in-Stab.ensures.runs)
