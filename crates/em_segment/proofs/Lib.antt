@@ -58,6 +58,5 @@ pub mod StripAreas
 pub mod StripLoads
 pub mod StripMade
 pub mod StripsMade
-pub mod Swaps
 pub mod Turning
 pub mod Writing

@@ -114,6 +114,11 @@ pub record StabCosts {Q : Type 0} (q : QueueGhosts Q) (x : Q) (s t : RigState) (
       ≤ max (s.most + ((q.counts x).blocks + (stab_account v).blocks))
       (s.used + (ending_most q.room s.pool.shape (q.counts last)
       + stab_room s.pool.shape (stab_size v cs)))
+  -- with the blocks of a queue that is new and states its room
+  pub room : IfSome q.room (λ f. (q.counts x).n ≡ 0
+      → t.most + ((q.counts x).blocks + (stab_account v).blocks)
+      ≤ max (s.most + ((q.counts x).blocks + (stab_account v).blocks))
+      (s.used + (f s.pool.shape (4 * stab_size v cs) + stab_room s.pool.shape (stab_size v cs))))
 
 -- It says that the device is full only if the room that is stated for it and its queue is more than all
 -- blocks.
