@@ -38,7 +38,7 @@ use Rattle.em_segment.proofs.Regrouping.{holds_first}
 use Rattle.em_segment.proofs.StripLoads.{load_some}
 
 -- no piece, no pair
-none_at : (ps : List Asked) → all_pairs ps [] ≡ []
+pub none_at : (ps : List Asked) → all_pairs ps [] ≡ []
 none_at [] = refl
 none_at (p ∷ ps) = none_at ps
 

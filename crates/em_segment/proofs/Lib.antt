@@ -49,6 +49,7 @@ pub mod StabCalls
 pub mod StabEnds
 pub mod StabFinish
 pub mod StabLaws
+pub mod StabNothing
 pub mod StabNumbers
 pub mod StabReported
 pub mod StabSorted

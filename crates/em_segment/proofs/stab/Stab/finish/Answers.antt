@@ -1,6 +1,7 @@
 use Rattle.std.proofs.Common.{◌∙◌}
 use Rattle.em_space.specs.Seen.{seen}
 use Rattle.em_segment.proofs.StabFinish.{answers_few, end_costs, end_serves, end_small, end_stops, finished, left_costs, left_stops, stops_small}
+use Rattle.em_segment.proofs.StabNothing.{end_asked, stops_asked}
 use Rattle.em_segment.proofs.stab.Stab.finish.Goals as goal
 
 pub end-requires-clause-free : goal.end-requires-clause-free
@@ -22,6 +23,7 @@ returns-in-Ok-end g c =
           (answers_few g.Q.Queue x y cs c.requires.sound c.requires.is e.answers z has) d
           (e.answers.session.touches.told ∙ z);
       full = λ z cs has. tt;
+      asked = tt;
     }
 
 pub returns-in-Err-end : goal.returns-in-Err-end
@@ -42,6 +44,7 @@ returns-in-Err-end g c =
       full = λ z cs has. end_small g.Q.Queue x y cs c.in-Err-end.fault (e.costs z cs has) e.answers
           (answers_few g.Q.Queue x y cs c.requires.sound c.requires.is e.answers z has) calls
           laws.rising_room f.full;
+      asked = end_asked g.Q.Queue x y c.in-Err-end.fault e.answers e.nothing f.full;
     }
 
 pub returns-in-Err : goal.returns-in-Err
@@ -60,4 +63,5 @@ returns-in-Err g c =
           (laws.spends y t e.frames (e.answers.touches.told ∙ z));
       full = λ z cs has. stops_small g.Q.Queue x y cs c.in-Err.fault (e.costs z cs has) calls
           laws.rising_room (e.full z cs has);
+      asked = stops_asked g.Q.Queue x y s c.args.self c.in-Err.fault e.nothing;
     }
