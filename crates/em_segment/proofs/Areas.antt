@@ -135,7 +135,7 @@ area_stops {p} {m} {f} {ks} {x} {s} {a} {b} {t} {e} held l d h g = record {
 }
 
 -- A writer beside an area that is lent, or given back.
-area_writer : {s a : RigState} {w : Writer} → IsWriter s w → Touches [] s a → a.pool.free ≡ s.pool.free
+pub area_writer : {s a : RigState} {w : Writer} → IsWriter s w → Touches [] s a → a.pool.free ≡ s.pool.free
     → WriterStays s a w
 area_writer {s} {a} {w} i g e = writer_stays [] s a w g (λ z. apart_none (writer_blocks s w))
     (record {

@@ -32,16 +32,13 @@ use Rattle.em_segment.specs.Chains.{chains_count, chains_lists}
 use Rattle.em_segment.specs.declared.node.Below.{Below}
 use Rattle.em_segment.proofs.Alikes.{alike_length, alike_same}
 use Rattle.em_segment.proofs.CallSizes.{call_within, max_within}
+use Rattle.em_segment.proofs.Gets.{nil_of}
 use Rattle.em_segment.proofs.Parts.{reports_pairs, reports_stop, reports_then, shift_reports, shift_stops}
 use Rattle.em_segment.proofs.Regrouping.{holds_first}
 use Rattle.em_segment.proofs.StripLoads.{load_some}
 
-nil_of : (xs : List Record) → length xs ≡ 0 → xs ≡ []
-nil_of [] e = refl
-nil_of (x ∷ xs) e = absurd (omega (arith, e))
-
 -- no piece, no pair
-none_at : (ps : List Asked) → all_pairs ps [] ≡ []
+pub none_at : (ps : List Asked) → all_pairs ps [] ≡ []
 none_at [] = refl
 none_at (p ∷ ps) = none_at ps
 

@@ -5,6 +5,7 @@ use Rattle.em_space.specs.Held.{Holds}
 use Rattle.em_space.specs.Rig.{BlockCause, Goes, RigState, Sound}
 use Rattle.em_space.specs.declared.fault.EmFault.{EmFault}
 use Rattle.em_space.proofs.Ledgers.{full_never}
+use Rattle.em_space.proofs.Lists.{distinct_apart}
 use Rattle.em_space.proofs.Paying.{pays_kept, pays_more}
 use Rattle.em_space.proofs.Runs.{runs_none, runs_of}
 use Rattle.em_space.proofs.Steps.{block_cause}
@@ -16,7 +17,6 @@ use Rattle.em_segment.specs.Chains.{AreChains, chains_blocks, chains_held, chain
 use Rattle.em_segment.specs.Reports.{DropsTo, Shifts, StopsShifting}
 use Rattle.em_segment.specs.declared.list.Listed.{Listed}
 use Rattle.em_segment.proofs.Chains.{blocks_append, chains_stay, held_append}
-use Rattle.em_segment.proofs.NodeParts.{held_apart}
 use Rattle.em_segment.proofs.Parts.{shift_right, shift_right_stops, shifting_wider, shifts_stop, shifts_then, shifts_wider}
 
 -- A chain was released,
@@ -123,7 +123,7 @@ drops_next {s} {t} {u} {all} {left} rest c e h g =
     let z : IsTrue s.device.told = sym h.shifts.session.touches.told ∙ y in
     rw blocks at (h.shifts.session.holds z) in
     let st = chains_stay (chain_blocks t c) t u (chains_in rest) g.session.touches
-    (λ y. held_apart xs (chain_blocks t c) y (n y)) is.0 in
+    (λ y. distinct_apart xs (chain_blocks t c) ((n y).distinct y)) is.0 in
     let next = shift_right (2 * c.blocks) xs (chains_blocks u (chains_in rest)) (chains_held (chains_in rest)) n
     st.blocks g in
     let nil = append-nil (chains_blocks u (chains_in rest)) in

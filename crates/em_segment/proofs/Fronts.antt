@@ -2,7 +2,6 @@
 use Rattle.std.proofs.Common.{◌≡◌, ℕ, ◌+◌, ◌-◌, ◌*◌, ◌<◌, ◌≤◌, min, Bool, true, false, List, [], ◌∷◌, ◌++◌, length, refl, sym, ap, subst, ◌∙◌, arith, IsTrue, ⊎_elim, length-append, Result, Ok, Err, IsErrAnd}
 use Rattle.std.proofs.Math.Nat.{mul-add, mul-le-mul_right, mul_comm, div-mul-le_self}
 use Rattle.std.proofs.lemmas.Bool.{cases_Bool, cases_lt}
-use Rattle.std.proofs.lemmas.Bool.Decides.{nat_tests}
 use Rattle.std.proofs.lemmas.List.{append-nil, drop_all}
 use Rattle.std.proofs.lemmas.List.Concat.{flat_map-append}
 use Rattle.std.specs.Prelude.{if◌then◌else◌, nat_lt}
@@ -39,6 +38,7 @@ use Rattle.em_segment_model.specs.Loads.{front_of, late_pairs, list_pairs}
 use Rattle.em_segment_model.proofs.Loads.{front_ends, front_goes, front_paid}
 use Rattle.em_segment.specs.Lists.{CanReportList, FrontTo, NextTo, ReadsAll, ReadsBeside, ReadsEarly, ReadsFront, ReadsLate, ReadsPairs, ReportsListTo, StopsFront, StopsReading, front_pairs, latest}
 use Rattle.em_segment.specs.Pairs.{IsPairs, StopsPairs, WritesPairs}
+use Rattle.em_segment.proofs.Late.{is_less}
 use Rattle.em_segment.proofs.Reading.{reads_beside, reads_none, reads_one, reads_then, reads_writes, stops_read, stops_reading_more, stops_reading_then, stops_write}
 use Rattle.em_segment.proofs.Writing.{pairs_wider, stops_more}
 
@@ -239,9 +239,6 @@ front_parts load xs ys h =
     let p = ap (λ (zs : List Record). length zs) (pairs_append load xs (front_of (latest load) ys)) in
     let l = length-append (list_pairs load xs) (list_pairs load (front_of (latest load) ys)) in
     omega (arith, f, p, l)
-
-is_less : (n b : ℕ) → n < b → nat_lt n b ≡ true
-is_less n b h = grind (arith, nat_tests)
 
 -- the pairs of the next piece are among them
 front_first : (load : List Record) (x : Record) (ys : List Record) → x.c < latest load

@@ -169,7 +169,7 @@ load_err n s t r q old new (Ok x) e h k = absurd h
 load_err n s t r q old new (Err f) e h k =
     subst (λ (m : EmFault). StopsSome s t r m) (sym h) k
 
-nil_of : (xs : List Record) → length xs ≡ 0 → xs ≡ []
+pub nil_of : (xs : List Record) → length xs ≡ 0 → xs ≡ []
 nil_of [] e = refl
 nil_of (x ∷ xs) e = absurd (omega (arith, e))
 

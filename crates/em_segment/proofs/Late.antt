@@ -11,7 +11,8 @@ use Rattle.em_segment_model.specs.Loads.{before_of, late_pairs}
 use Rattle.em_segment_model.proofs.Loads.{late_ends, late_next}
 use Rattle.em_segment.specs.Lists.{latest}
 
-is_less : (n b : ℕ) → n < b → nat_lt n b ≡ true
+-- the test says what holds
+pub is_less : (n b : ℕ) → n < b → nat_lt n b ≡ true
 is_less n b h = grind (arith, nat_tests)
 
 -- the next point was asked after the piece

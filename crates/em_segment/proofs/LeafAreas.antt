@@ -12,26 +12,18 @@ use Rattle.em_space.specs.declared.fault.EmFault.{EmFault}
 use Rattle.em_space.proofs.Held.{apart_none}
 use Rattle.em_space.proofs.Sessions.{session_still}
 use Rattle.em_chain.specs.Chain.{ChainStays, chain_blocks, chain_items, payload_in}
-use Rattle.em_chain.specs.Writer.{IsWriter, WriterStays, filled, writer_blocks}
+use Rattle.em_chain.specs.Writer.{WriterStays, filled, writer_blocks}
 use Rattle.em_chain.specs.declared.chain.Chain.{Chain}
 use Rattle.em_chain.specs.declared.writer.Writer.{Writer}
 use Rattle.em_chain.proofs.Keeps.{payload_kept}
-use Rattle.em_chain.proofs.Laws.{chain_stays, writer_stays}
+use Rattle.em_chain.proofs.Laws.{chain_stays}
 use Rattle.em_chain.proofs.Sessions.{wrote_stays, wrote_then}
 use Rattle.em_segment_model.specs.Alike.{Alike}
 use Rattle.em_segment_model.specs.Points.{interval_in}
 use Rattle.em_segment.specs.Answers.{Answered, AnswersTo, IsCall, StopsAnswering, WithinCall, call_blocks, due, weight}
 use Rattle.em_segment.specs.Chains.{IsPackedChain}
 use Rattle.em_segment.specs.Reports.{unstored_most}
-use Rattle.em_segment.proofs.Areas.{GivesArea, LendsArea, area_pairs, area_runs, area_stops}
-
-area_writer : {s a : RigState} {w : Writer} → IsWriter s w → Touches [] s a → a.pool.free ≡ s.pool.free
-    → WriterStays s a w
-area_writer {s} {a} {w} i g e = writer_stays [] s a w g (λ z. apart_none (writer_blocks s w))
-    (record {
-      len_is = i.frame.len_is ∙ ap (λ (n : ShapeNumbers). n.block) (sym g.shape);
-      out = rw (g.shape, e) i.frame.out;
-    }) i
+use Rattle.em_segment.proofs.Areas.{GivesArea, LendsArea, area_pairs, area_runs, area_stops, area_writer}
 
 chain_there : {s a : RigState} {c : Chain} → IsPackedChain s c → Touches [] s a → ChainStays s a c
 chain_there {s} {a} {c} i g = chain_stays [] s a c g (λ z. apart_none (chain_blocks s c)) i.is

@@ -1,5 +1,5 @@
 -- All pieces of a chain against a leaf's load, while a frame is lent for the reader.
-use Rattle.std.proofs.Common.{◌≡◌, ℕ, ◌+◌, ◌<◌, ◌≤◌, min, true, List, [], ◌∷◌, ◌++◌, length, refl, sym, ap, subst, ◌∙◌, arith, IsTrue, Result, Ok, Err}
+use Rattle.std.proofs.Common.{◌≡◌, ℕ, ◌+◌, ◌<◌, ◌≤◌, min, true, List, [], ◌++◌, length, sym, ap, subst, ◌∙◌, arith, IsTrue, Result, Ok, Err}
 use Rattle.std.proofs.lemmas.List.{append-nil}
 use Rattle.em_record.specs.Shape.{ShapeNumbers}
 use Rattle.em_record.specs.declared.record.Record.{Record}
@@ -31,11 +31,8 @@ use Rattle.em_chain.proofs.Writings.{cause_still, halts_between, writer_lent}
 use Rattle.em_segment_model.specs.Loads.{leaf_list}
 use Rattle.em_segment.specs.Leaves.{CanReportPieces, ReportsPieces, ReportsPiecesTo, StopsPieces, StopsReportingPieces, TakesBeside, TakesPieces, TakesPiecesTo}
 use Rattle.em_segment.specs.Pairs.{IsPairs}
+use Rattle.em_segment.proofs.Gets.{nil_of}
 use Rattle.em_segment.proofs.Regrouping.{SameTally, off_same, session_same, tally_swap}
-
-nil_of : (xs : List Record) → length xs ≡ 0 → xs ≡ []
-nil_of [] e = refl
-nil_of (x ∷ xs) e = absurd (omega (arith, e))
 
 module _ {s a : RigState} {c : Chain} {w : Writer} {r : Reader} (can : CanReportPieces s c w)
     (l : LendsFrame s a) (m : Unmoved s a) (o : Opens s a c true r) where

@@ -1,5 +1,5 @@
 -- The pairs of a leaf's load with one piece, as they are written.
-use Rattle.std.proofs.Common.{◌≡◌, ℕ, ◌+◌, ◌<◌, ◌≤◌, Bool, true, false, List, [], ◌∷◌, length, take, get_or, sym, subst, arith, Result}
+use Rattle.std.proofs.Common.{◌≡◌, ℕ, ◌+◌, ◌<◌, ◌≤◌, Bool, false, List, [], ◌∷◌, length, take, get_or, sym, subst, arith, Result}
 use Rattle.std.proofs.lemmas.Bool.Decides.{nat_tests}
 use Rattle.std.proofs.lemmas.List.{take_all}
 use Rattle.std.specs.Prelude.{if◌then◌else◌, nat_lt}
@@ -13,11 +13,9 @@ use Rattle.em_chain.specs.declared.writer.Writer.{Writer}
 use Rattle.em_segment_model.specs.Loads.{leaf_pairs}
 use Rattle.em_segment.specs.Leaves.{StandsFrom, later_pair}
 use Rattle.em_segment.specs.Pairs.{IsPairs, StopsPairs, WritesPairs, WritesTo}
+use Rattle.em_segment.proofs.Late.{is_less}
 use Rattle.em_segment.proofs.LeafPairs.{range_begins, range_ends, range_next, range_within}
 use Rattle.em_segment.proofs.Writing.{pairs_none, pairs_then, pairs_wider, stops_more, stops_then}
-
-is_less : (a b : ℕ) → a < b → nat_lt a b ≡ true
-is_less a b h = grind (arith, nat_tests)
 
 not_less : (a b : ℕ) → b ≤ a → nat_lt a b ≡ false
 not_less a b h = grind (arith, nat_tests)

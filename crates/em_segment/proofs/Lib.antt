@@ -49,6 +49,7 @@ pub mod StabCalls
 pub mod StabEnds
 pub mod StabFinish
 pub mod StabLaws
+pub mod StabNothing
 pub mod StabNumbers
 pub mod StabReported
 pub mod StabSorted
@@ -58,6 +59,5 @@ pub mod StripAreas
 pub mod StripLoads
 pub mod StripMade
 pub mod StripsMade
-pub mod Swaps
 pub mod Turning
 pub mod Writing

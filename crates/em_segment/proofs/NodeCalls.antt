@@ -27,9 +27,10 @@ use Rattle.em_segment.specs.declared.node.Below.{Below}
 use Rattle.em_segment.specs.declared.splitting.Strips.{Strips}
 use Rattle.em_segment.proofs.Chains.{chains_length}
 use Rattle.em_segment.proofs.NodeBounds.{strips_reached}
-use Rattle.em_segment.proofs.NodeParts.{held_left, held_right, strips_reportable}
+use Rattle.em_segment.proofs.NodeParts.{strips_reportable}
 use Rattle.em_segment.proofs.NodeStops.{NodeSoFar}
 use Rattle.em_segment.proofs.Parts.{reports_holds}
+use Rattle.em_segment.proofs.Regrouping.{holds_first, holds_second}
 
 -- A writer has its frame still, if as many are free.
 pub frame_kept : (s t : RigState) (w : Writer) → SameFrames s.pool t.pool → WriterHasFrame s w
@@ -62,9 +63,9 @@ pub node_listed : {most n : ℕ} {s v : RigState} {points pieces : Chain} {w k :
     → NodeSoFar most n s v points pieces strips l w k xs → IsTrue v.device.told
     → Holds v (chains_blocks v (slabs_in l))
 node_listed {most} {n} {s} {v} {points} {pieces} {w} {k} {strips} {xs} l h y =
-    held_right (chains_blocks v (down_in l)) (chains_blocks v (slabs_in l))
-    (held_right (chains_blocks v strips) (lists_blocks v l)
-    (held_left (chains_blocks v strips ++ lists_blocks v l) (writer_blocks v k)
+    holds_second (chains_blocks v (down_in l)) (chains_blocks v (slabs_in l))
+    (holds_second (chains_blocks v strips) (lists_blocks v l)
+    (holds_first (chains_blocks v strips ++ lists_blocks v l) (writer_blocks v k)
     (reports_holds h.reports y)))
 
 -- as many of multislabs as the strips have

@@ -21,8 +21,9 @@ use Rattle.em_segment.specs.Reports.{StopsShifting}
 use Rattle.em_segment.specs.Strips.{ReportsStrips, StopsStrips}
 use Rattle.em_segment.specs.declared.dealing.Lists.{Lists}
 use Rattle.em_segment.proofs.Alikes.{alike_length}
+use Rattle.em_segment.proofs.CallSizes.{chain_filled}
 use Rattle.em_segment.proofs.NodeBounds.{NodeNumbers, node_room, node_within}
-use Rattle.em_segment.proofs.NodeSizes.{chain_fills, lists_most}
+use Rattle.em_segment.proofs.NodeSizes.{lists_most}
 use Rattle.em_segment.proofs.NodeStands.{NodeStands, same_weight, down_of, stands_ascends, stands_due, stands_full, stands_some, stands_strips}
 use Rattle.em_segment.proofs.NodeStops.{NodeSoFar}
 use Rattle.em_segment.proofs.Parts.{reports_stop, shift_right_stops, shift_stops, writes_stops}
@@ -44,7 +45,7 @@ module _ {most : ℕ} {s u : RigState} {points pieces : Chain} {w : Writer} {str
         few = lists_most (fan_root s.pool.shape) (length strips) h.few;
         pieces_most = omega (arith, len, weigh);
         down_most = rw (same_weight call h y) at down;
-        pieces = chain_fills s pieces call.sound y call.pieces_are;
+        pieces = chain_filled call.sound call.pieces_are y;
         lists = omega (arith, full);
       }
 

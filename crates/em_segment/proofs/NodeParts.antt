@@ -1,6 +1,6 @@
 -- The parts of a node: points are split, pieces dealt, pairs reported, and the multislabs' lists dropped.
 -- What each leaves alone stays.
-use Rattle.std.proofs.Common.{◌≡◌, ℕ, ◌+◌, ◌*◌, ◌^◌, List, [], ◌∷◌, ◌++◌, length, map, refl, sym, subst, ◌∙◌, arith, IsTrue}
+use Rattle.std.proofs.Common.{◌≡◌, ℕ, ◌+◌, ◌*◌, ◌^◌, List, [], ◌∷◌, ◌++◌, length, map, refl, sym, subst, arith, IsTrue}
 use Rattle.std.proofs.lemmas.List.{append-nil}
 use Rattle.std.specs.Prelude.{filter}
 use Rattle.em_record.specs.declared.record.Record.{Record}
@@ -8,12 +8,11 @@ use Rattle.em_model.specs.Ascending.{Ascend}
 use Rattle.em_model.specs.Stab.{NumberedInterval}
 use Rattle.em_space.specs.Held.{Apart, Holds}
 use Rattle.em_space.specs.Rig.{RigState}
-use Rattle.em_space.proofs.Lists.{apart_left, apart_right, apart_sym, distinct_apart, distinct_left, distinct_right, in_use_left, in_use_right}
+use Rattle.em_space.proofs.Lists.{apart_left, apart_right, apart_sym, distinct_apart}
 use Rattle.em_chain.specs.Chain.{ChainStays, chain_blocks}
 use Rattle.em_chain.specs.Writer.{writer_blocks}
 use Rattle.em_chain.specs.declared.chain.Chain.{Chain}
 use Rattle.em_chain.specs.declared.writer.Writer.{Writer}
-use Rattle.em_chain.proofs.Laws.{chain_stays}
 use Rattle.em_segment_model.specs.Points.{interval_in}
 use Rattle.em_segment_model.specs.Reports.{is_listed, slab_lists}
 use Rattle.em_segment_model.specs.Slabs.{Slab, slabs_from}
@@ -28,46 +27,27 @@ use Rattle.em_segment.specs.Splits.{Splits, strips_in}
 use Rattle.em_segment.specs.Strips.{AreNumbered, CanReportStrips}
 use Rattle.em_segment.specs.declared.dealing.Lists.{Lists}
 use Rattle.em_segment.specs.declared.splitting.Strips.{Strips}
+use Rattle.em_segment.proofs.BelowLists.{packed_stays}
 use Rattle.em_segment.proofs.Chains.{chains_stay}
+use Rattle.em_segment.proofs.Discards.{pieces_stay}
 use Rattle.em_segment.proofs.Parts.{shift_left, shift_reports, shift_right, writes_reports}
+use Rattle.em_segment.proofs.Regrouping.{holds_first, holds_second}
 
--- Of two lists that are held each is, and they are apart.
-pub held_left : {s : RigState} (xs ys : List ℕ) → Holds s (xs ++ ys) → Holds s xs
-held_left {s} xs ys h = record {
-  in_use = in_use_left s xs ys h.in_use;
-  distinct = λ z. distinct_left xs ys (h.distinct z);
-}
-
-pub held_right : {s : RigState} (xs ys : List ℕ) → Holds s (xs ++ ys) → Holds s ys
-held_right {s} xs ys h = record {
-  in_use = in_use_right s xs ys h.in_use;
-  distinct = λ z. distinct_right xs ys (h.distinct z);
-}
-
+-- Of two lists that are held neither has a block of the other.
 pub held_apart : {s : RigState} (xs ys : List ℕ) → IsTrue s.device.told → Holds s (xs ++ ys)
     → Apart xs ys
 held_apart xs ys z h = distinct_apart xs ys (h.distinct z)
 
--- A chain that a part leaves alone stays packed.
-pub packed_stays : {s t : RigState} {c : Chain} → s.device.told ≡ t.device.told → ChainStays s t c
-    → IsPackedChain s c → IsPackedChain t c
-packed_stays e st i = record {
-  is = st.is;
-  packed = λ y. let z = e ∙ y in st.packed z (i.packed z);
-  few = i.few;
-}
-
 -- Points were split, while the pieces stayed.
 module _ {s t : RigState} {points pieces : Chain} {w : Writer} {most : ℕ} {z : Strips}
     (call : IsCall s points pieces w) (sp : Splits most s t points z) where
-  pub pieces_stay : ChainStays s t pieces
-  pieces_stay = chain_stays (chain_blocks s points) s t pieces sp.shifts.session.touches
-      (λ y. apart_sym (chain_blocks s points) (chain_blocks s pieces)
-      (held_apart (chain_blocks s points) (chain_blocks s pieces) y
-      (held_left (call_blocks s points pieces) (writer_blocks s w) (call.blocks y)))) call.pieces_are.is
+  pub pieces_kept : ChainStays s t pieces
+  pieces_kept = pieces_stay points pieces call.pieces_are.is
+      (λ y. holds_first (call_blocks s points pieces) (writer_blocks s w) (call.blocks y))
+      sp.shifts.session.touches
 
   pub pieces_packed : IsPackedChain t pieces
-  pieces_packed = packed_stays (sym sp.shifts.session.touches.told) pieces_stay call.pieces_are
+  pieces_packed = packed_stays call.pieces_are sp.shifts.session.touches pieces_kept
 
   pub split_part : Reports (points.blocks + chains_held (strips_in z) + pieces.blocks)
       (2 * points.blocks + 2 * chains_held (strips_in z) + length z.points.items)
@@ -76,8 +56,8 @@ module _ {s t : RigState} {points pieces : Chain} {w : Writer} {most : ℕ} {z :
   split_part = shift_reports call.pairs call.blocks (shift_left
       (2 * points.blocks + 2 * chains_held (strips_in z) + length z.points.items)
       (chain_blocks s pieces) (chain_blocks t pieces) pieces.blocks
-      (λ y. held_left (call_blocks s points pieces) (writer_blocks s w) (call.blocks y))
-      pieces_stay.blocks sp.shifts)
+      (λ y. holds_first (call_blocks s points pieces) (writer_blocks s w) (call.blocks y))
+      pieces_kept.blocks sp.shifts)
 
 -- Pieces were dealt, while the strips stayed.
 module _ {t u : RigState} {pieces : Chain} {w : Writer} {zs : List Span} {l : Lists}
@@ -88,7 +68,7 @@ module _ {t u : RigState} {pieces : Chain} {w : Writer} {zs : List Span} {l : Li
   pub strips_kept : ChainsStay t u strips
   strips_kept = chains_stay (chain_blocks t pieces) t u strips de.shifts.session.touches
       (λ y. held_apart (chains_blocks t strips) (chain_blocks t pieces) y
-      (held_left (chains_blocks t strips ++ chain_blocks t pieces) (writer_blocks t w) (holds y))) are
+      (holds_first (chains_blocks t strips ++ chain_blocks t pieces) (writer_blocks t w) (holds y))) are
 
   pub deal_part : Reports (chains_held strips + (pieces.blocks + lists_held l))
       (dealing_moves zs pieces l) (chains_blocks t strips ++ chain_blocks t pieces)
@@ -97,7 +77,7 @@ module _ {t u : RigState} {pieces : Chain} {w : Writer} {zs : List Span} {l : Li
   deal_part = shift_reports pairs holds (shift_right (dealing_moves zs pieces l) (chains_blocks t strips)
       (chains_blocks u strips)
       (chains_held strips)
-      (λ y. held_left (chains_blocks t strips ++ chain_blocks t pieces) (writer_blocks t w) (holds y))
+      (λ y. holds_first (chains_blocks t strips ++ chain_blocks t pieces) (writer_blocks t w) (holds y))
       strips_kept.blocks de.shifts)
 
 -- the lists of multislabs are in the order of their numbers
@@ -184,7 +164,7 @@ module _ {v x : RigState} {p m : ℕ} {w : Writer} (e : ℕ) (strips down slabs 
     (h : Shifts p e (chains_blocks v slabs) [] m 0 v x) where
   all_held : IsTrue v.device.told
       → Holds v (chains_blocks v strips ++ (chains_blocks v down ++ chains_blocks v slabs))
-  all_held y = held_left (chains_blocks v strips ++ (chains_blocks v down ++ chains_blocks v slabs))
+  all_held y = holds_first (chains_blocks v strips ++ (chains_blocks v down ++ chains_blocks v slabs))
       (writer_blocks v w) (holds y)
 
   strips_gone : IsTrue v.device.told → Apart (chains_blocks v strips) (chains_blocks v slabs)
@@ -196,7 +176,7 @@ module _ {v x : RigState} {p m : ℕ} {w : Writer} (e : ℕ) (strips down slabs 
 
   down_gone : IsTrue v.device.told → Apart (chains_blocks v down) (chains_blocks v slabs)
   down_gone y = held_apart (chains_blocks v down) (chains_blocks v slabs) y
-      (held_right (chains_blocks v strips) (chains_blocks v down ++ chains_blocks v slabs) (all_held y))
+      (holds_second (chains_blocks v strips) (chains_blocks v down ++ chains_blocks v slabs) (all_held y))
 
   pub strips_left : ChainsStay v x strips
   strips_left = chains_stay (chains_blocks v slabs) v x strips h.session.touches strips_gone are
@@ -209,7 +189,7 @@ module _ {v x : RigState} {p m : ℕ} {w : Writer} (e : ℕ) (strips down slabs 
       (chains_blocks x strips ++ chains_blocks x down) (n + (k + m)) (n + k) v x w w []
   drop_part n k =
       let one = shift_right e (chains_blocks v down) (chains_blocks x down) k
-      (λ y. held_right (chains_blocks v strips) (chains_blocks v down ++ chains_blocks v slabs)
+      (λ y. holds_second (chains_blocks v strips) (chains_blocks v down ++ chains_blocks v slabs)
       (all_held y)) down_left.blocks h in
       let all = shift_right e (chains_blocks v strips) (chains_blocks x strips) n all_held
       strips_left.blocks one in

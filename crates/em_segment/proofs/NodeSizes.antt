@@ -1,7 +1,6 @@
 -- How many blocks and records the chains of a node have, over a device that tells.
 use Rattle.std.proofs.Common.{◌≡◌, ℕ, ◌+◌, ◌*◌, ◌≤◌, List, [], ◌∷◌, length, map, refl, ap, ◌∙◌, arith, IsTrue, length-append}
 use Rattle.std.proofs.Math.Nat.{mul-le-mul}
-use Rattle.std.proofs.lemmas.List.{length-map}
 use Rattle.std.proofs.lemmas.List.Sums.{sum_by-cons}
 use Rattle.std.specs.List.{flat_map, sum_by}
 use Rattle.std.specs.Prelude.{filter}
@@ -10,9 +9,7 @@ use Rattle.em_record.specs.declared.record.Record.{Record}
 use Rattle.em_space.specs.Rig.{RigState, Sound}
 use Rattle.em_chain.specs.Chain.{chain_items, payload_in}
 use Rattle.em_chain.specs.Counts.{ceiling}
-use Rattle.em_chain.specs.WritersSession.{Sent}
 use Rattle.em_chain.specs.declared.chain.Chain.{Chain}
-use Rattle.em_chain.proofs.Counts.{packed_blocks}
 use Rattle.em_chain.proofs.Readers.{length_items}
 use Rattle.em_segment_model.specs.Places.{places_of}
 use Rattle.em_segment_model.specs.Points.{joined}
@@ -28,25 +25,16 @@ use Rattle.em_segment_model.proofs.Places.{slabs_from-length}
 use Rattle.em_segment.specs.Chains.{AreChains, IsPackedChain, chains_count, chains_held, chains_lists}
 use Rattle.em_segment.specs.Deals.{lists_of, sent_all, sent_places}
 use Rattle.em_segment.specs.Splits.{AreCut}
+use Rattle.em_segment.proofs.CallSizes.{chain_filled}
 use Rattle.em_segment.proofs.Fronts.{ceiling_below}
+use Rattle.em_segment.proofs.Sending as sending
 
--- a chain has less than a block more than its records fill,
-pub chain_fills : (s : RigState) (c : Chain) → Sound s → IsTrue s.device.told → IsPackedChain s c
-    → c.blocks * payload_in s ≤ c.count + payload_in s
-chain_fills s c h z i =
-    let low = h.shape.block_low in
-    let P = payload_in s in
-    let e = packed_blocks s c low i.is z (i.packed z) in
-    let t = ceiling_below c.count P (omega (arith, low)) in
-    let m : c.blocks * P ≡ ceiling c.count P * P = ap (λ (n : ℕ). n * P) e in
-    omega (arith, m, t)
-
--- and so has each of several
+-- Each of several chains has less than a block more than its records fill.
 pub chains_fill : (s : RigState) (cs : List Chain) → Sound s → IsTrue s.device.told → AreChains s cs
     → chains_held cs * payload_in s ≤ chains_count cs + length cs * payload_in s
 chains_fill s [] h z i = omega arith
 chains_fill s (c ∷ cs) h z (one, rest) =
-    let a = chain_fills s c h z one in
+    let a = chain_filled h one z in
     let b = chains_fill s cs h z rest in
     omega (arith, a, b)
 
@@ -76,7 +64,7 @@ sent_length zs [] = refl
 sent_length zs (r ∷ pieces) =
     let a = length-append (sent_places r (places_of zs r)) (sent_all zs pieces) in
     let b = length-append (places_of zs r) (flat_map (places_of zs) pieces) in
-    let c = length-map {B = Sent} (places_of zs r) (λ (place : ℕ). record { to = place; item = r }) in
+    let c = sending.sent_length r (places_of zs r) in
     let d = sent_length zs pieces in
     omega (arith, a, b, c, d)
 
@@ -117,7 +105,7 @@ pub strip_blocks : (s t : RigState) (points : Chain) (cs : List Chain) → Sound
     (length cs)
 strip_blocks s t points cs h g p z y i are count few = record {
   few = few;
-  points = chain_fills s points h z i;
+  points = chain_filled h i z;
   strips = let a = rw p at (chains_fill t cs g y are) in omega (arith, a, count);
 }
 
@@ -145,7 +133,7 @@ list_blocks s pieces pss room z h told i some a long few most =
       few = lists_most (fan_root s.pool.shape) z few;
       pieces_most = omega (arith, len, y);
       down_most = node_down pss items some a;
-      pieces = chain_fills s pieces h told i;
+      pieces = chain_filled h i told;
       lists = omega (arith, m, t, sent, len);
     }
   where

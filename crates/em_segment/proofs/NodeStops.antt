@@ -30,10 +30,11 @@ use Rattle.em_segment.specs.Splits.{Splits, strips_in}
 use Rattle.em_segment.specs.Strips.{ReportsStrips}
 use Rattle.em_segment.specs.declared.dealing.Lists.{Lists}
 use Rattle.em_segment.specs.declared.splitting.Strips.{Strips}
+use Rattle.em_segment.proofs.CallSizes.{chain_filled}
 use Rattle.em_segment.proofs.Chains.{chains_length}
 use Rattle.em_segment.proofs.NodeBounds.{NodeNumbers, node_room, node_within, split_numbers, split_room}
-use Rattle.em_segment.proofs.NodeParts.{deal_part, down_stay_on, pieces_stay, report_part, slabs_stay_on, split_part, strips_kept, strips_stay_on}
-use Rattle.em_segment.proofs.NodeSizes.{chain_fills, cut_some, list_blocks, strip_blocks}
+use Rattle.em_segment.proofs.NodeParts.{deal_part, down_stay_on, pieces_kept, report_part, slabs_stay_on, split_part, strips_kept, strips_stay_on}
+use Rattle.em_segment.proofs.NodeSizes.{cut_some, list_blocks, strip_blocks}
 use Rattle.em_segment.proofs.NodeStands.{NodeStands, down_of, stands_dealt, stands_on}
 use Rattle.em_segment.proofs.Parts.{reports_holds, reports_pairs, reports_stop, reports_then, shift_left_stops, shift_right_stops, shift_stops}
 
@@ -55,8 +56,8 @@ node_unsplit {s} {t} {points} {pieces} {w} {fault} call big h =
           (shift_left_stops (chain_blocks s pieces) pieces.blocks h);
       few = λ y. omega arith;
       within = λ y.
-          let x = chain_fills s points call.sound y call.points_are in
-          let z = chain_fills s pieces call.sound y call.pieces_are in
+          let x = chain_filled call.sound call.points_are y in
+          let z = chain_filled call.sound call.pieces_are y in
           let len = length_items s pieces call.pieces_are.is y in
           let l = pieces_weigh (chain_items s points) (chain_items s pieces) in
           let n = split_numbers k (wide_of s.pool.shape) s.pool.shape.block (payload_in s)
@@ -98,7 +99,7 @@ node_undealt {s} {t} {u} {points} {pieces} {w} {most} {z} {fault} call big sp fe
           let a = strip_blocks s t points (strips_in z) call.sound sound same y told call.points_are
           sp.are sp.count_is few in
           let spans : zs ≡ map value_span pss = sp.spans y in
-          let items = (pieces_stay call sp).items y in
+          let items = (pieces_kept call sp).items y in
           let room : h.room
           ≤ ceiling (length (sent_all (map value_span pss) (chain_items s pieces))) (payload_in s)
           + lists_of (length (strips_in z)) =
@@ -169,7 +170,7 @@ node_dealt {s} {t} {u} {points} {pieces} {w} {most} {z} {l} call sp few de =
     let count : length z.points.items ≡ length (strips_in z) = sym (chains_length z.points.items) in
     let long : lists_of (length zs) ≡ lists_of (length (strips_in z)) = ap lists_of (sp.len ∙ count) in
     record {
-      stands = stands_dealt de.shifts.session.sound sp few (pieces_stay call sp) de kept;
+      stands = stands_dealt de.shifts.session.sound sp few (pieces_kept call sp) de kept;
       pairs = reports_pairs call.pairs all;
       peak = max (points.blocks + out + pieces.blocks) (out + (pieces.blocks + lists_held l));
       extra = (2 * points.blocks + 2 * out + length z.points.items)

@@ -7,7 +7,7 @@ use Rattle.em_space.specs.Free.{AreDistinct, Off}
 use Rattle.em_space.specs.Held.{AllInUse, Holds}
 use Rattle.em_space.specs.Ledger.{Session}
 use Rattle.em_space.specs.Rig.{Goes, InUse, RigState}
-use Rattle.em_space.proofs.Lists.{distinct_left, in_use_left}
+use Rattle.em_space.proofs.Lists.{distinct_left, distinct_right, in_use_left, in_use_right}
 use Rattle.em_space.proofs.Steps.{touches_wider}
 
 -- 1 for a number that is the one looked for
@@ -124,6 +124,12 @@ holds_first {s} xs ys h = record {
   distinct = λ z. distinct_left xs ys (h.distinct z);
 }
 
+pub holds_second : {s : RigState} (xs ys : List ℕ) → Holds s (xs ++ ys) → Holds s ys
+holds_second {s} xs ys h = record {
+  in_use = in_use_right s xs ys h.in_use;
+  distinct = λ z. distinct_right xs ys (h.distinct z);
+}
+
 -- as is what a session leaves,
 pub session_same : {held ks : List ℕ} {s t : RigState} (js : List ℕ) → Session held s t ks
     → (IsTrue s.device.told → SameTally ks js) → Session held s t js
@@ -151,3 +157,13 @@ goes_same {held} {s} {t} gs h e = record {
   touches = touches_wider gs held s t h.touches (λ z k u o. off_same k gs held (e z) o);
   frames = h.frames;
 }
+
+-- The last two of three values change places.
+pub session_turned : {held : List ℕ} {s t : RigState} (xs ys zs : List ℕ)
+    → Session held s t ((xs ++ ys) ++ zs) → Session held s t (xs ++ (zs ++ ys))
+session_turned xs ys zs h = session_same (xs ++ (zs ++ ys)) h (λ z j.
+    let a = tally_append j (xs ++ ys) zs in
+    let b = tally_append j xs ys in
+    let c = tally_append j xs (zs ++ ys) in
+    let d = tally_append j zs ys in
+    omega (arith, a, b, c, d))

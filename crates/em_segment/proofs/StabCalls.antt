@@ -13,6 +13,7 @@ use Rattle.em_space.specs.Held.{Apart}
 use Rattle.em_space.specs.Ledger.{Costs, Runs}
 use Rattle.em_space.specs.Rig.{Cause, Goes, RigState, Sound}
 use Rattle.em_space.specs.declared.fault.EmFault.{EmFault}
+use Rattle.em_space.specs.declared.fault.EmFault.TheVariants.{DeviceFault, Full, Damaged}
 use Rattle.em_space.proofs.Lists.{apart_sym, distinct_apart}
 use Rattle.em_space.proofs.Runs.{runs_as, runs_first, runs_of, runs_second, stops_first, stops_second, stops_wider}
 use Rattle.em_space.proofs.Steps.{touches_then}
@@ -34,7 +35,7 @@ use Rattle.em_segment_model.specs.Commands.{asked_from}
 use Rattle.em_segment_model.specs.Points.{asked_record, interval_record}
 use Rattle.em_segment_model.proofs.Calls.{interval_appends, interval_asks, stab_adds, stab_appends}
 use Rattle.em_segment.specs.Pairs.{IsPairs}
-use Rattle.em_segment.specs.Stabs.{HasCommands, IsNewStab, IsStab, LeavesStab, StabHasFrames, TakeCosts, TakesTo, stab_account, stab_len}
+use Rattle.em_segment.specs.Stabs.{FullOverRoom, HasCommands, IsNewStab, IsStab, LeavesStab, StabHasFrames, TakeCosts, TakesTo, stab_account, stab_len}
 use Rattle.em_segment.specs.declared.stab.Stab.{Stab}
 
 -- A list of pairs, of intervals or of points stays over a call that leaves its blocks alone.
@@ -181,6 +182,16 @@ take_costs {s = s} {t} v result h i c =
       share = omega (arith, a.0, few, share);
       room = omega (arith, a.1, few, c.most);
     }
+
+-- A block more than all that the list has is within its room.
+pub take_small : {T : Type 0} {s t : RigState} {w k : Writer} (v : Stab) (result : Result T EmFault)
+    → Sound s → IsStab s v → AppendCosts s t w k result → IfErr result (Cause s t) → FullOverRoom s v result
+take_small v (Ok y) h i c e = tt
+take_small v (Err DeviceFault) h i c e = tt
+take_small {s = s} {t} v (Err (Full used)) h i c e =
+    let few = stab_few (stab_len v + 1) h i (omega arith) in
+    let same : t.used ≡ s.used = c.full in omega (arith, few, same, e.0, e.1)
+take_small v (Err (Damaged block)) h i c e = tt
 
 -- a writer with a record more has a block more at most
 more_most : {s : RigState} {w : Writer} → Sound s → IsWriter s w → one_more s w ≤ w.blocks + 1

@@ -156,15 +156,25 @@ allowed_left : (o : Option (ShapeNumbers → ℕ → ℕ → ℕ)) (i k spent no
 allowed_left None i k spent now last w e h = tt
 allowed_left (Some f) i k spent now last w e h = omega (arith, e, h)
 
+-- all blocks, with the queue's room
+room_by : (o : Option (ShapeNumbers → ℕ → ℕ)) (c : QueueCounts) (most held first used p size calls j : ℕ)
+    (v : ShapeNumbers) → IfSome o IsRisingRoom → c.k ≤ max j (2 * size) → j ≤ calls
+    → most + held ≤ max (first + held) (used + (ending_most o v c + p))
+    → IfSome o (λ f. calls ≡ 0 → most + held ≤ max (first + held) (used + (f v (4 * size) + p)))
+room_by None c most held first used p size calls j v r a b h = tt
+room_by (Some f) c most held first used p size calls j v r a b h = λ none.
+    let more = r v c.k (4 * size) (omega (arith, a, b, none)) in
+    let all : most + held ≤ max (first + held) (used + (f v c.k + p)) = h in omega (arith, all, more)
+
 -- The costs where the queue was ended,
 pub end_costs : {Q : Type 0} (q : QueueGhosts Q) (x y : Q) {s t u : RigState} {v : Stab} {e : Chain}
     (cs : List Command) → StabsCost q x y s t v cs → Sound s → q.HasItsFrames y t
-    → IfSome q.room (λ f. (q.counts y).most ≤ f t.pool.shape (q.counts y).k)
+    → IfSome q.room (λ f. (q.counts y).most ≤ f t.pool.shape (q.counts y).k) → IfSome q.room IsRisingRoom
     → (q.counts x).k ≤ (q.counts x).n → AnswersStabs q x y s t v e
     → e.blocks ≤ stab_room s.pool.shape (stab_size v cs)
     → Ends q.allowance q.room (q.blocks y t) (q.counts y) t u → IsTrue t.device.told
     → StabCosts q x s u v cs
-end_costs q x y {s} {t} {u} {v} {e} cs c h frames fits calls a few d z =
+end_costs q x y {s} {t} {u} {v} {e} cs c h frames fits rises calls a few d z =
     let shape = a.session.touches.shape in
     let size = stab_size v cs in
     let m = d.most in
@@ -172,6 +182,9 @@ end_costs q x y {s} {t} {u} {v} {e} cs c h frames fits calls a few d z =
     let same : ending_most q.room t.pool.shape (q.counts y)
     ≡ ending_most q.room s.pool.shape (q.counts y) =
     ap (λ (g : ShapeNumbers). ending_most q.room g (q.counts y)) shape in
+    let held = (q.counts x).blocks + (stab_account v).blocks in
+    let all : u.most + held ≤ max (s.most + held) (s.used + (ending_most q.room s.pool.shape (q.counts y)
+    + stab_room s.pool.shape size)) = omega (arith, c.most, m, same, top, a.used, few) in
     record {
       last = y;
       then_is = t;
@@ -183,17 +196,19 @@ end_costs q x y {s} {t} {u} {v} {e} cs c h frames fits calls a few d z =
           (q.counts x).spent (stab_account v).paid size (q.counts x).n (q.counts x).k s.pool.shape
           t.pool.shape shape h.shape (d.spent z) c.own (omega (arith, c.calls))
           (omega (arith, c.most_calls)) calls;
-      most = omega (arith, c.most, m, same, top, a.used, few);
+      most = all;
+      room = room_by q.room (q.counts y) u.most held s.most s.used (stab_room s.pool.shape size) size
+          (q.counts x).n (q.counts x).k s.pool.shape rises (omega (arith, c.most_calls)) calls all;
     }
 
 -- and where it was given up.
 pub left_costs : {Q : Type 0} (q : QueueGhosts Q) (x y : Q) {s t u : RigState} {v : Stab}
     {fault : EmFault} (cs : List Command) → StabsCost q x y s t v cs → Sound s → q.HasItsFrames y t
-    → IfSome q.room (λ f. (q.counts y).most ≤ f t.pool.shape (q.counts y).k)
+    → IfSome q.room (λ f. (q.counts y).most ≤ f t.pool.shape (q.counts y).k) → IfSome q.room IsRisingRoom
     → (q.counts x).k ≤ (q.counts x).n → StopsStabs q x y s t v fault → Leaves (q.counts y) t u
     → IfSome q.allowance (λ f. (q.counts y).spent ≤ f t.pool.shape (q.counts y).n (q.counts y).k)
     → StabCosts q x s u v cs
-left_costs q x y {s} {t} {u} {v} cs c h frames fits calls a l spends =
+left_costs q x y {s} {t} {u} {v} cs c h frames fits rises calls a l spends =
     let shape = a.touches.shape in
     let size = stab_size v cs in
     let moves = ap (λ (z : RigState). z.moves) l.same in
@@ -202,6 +217,9 @@ left_costs q x y {s} {t} {u} {v} cs c h frames fits calls a l spends =
     let same : ending_most q.room t.pool.shape (q.counts y)
     ≡ ending_most q.room s.pool.shape (q.counts y) =
     ap (λ (g : ShapeNumbers). ending_most q.room g (q.counts y)) shape in
+    let held = (q.counts x).blocks + (stab_account v).blocks in
+    let all : u.most + held ≤ max (s.most + held) (s.used + (ending_most q.room s.pool.shape (q.counts y)
+    + stab_room s.pool.shape size)) = omega (arith, c.most, most, same, top) in
     record {
       last = y;
       then_is = t;
@@ -215,7 +233,9 @@ left_costs q x y {s} {t} {u} {v} cs c h frames fits calls a l spends =
           (allowed_left q.allowance (q.counts y).n (q.counts y).k (q.counts y).spent t.moves u.moves
           t.pool.shape moves spends)
           c.own (omega (arith, c.calls)) (omega (arith, c.most_calls)) calls;
-      most = omega (arith, c.most, most, same, top);
+      most = all;
+      room = room_by q.room (q.counts y) u.most held s.most s.used (stab_room s.pool.shape size) size
+          (q.counts x).n (q.counts x).k s.pool.shape rises (omega (arith, c.most_calls)) calls all;
     }
 
 -- the blocks of the answers are few

@@ -19,7 +19,7 @@ use Rattle.em_segment_model.specs.Bounds.{holds, pays}
 use Rattle.em_segment_model.specs.Points.{pairs_due}
 use Rattle.em_segment_model.specs.Sizes.{fan_root, strip_levels}
 use Rattle.em_segment_model.specs.Spans.{ends_of}
-use Rattle.em_segment_model.proofs.Cost.{own_within, pays_rise}
+use Rattle.em_segment_model.proofs.Cost.{leaf_pays, own_within, pays_rise}
 use Rattle.em_segment_model.proofs.Levels.{root_levels}
 use Rattle.em_segment_model.proofs.Nodes.{root_weighs}
 use Rattle.em_segment_model.proofs.Room.{holds_rise, room_within}
@@ -163,6 +163,32 @@ within_lists {s} {v} cs h is a b c d =
       moved_most = moves_within s.pool.shape v.intervals.count v.stabs.count K v.intervals.blocks
           v.stabs.blocks bk 0 _ h.shape blocks
           (none_answered s.pool.shape v.intervals.count v.stabs.count K) (omega (arith, b));
+      calls_most = omega (arith, c);
+      longest_most = omega (arith, d);
+    }
+
+-- or where they are released with the intervals,
+pub within_released : {s : RigState} {v : Stab} (cs : List Command) {p m n l : ℕ} → Sound s → IsStab s v
+    → p ≤ v.intervals.blocks + v.stabs.blocks → m ≤ 4 * (v.intervals.blocks + v.stabs.blocks) + 2
+    → n ≡ 0 → l ≡ 0 → StabWithin s v cs p m n l
+within_released {s} {v} cs h is a b c d =
+    let I = v.intervals.count in
+    let J = v.stabs.count in
+    let K = length (stab_pairs cs) in
+    let bi = v.intervals.blocks in
+    let bj = v.stabs.blocks in
+    let bk = ceiling K (payload_in s) in
+    let P = payload_of s.pool.shape in
+    let blocks = stab_blocks_are h is K in
+    let lists = lists_within s.pool.shape I J K bi bj bk h.shape blocks in
+    let answer : (2 * bj + 2 * bi) * P ≤ pays P (3 * lev s.pool.shape (blocks_of s.pool.shape (I + J + K))) J
+    (2 * I) K =
+    leaf_pays P (3 * lev s.pool.shape (blocks_of s.pool.shape (I + J + K))) J I (2 * I) K bj bi
+    (2 * bj + 2 * bi) blocks.points blocks.intervals (omega arith) (omega arith) in
+    record {
+      peak_most = omega (arith, a, lists);
+      moved_most = moves_within s.pool.shape I J K bi bj bk (2 * bj + 2 * bi) _ h.shape blocks answer
+          (omega (arith, b));
       calls_most = omega (arith, c);
       longest_most = omega (arith, d);
     }

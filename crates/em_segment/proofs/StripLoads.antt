@@ -34,6 +34,7 @@ use Rattle.em_segment.specs.Strips.{AreNumbered, CanReportPoints, CanReportStrip
 use Rattle.em_segment.proofs.Alikes.{alike_append, alike_length, alike_same, alike_then, due_append}
 use Rattle.em_segment.proofs.Chains.{chains_stay}
 use Rattle.em_segment.proofs.Fronts.{beside_opens, list_stops, list_writes}
+use Rattle.em_segment.proofs.Gets.{nil_of}
 use Rattle.em_segment.proofs.Loaded.{lists_same}
 use Rattle.em_segment.proofs.Reading.{reads_none, reads_then, stops_reading_then}
 
@@ -291,10 +292,6 @@ module _ {s a : RigState} {points : Chain} {r : Reader} {w : Writer} {lists : Li
   strip_same slabs k xs z =
       ap (λ (xss : List (List Record)). slab_pairs slabs (map (map interval_in) xss) k (map asked_in xs))
       (lists_lent.lists z)
-
-nil_of : (xs : List Record) → length xs ≡ 0 → xs ≡ []
-nil_of [] e = refl
-nil_of (x ∷ xs) e = absurd (omega (arith, e))
 
 less : (m n : ℕ) → m - n ≤ m
 less m n = omega arith

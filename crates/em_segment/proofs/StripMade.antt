@@ -32,7 +32,7 @@ use Rattle.em_segment_model.specs.Spans.{value_span}
 use Rattle.em_segment_model.specs.declared.strip.Span.{Span}
 use Rattle.em_segment.specs.Splits.{CanCopy, CopiesStrip, SplitsOff, SplitsOffTo, StopsCopying, StopsSplit}
 use Rattle.em_segment.specs.declared.splitting.Strips.{Strips}
-use Rattle.em_segment.proofs.Swaps.{session_turned}
+use Rattle.em_segment.proofs.Regrouping.{session_turned}
 
 -- A reader stays as a frame is lent,
 pub reader_lent : {s a : RigState} {r : Reader} → IsReader s r → LendsFrame s a → ReaderStays s a r

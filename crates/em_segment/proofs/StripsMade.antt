@@ -24,7 +24,7 @@ use Rattle.em_segment.specs.Splits.{AreCut, CanSplit, SplitsAll, SplitsOff, Spli
 use Rattle.em_segment.specs.declared.list.Listed.{Listed}
 use Rattle.em_segment.specs.declared.splitting.Strips.{Strips}
 use Rattle.em_segment.proofs.Chains.{blocks_append, chains_append, chains_length, chains_stay, count_append, held_append, lists_append}
-use Rattle.em_segment.proofs.Swaps.{session_turned}
+use Rattle.em_segment.proofs.Regrouping.{session_turned}
 
 -- Strips so far, of so many points, and how many points are left: while there are some, all strips have
 -- the most points.

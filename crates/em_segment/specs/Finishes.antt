@@ -1,5 +1,5 @@
 -- The end of an interval list.
-use Rattle.std.specs.Prelude.{◌≡◌, false, ℕ, ◌+◌, ◌*◌, ◌<◌, ◌≤◌, ◌^◌, ◌⊎◌, max, List, ◌++◌, length, map, IfErr, IfSome, IsTrue, Result, Ok, Err}
+use Rattle.std.specs.Prelude.{◌≡◌, false, ℕ, ◌+◌, ◌*◌, ◌<◌, ◌≤◌, ◌^◌, ◌⊎◌, max, List, ◌++◌, length, map, IfErr, IfOk, IfSome, IsTrue, Result, Ok, Err}
 use Rattle.em_record.specs.Cost.{blocks_of}
 use Rattle.em_record.specs.Order.{IsAscending}
 use Rattle.em_record.specs.Shape.{ShapeNumbers, fan_of}
@@ -14,7 +14,7 @@ use Rattle.em_space.specs.Queue.{CanServe, Ends, Leaves, Pays, QueueCounts, endi
 use Rattle.em_space.specs.Rig.{Cause, IfFull, RigState, Sound, Touches}
 use Rattle.em_space.specs.declared.fault.EmFault.{EmFault}
 use Rattle.em_space.specs.declared.queue.Queue.{Ghosts as QueueGhosts}
-use Rattle.em_chain.specs.Chain.{IsChain, IsPacked, chain_blocks, chain_items, payload_in}
+use Rattle.em_chain.specs.Chain.{IsChain, IsPacked, chain_blocks, chain_items, empty_chain, payload_in}
 use Rattle.em_chain.specs.Counts.{ceiling}
 use Rattle.em_chain.specs.Session.{chain_account}
 use Rattle.em_chain.specs.Writer.{writer_items}
@@ -114,6 +114,11 @@ pub record StabCosts {Q : Type 0} (q : QueueGhosts Q) (x : Q) (s t : RigState) (
       ≤ max (s.most + ((q.counts x).blocks + (stab_account v).blocks))
       (s.used + (ending_most q.room s.pool.shape (q.counts last)
       + stab_room s.pool.shape (stab_size v cs)))
+  -- with the blocks of a queue that is new and states its room: no queue of the workspace states one
+  pub room : IfSome q.room (λ f. (q.counts x).n ≡ 0
+      → t.most + ((q.counts x).blocks + (stab_account v).blocks)
+      ≤ max (s.most + ((q.counts x).blocks + (stab_account v).blocks))
+      (s.used + (f s.pool.shape (4 * stab_size v cs) + stab_room s.pool.shape (stab_size v cs))))
 
 -- It says that the device is full only if the room that is stated for it and its queue is more than all
 -- blocks.
@@ -123,6 +128,23 @@ FullIfSmall q x s v cs result = IfErr result (λ fault. IfFull fault (λ used.
     IfSome q.room (λ f. (q.counts x).n ≡ 0
     → used + ((q.counts x).blocks + (stab_account v).blocks)
     < s.used + (f s.pool.shape (4 * stab_size v cs) + stab_room s.pool.shape (stab_size v cs)))))
+
+-- Nothing is asked: no stab came, or no interval.
+abbrev pub AsksNothing : Stab → Type 0
+AsksNothing v = (v.stabs.count ≡ 0) ⊎ (v.intervals.count ≡ 0)
+
+-- Then the queue isn't called before its end, no block is needed, and no pair is found.
+pub record FindsNothing {Q : Type 0} (x y : Q) (result : Result Chain EmFault) : Type 0 where
+  pub queue : y ≡ x
+  pub empty : IfOk result (λ c. c ≡ empty_chain)
+  pub never : IfErr result (λ fault. IfFull fault (λ used. ⊥))
+
+-- Where nothing is asked, it says that the device is full only if the queue's end does: with the list's blocks
+-- released, fewer are free than the queue asks.
+abbrev pub FullIfAsked : {Q : Type 0} → QueueGhosts Q → Q → RigState → Stab → Result Chain EmFault
+    → Type 0
+FullIfAsked q x s v result = IfErr result (λ fault. IfFull fault (λ used. AsksNothing v
+    → used + (stab_account v).blocks < s.used + q.enough s.pool.shape (q.counts x)))
 
 -- Both lists of an interval list became chains.
 pub record ClosesBoth (s t : RigState) (v : Stab) (pieces points : Chain) : Type 0 where

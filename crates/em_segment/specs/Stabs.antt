@@ -1,12 +1,12 @@
 -- An interval list, and what the calls that give it commands leave.
-use Rattle.std.specs.Prelude.{◌≡◌, ℕ, ◌+◌, ◌≤◌, ◌^◌, max, List, [], ◌∷◌, ◌++◌, length, map, IsTrue, Result, Ok, Err}
+use Rattle.std.specs.Prelude.{◌≡◌, ℕ, ◌+◌, ◌<◌, ◌≤◌, ◌^◌, max, List, [], ◌∷◌, ◌++◌, length, map, IfErr, IsTrue, Result, Ok, Err}
 use Rattle.em_frames.specs.Pool.{GivenFrames, LentFrames, singles_of}
 use Rattle.em_model.specs.Stab.{intervals_after}
 use Rattle.em_model.specs.StabAnswers.{stab_pairs}
 use Rattle.em_model.specs.declared.command.Command.{Command}
 use Rattle.em_space.specs.Held.{Holds}
 use Rattle.em_space.specs.Ledger.{Account, Runs, Stops, both}
-use Rattle.em_space.specs.Rig.{RigState, Sound, Touches}
+use Rattle.em_space.specs.Rig.{IfFull, RigState, Sound, Touches}
 use Rattle.em_space.specs.declared.fault.EmFault.{EmFault}
 use Rattle.em_chain.specs.Effects.{Unmoved}
 use Rattle.em_chain.specs.Session.{writer_account}
@@ -91,6 +91,12 @@ pub record TakeCosts (s t : RigState) (v : Stab) : Type 0 where
       ≤ s.moves + stab_share s.pool.shape (stab_len v + 1)
   pub room : t.most + (stab_account v).blocks
       ≤ max (s.most + (stab_account v).blocks) (s.used + stab_room s.pool.shape (stab_len v + 1))
+
+-- It says that the device is full only if the blocks of others and the list's room, for one command more, are
+-- more than all.
+abbrev pub FullOverRoom : {T : Type 0} → RigState → Stab → Result T EmFault → Type 0
+FullOverRoom s v result = IfErr result (λ fault. IfFull fault (λ used.
+    used + (stab_account v).blocks < s.used + stab_room s.pool.shape (stab_len v + 1)))
 
 -- Its frames came back, and nothing was moved.
 pub record LeavesStab (s t : RigState) : Type 0 where

@@ -25,9 +25,9 @@ use em_space::{EmFault, Rig};
 /// Writes the pairs of some points, in the order of their values, with some pieces, in the order of their
 /// numbers, in any order. The blocks of both are released.
 ///
-/// `DeviceFault` comes if the device's count of faults rose, and `Full` if a block was needed and all are in
-/// use; `Damaged` only over a device that doesn't tell. After a fault blocks that are left stay in use,
-/// and the pairs may only be abandoned. All frames are back on each way out.
+/// `DeviceFault` comes only if the device's count of faults rose, and `Full` only if all blocks are in use;
+/// `Damaged` only over a device that doesn't tell. After a fault blocks that are left stay in use, and the
+/// pairs may only be abandoned. All frames are back on each way out.
 #[cycle(answer)]
 pub(crate) fn answer<D: Device>(
     rig: &mut Rig<'_, D>,
@@ -90,7 +90,7 @@ fn answer_last<D: Device>(
 }
 
 /// Releases the blocks of both chains, by two moves for each.
-fn discard_both<D: Device>(
+pub(crate) fn discard_both<D: Device>(
     rig: &mut Rig<'_, D>,
     points: Chain,
     pieces: Chain,

@@ -1,19 +1,21 @@
 //! The end of an interval list: the points are put in order by a queue, the pairs are found, and put in
 //! order by the same queue.
 
-ghost use Rattle.std.specs.Prelude.{◌≡◌, ◌+◌, ◌<◌, ◌≤◌, List, IfErr, IsTrue, OnOk};
+ghost use Rattle.std.specs.Prelude.{◌≡◌, ◌+◌, ◌<◌, ◌≤◌, List, IfErr, IfOk, IsTrue, OnOk};
 ghost use Rattle.em_model.specs.declared.command.Command as commands;
+ghost use Rattle.em_space.specs.Held.{Holds};
 ghost use Rattle.em_space.specs.Rig.{Sound};
 ghost use Rattle.em_space.specs.Seen.{seen};
-ghost use Rattle.em_chain.specs.Chain.{payload_in};
+ghost use Rattle.em_chain.specs.Chain.{IsChain, empty_chain, payload_in};
 ghost use Rattle.em_chain.specs.Counts.{ceiling};
 ghost use Rattle.em_tree_cost.specs.Shares.{stab_room};
-ghost use Rattle.em_segment.specs.Finishes.{AnswersStabsTo, CanFinish, CanReportAll, ClosesTo, ReportsAllTo, StabsCost};
+ghost use Rattle.em_segment.specs.Answers.{DiscardsTo, call_blocks};
+ghost use Rattle.em_segment.specs.Finishes.{AnswersStabsTo, AsksNothing, CanFinish, CanReportAll, ClosesTo, FindsNothing, ReportsAllTo, StabsCost};
 ghost use Rattle.em_segment.specs.Stabs.{HasCommands, IsStab, stab_account, stab_size};
 ghost use Rattle.em_sorting.specs.Room.{FullBeside};
 ghost use Rattle.em_sorting.specs.Sorts.{CanSort, SortsTo};
 
-use crate::answering::answer;
+use crate::answering::{answer, discard_both};
 use em_chain::{Chain, Writer};
 use em_frames::Device;
 use em_sorting::sort;
@@ -46,8 +48,13 @@ pub(crate) fn answer_stabs<D: Device, Q: Queue>(
         (stab_room (seen D.state rig.old).pool.shape
         (stab_size (record { intervals = intervals; stabs = stabs }) cs))
         (Q.counts queue.old) (Q.counts queue.new) (seen D.state rig.old)) }
+    ensures nothing { AsksNothing (record { intervals = intervals; stabs = stabs })
+        → FindsNothing queue.old queue.new result }
 {
     let (pieces, points) = close_both(rig, intervals, stabs)?;
+    if points.len() == 0 || pieces.len() == 0 {
+        return find_nothing(rig, points, pieces);
+    }
     let points = order_points(rig, queue, points)?;
     let pairs = report_pairs(rig, points, pieces)?;
     order_pairs(rig, queue, pairs)
@@ -75,6 +82,25 @@ fn close_both<D: Device>(
             Err(fault)
         }
     }
+}
+
+/// No pair, where there is no point or no piece: the blocks of both are released.
+fn find_nothing<D: Device>(
+    rig: &mut Rig<'_, D>,
+    points: Chain,
+    pieces: Chain,
+) -> Result<Chain, EmFault>
+    requires sound { Sound (seen D.state rig.old) }
+    requires points { IsChain (seen D.state rig.old) points }
+    requires pieces { IsChain (seen D.state rig.old) pieces }
+    requires holds { IsTrue (seen D.state rig.old).device.told
+        → Holds (seen D.state rig.old) (call_blocks (seen D.state rig.old) points pieces) }
+    requires free { 0 < (seen D.state rig.old).pool.free }
+    ensures discards { DiscardsTo (seen D.state rig.old) (seen D.state rig.new) points pieces result }
+    ensures empty { IfOk result (λ c. c ≡ empty_chain) }
+{
+    discard_both(rig, points, pieces)?;
+    Ok(Chain::empty())
 }
 
 /// The points in the order of their values.

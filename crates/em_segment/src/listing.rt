@@ -35,7 +35,7 @@ fn before_of(point: Record) -> u64
 /// Writes the pairs of a load with the pieces of a list, which stays. It reads the list up to the first
 /// piece that was given after all points.
 ///
-/// `Full` comes if a block was needed for the pairs and all are in use.
+/// `Full` comes only if all blocks are in use.
 pub(crate) fn report_list<D: Device>(
     rig: &mut Rig<'_, D>,
     list: &Chain,

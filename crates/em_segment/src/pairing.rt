@@ -15,8 +15,8 @@ use em_space::{EmFault, Rig};
 /// One more than the most pairs that are written. A device that tells has no room for as many.
 const PAIRS_END: u64 = 1 << 56;
 
-/// Writes the pair of a stab and an interval, by their numbers. `Full` comes if a block was needed and
-/// all are in use; `Damaged` only over a device that doesn't tell, if there are too many pairs.
+/// Writes the pair of a stab and an interval, by their numbers. `Full` comes only if all blocks are in
+/// use, and `Damaged` only over a device that doesn't tell.
 pub(crate) fn append_pair<D: Device>(
     rig: &mut Rig<'_, D>,
     stab: u64,

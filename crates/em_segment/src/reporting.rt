@@ -34,7 +34,7 @@ use em_space::{EmFault, Rig};
 /// Writes the pairs of the points of each strip with the pieces of the multislabs over it. Strips and lists
 /// stay.
 ///
-/// `Full` comes if a block was needed for the pairs and all are in use.
+/// `Full` comes only if all blocks are in use.
 pub(crate) fn report_strips<D: Device>(
     rig: &mut Rig<'_, D>,
     strips: &[Listed],

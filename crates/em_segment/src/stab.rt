@@ -30,8 +30,8 @@ pub struct Stab {
 impl Stab {
     ghost use Rattle.em_chain.specs.Effects.{Completes};
     ghost use Rattle.em_chain.specs.Writer.{NeedsBlock};
-    ghost use Rattle.em_segment.specs.Finishes.{CanFinish, FinishesTo, FullIfSmall, StabCosts};
-    ghost use Rattle.em_segment.specs.Stabs.{HasCommands, IsNewStab, IsStab, LeavesStab, StabHasFrames, TakeCosts, TakesTo, stab_len};
+    ghost use Rattle.em_segment.specs.Finishes.{CanFinish, FinishesTo, FullIfAsked, FullIfSmall, StabCosts};
+    ghost use Rattle.em_segment.specs.Stabs.{FullOverRoom, HasCommands, IsNewStab, IsStab, LeavesStab, StabHasFrames, TakeCosts, TakesTo, stab_len};
 
     /// A list with no interval. It takes no block yet, and never gives up.
     pub fn new<D: Device>(rig: &mut Rig<'_, D>) -> Result<Stab, EmFault>
@@ -64,6 +64,7 @@ impl Stab {
         ensures full { (result ≡ Err (EmFault.Full (seen D.state rig.old).used))
             ↔ (NeedsBlock (seen D.state rig.old) self.old.intervals
             × ((seen D.state rig.old).used ≡ (seen D.state rig.old).blocks)) }
+        ensures small { FullOverRoom (seen D.state rig.old) self.old result }
         ensures complete { (seen D.state rig.old).used < (seen D.state rig.old).blocks
             → Completes (seen D.state rig.old) (seen D.state rig.new) result }
     {
@@ -92,6 +93,7 @@ impl Stab {
         ensures full { (result ≡ Err (EmFault.Full (seen D.state rig.old).used))
             ↔ (NeedsBlock (seen D.state rig.old) self.old.stabs
             × ((seen D.state rig.old).used ≡ (seen D.state rig.old).blocks)) }
+        ensures small { FullOverRoom (seen D.state rig.old) self.old result }
         ensures complete { (seen D.state rig.old).used < (seen D.state rig.old).blocks
             → Completes (seen D.state rig.old) (seen D.state rig.new) result }
     {
@@ -111,9 +113,9 @@ impl Stab {
     /// The pairs `(stab, interval, 0, 0)` of all stabs, in order. The queue has no item; it is ended here, and
     /// after a fault abandoned.
     ///
-    /// `DeviceFault` comes if the device's count of faults rose, and `Full` if a block was needed and all are
-    /// in use; `Damaged` only over a device that doesn't tell. After a fault blocks that are left stay in use.
-    /// All frames are back on each way out.
+    /// `DeviceFault` comes only if the device's count of faults rose, and `Full` only if all blocks are in use;
+    /// `Damaged` only over a device that doesn't tell. With no stab, or no interval, the queue isn't called but to
+    /// end it. After a fault blocks that are left stay in use. All frames are back on each way out.
     pub fn finish<D: Device, Q: Queue>(
         self,
         rig: &mut Rig<'_, D>,
@@ -131,6 +133,7 @@ impl Stab {
         ensures full { IsTrue (seen D.state rig.old).device.told → (cs : List commands.Command)
             → HasCommands (seen D.state rig.old) self cs
             → FullIfSmall Q.Queue queue (seen D.state rig.old) self cs result }
+        ensures asked { FullIfAsked Q.Queue queue (seen D.state rig.old) self result }
     {
         let mut queue = queue;
         let Stab { intervals, stabs } = self;

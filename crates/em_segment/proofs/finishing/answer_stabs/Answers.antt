@@ -1,12 +1,14 @@
-use Rattle.std.proofs.Common.{arith}
+use Rattle.std.proofs.Common.{◌≡◌, ◌⊎◌, inl, inr, arith}
 use Rattle.em_space.specs.Seen.{seen}
 use Rattle.em_space.proofs.Queues.{out_same}
 use Rattle.em_segment.proofs.StabEnds.{stands_out}
+use Rattle.em_segment.proofs.StabNothing.{close_nothing, found_nothing, nothing_asked, something}
 use Rattle.em_segment.proofs.StabReported.{pairs_can, report_can}
 use Rattle.em_segment.proofs.StabSorted.{points_can}
 use Rattle.em_segment.proofs.StabStates.{StabLaws, after_close, after_report, after_sort, close_refused, closed_out, last_sorted, report_refused, sort_refused}
 use Rattle.em_segment.proofs.finishing.answer_stabs.Given as given
 use Rattle.em_segment.proofs.finishing.answer_stabs.Goals as goal
+use Rattle.em_segment.proofs.finishing.answer_stabs.Goals.{then-len-eq0-via-else-len-eq0+then-len-eq0-2, then-len-eq0-via-then-len-eq0}
 
 laws_of : (g : given.Over) → StabLaws g.Q.Queue
 laws_of g =
@@ -19,6 +21,27 @@ laws_of g =
       blocks_most = laws.blocks_most;
       unstored_most = laws.unstored_most;
       fits = laws.fits;
+    }
+
+pub returns-then-len-eq0 : goal.returns-then-len-eq0
+returns-then-len-eq0 g c =
+    let x = c.args.queue.now in
+    let e = c.in_ok-pieces.ensures.closes in
+    let d = c.find_nothing.ensures in
+    let o : (c.in_ok-pieces.points.count ≡ 0) ⊎ (c.in_ok-pieces.pieces.count ≡ 0) =
+    elim c.then-len-eq0.branch [
+      | then-len-eq0-via-then-len-eq0 w ↦ inl (omega (arith, w.if-len-eq0.true, c.len.ensures))
+      | then-len-eq0-via-else-len-eq0+then-len-eq0-2 w ↦
+          inr (omega (arith, w.if-len-eq0-2.true, w.len-else-len-eq0.ensures))
+    ] in
+    let all = found_nothing g.Q.Queue x (laws_of g) c.requires.sound c.requires.is c.requires.queue
+    c.requires.can e c.find_nothing.result (nothing_asked e o) d.discards d.empty in record {
+      frames = all.frames;
+      queue = all.refuses.queue;
+      answers = all.refuses.answers;
+      costs = all.refuses.costs;
+      full = all.refuses.full;
+      nothing = λ none. all.nothing;
     }
 
 pub order_points-requires-clause-is : goal.order_points-requires-clause-is
@@ -84,6 +107,7 @@ returns-in_err-pieces g c =
       answers = all.answers;
       costs = all.costs;
       full = all.full;
+      nothing = λ none. close_nothing x c.from_residual.result c.requires.sound e c.from_residual.ensures.1;
     }
 
 pub returns-in_err-points : goal.returns-in_err-points
@@ -99,6 +123,9 @@ returns-in_err-points g c =
       answers = all.answers;
       costs = all.costs;
       full = all.full;
+      nothing = something _ _ r.result c.in_ok-pieces.ensures.closes
+          (omega (arith, c.if-len-eq0.false, c.len.ensures))
+          (omega (arith, c.if-len-eq0-2.false, c.len-else-len-eq0.ensures));
     }
 
 pub returns-in_err-pairs : goal.returns-in_err-pairs
@@ -123,6 +150,9 @@ returns-in_err-pairs g c =
       answers = all.answers;
       costs = all.costs;
       full = all.full;
+      nothing = something _ _ r.result c.in_ok-pieces.ensures.closes
+          (omega (arith, c.if-len-eq0.false, c.len.ensures))
+          (omega (arith, c.if-len-eq0-2.false, c.len-else-len-eq0.ensures));
     }
 
 pub returns : goal.returns
@@ -144,4 +174,7 @@ returns g c =
       answers = all.answers;
       costs = all.costs;
       full = all.full;
+      nothing = something _ _ c.order_pairs.result c.in_ok-pieces.ensures.closes
+          (omega (arith, c.if-len-eq0.false, c.len.ensures))
+          (omega (arith, c.if-len-eq0-2.false, c.len-else-len-eq0.ensures));
     }

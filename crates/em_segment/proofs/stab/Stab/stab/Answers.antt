@@ -1,5 +1,5 @@
 use Rattle.std.proofs.Common.{arith}
-use Rattle.em_segment.proofs.StabCalls.{stab_takes, take_costs}
+use Rattle.em_segment.proofs.StabCalls.{stab_takes, take_costs, take_small}
 use Rattle.em_segment.proofs.Writing.{pairs_grow}
 use Rattle.em_segment.proofs.stab.Stab.stab.Goals as goal
 
@@ -23,3 +23,8 @@ returns-clause-takes g c =
 pub returns-clause-costs : goal.returns-clause-costs
 returns-clause-costs g c =
     take_costs c.args.self.now c.append.result c.requires.sound c.requires.is c.append.ensures.costs
+
+pub returns-clause-small : goal.returns-clause-small
+returns-clause-small g c =
+    let e = c.append.ensures in
+    take_small c.args.self.now c.append.result c.requires.sound c.requires.is e.costs e.cause
