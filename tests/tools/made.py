@@ -25,8 +25,8 @@ import aiger
 STATES = 1 << 31
 KINDS = "map", "queue", "stab", "eval"
 SMALLEST = ["--block=128", "--frames=64"]
-# what --run tries: each ends in seconds while the structures of em_plain answer
-TRIED = ("map", 1, 20000), ("queue", 1, 20000), ("stab", 1, 2000), ("eval", 1, 2000), ("map", 7, 1), ("eval", 2147483647, 1)
+# what --run tries; the plain answers of stab are quadratic. 20,000 lines of it have 5,000 stabs, of which nodes have nodes below them
+TRIED = ("map", 1, 20000), ("queue", 1, 20000), ("stab", 1, 2000), ("stab", 1, 20000), ("eval", 1, 2000), ("map", 7, 1), ("eval", 2147483647, 1)
 COMMAND = re.compile(r"emtool gen(?: --(?:stats|block=\d+|frames=\d+))* (\w+) (\d+) (\d+)")
 
 

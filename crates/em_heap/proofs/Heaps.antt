@@ -6,7 +6,7 @@ use Rattle.std.proofs.Math.Seq.{take-append_seam, take-set-lt}
 use Rattle.std.specs.List.Sorted.{IsPermutation}
 use Rattle.em_record.specs.declared.record.Record.{Record}
 use Rattle.em_record.specs.Order.{is_below, AtLeast, IsAscending, in_order, with_record}
-use Rattle.em_record.proofs.Order.{at_least_trans, with_least, order_push}
+use Rattle.em_record.proofs.Order.{with_least, order_push}
 use Rattle.em_record.proofs.Commutes.{order_cons, order_ascending, at_least_order}
 use Rattle.em_record.proofs.OrderLaws.{which, order_set, order_permutation, ascends_apart}
 use Rattle.em_heap.specs.Heap.{IsHeap, IsHeapWithin, heap_items, SiftsUp, SiftsDown, HeapPushes, HeapPops, HeapHalves}

@@ -49,21 +49,6 @@ impl Heap {
         Heap { area, len: 0 }
     }
 
-    /// The heap of the first `len` records of an area, which stand in order.
-    #[tactic(auto, using(em_record::proofs::Commutes::order_ascending))]
-    pub fn filled(area: Area, len: usize) -> Heap
-        requires within { len ≤ length area }
-        requires ascending { IsAscending (take len area) }
-        ensures { result ≡ record {
-          items = take len area;
-          len = len;
-          capacity = length area;
-          behind = drop len area;
-        } }
-    {
-        Heap { area, len }
-    }
-
     /// The number of its records. A heap of n records is their list in order.
     pub fn len(&self) -> usize
         ensures value { result ≡ self.now.len }

@@ -97,24 +97,6 @@ fn write_three(area: &mut Area)
     records[2] = key(9);
 }
 
-#[test]
-fn an_area_filled_in_order_is_a_heap(rt: HostRuntime) -> Result<(), Fail> {
-    let mut pool = Grant::new(rt.alloc()).pool(Shape::new(128, 64)?)?;
-    let mut area = pool.lend_area();
-    write_three(&mut area);
-    let mut heap = Heap::filled(area, 3);
-    assert_eq!(rt; (heap.len(), heap.capacity()), (3, 1024));
-    heap.push(key(1));
-    let popped = [heap.pop(), heap.pop(), heap.pop(), heap.pop(), heap.pop()];
-    assert_eq!(rt;
-        popped,
-        [Some(key(1)), Some(key(2)), Some(key(2)), Some(key(9)), None]
-    );
-    pool.give_area(heap.into_area());
-    pool.end();
-    Ok(())
-}
-
 /// A heap that has no record any more takes three that were written into its area.
 #[test]
 fn an_empty_heap_is_refilled_in_its_area(rt: HostRuntime) -> Result<(), Fail> {

@@ -25,7 +25,8 @@ pub fn lev(shape: &Shape, x: u64) -> u64
     levels
 }
 
-/// The number `cost`: no call bounds its moves by it yet. The top call asks a room of `cost` and 4m more blocks.
+/// The number `cost` of a run of size `n`. The moves of a run are held to it, and the room that the
+/// top call asks is `cost` and 4m more blocks.
 pub fn cost(shape: &Shape, n: u64) -> u128
     ensures { result ≡ cost shape.now n }
 {
@@ -33,7 +34,8 @@ pub fn cost(shape: &Shape, n: u64) -> u128
     2048 * (blocks as u128 + 1) * (1 + lev(shape, blocks) as u128)
 }
 
-/// The number `room`, another room for a run of size `n`: nothing uses it yet.
+/// The number `room`, another room for a run of size `n`. No call keeps to it; laws of
+/// `em_tree_cost` do.
 pub fn room(shape: &Shape, n: u64) -> u128
     ensures { result ≡ room shape.now n }
 {

@@ -5,10 +5,10 @@ pub enum EmFault {
     DeviceFault,
     /// A block was needed, and all `used` blocks of the device are in use.
     Full { used: u64 },
-    /// The block of this number, which was read, isn't laid out as it was left. Three cases name
-    /// another: no block is in use, and this one was to be released; the words of a list lead to no
-    /// block of the device, for which 0 stands; and a list of a circuit has another number of records
-    /// than its header says, for which 0 stands too. It never comes over a device that tells its
-    /// contents.
+    /// The block of this number, which was read, isn't laid out as it was left. Some cases name
+    /// another block: no block is in use, and this one was to be released; a tree, or a queue
+    /// over one, meets numbers that don't fit, and names its root's; or no single block is to
+    /// blame, and 0 stands for it (docs/FORMATS.md, "Blocks"). It never comes over a device that
+    /// tells its contents.
     Damaged { block: u64 },
 }

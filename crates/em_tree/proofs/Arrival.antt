@@ -69,16 +69,6 @@ owes_up {s} {v} most few owed r o = record {
       o.either;
 }
 
-owes_back : {s : RigState} {v : Trunk} (most few owed r : ℕ) → OwesUpTo most 0 few owed r s v
-    → OwesAt s.pool.shape most 0 few owed r (sums_in s v)
-owes_back {s} {v} most few owed r o = record {
-  either = ⊎_elim
-      (λ (x : (1 ≤ r) × (owed ≤ s.pool.shape.block * most)). inl x)
-      (λ (x : ((sums_in s v).leaves ≤ 1) × (v.level ≤ 1) × (owed ≤ 6 * 0 + s.pool.shape.block * few)).
-      inr ((x.0, x.1), x.2))
-      o.either;
-}
-
 module _ (key : Record → Record) (step : Option Record → Record → Step) (IsOp IsKept : Record → Type 0)
     {s : RigState} {v : Trunk} (can : CanWork key IsOp IsKept s v) (visit : CanVisit s v) where
   abbrev L : ℕ

@@ -1,7 +1,6 @@
 -- An entry over a node, before its buffer is emptied: what is known of it, and what its moves cost.
-use Rattle.std.proofs.Common.{◌≡◌, Bool, true, false, ℕ, zero, suc, ◌+◌, ◌*◌, ◌<◌, ◌≤◌, List, [], ◌∷◌, ◌++◌, length, get_or, take, drop, refl, sym, ap, ◌∙◌, subst, arith, IsTrue}
+use Rattle.std.proofs.Common.{◌≡◌, ℕ, zero, suc, ◌+◌, ◌*◌, ◌<◌, ◌≤◌, List, [], ◌∷◌, ◌++◌, length, get_or, take, drop, refl, sym, ap, ◌∙◌, subst, arith, IsTrue}
 use Rattle.std.specs.Prelude.{Option, None}
-use Rattle.std.proofs.lemmas.Bool.{false≢true}
 use Rattle.em_record.specs.Shape.{fan_of, payload_of, wide_of}
 use Rattle.em_record.specs.declared.record.Record.{Record}
 use Rattle.em_space.specs.Free.{Off}
@@ -22,7 +21,6 @@ use Rattle.em_tree_model.specs.Ranges.{InRange, IsTree, least_record, next_low}
 use Rattle.em_tree_model.specs.Tree.{HasEntry, IsChild, IsRow, Tree}
 use Rattle.em_tree_model.specs.Tree.Tree.{end, entry, leaf}
 use Rattle.em_tree_model.proofs.Events.{placed}
-use Rattle.em_empty.specs.Effects.{entries_most}
 use Rattle.em_tree_blocks.specs.Effects.{entry_at_place, entry_on, row_from}
 use Rattle.em_tree_blocks.specs.Node.{buffer_of, linked_block}
 use Rattle.em_tree_blocks.specs.Paths.{IsPath, child_at, level_on, node_on}
@@ -97,11 +95,6 @@ pub row_count : (child : ℕ → Tree) (s : RigState) (es : List Entry)
     → count_of (outline_of (row_of child s es)) ≡ length es
 row_count child s [] = refl
 row_count child s (e ∷ es) = let i = row_count child s es in omega (arith, i)
-
-entries_told : (s : RigState) (k n : ℕ) (b : Bool) → s.device.told ≡ b → IsTrue s.device.told
-    → length (entries_at s k) ≤ n → entries_most s k ≤ n
-entries_told s k n true e z h = rw e h
-entries_told s k n false e z h = absurd (let x = sym e ∙ z in false≢true x)
 
 module _ (key : Record → Record) (IsOp IsKept : Record → Type 0) (l node at : ℕ) (s : RigState)
     (v : Trunk) (can : CanWork key IsOp IsKept s v) (spot : CanEmptyEntry (suc l) node at s v)

@@ -125,12 +125,6 @@ module _ (key : Record → Record) (step : Option Record → Record → Step) (I
       let E : Tree → Type 0 = EachEntry P v.level least_record None in
       subst E (sym (same_root told)) h
 
-  each_back : (P : ℕ → Record → Option Record → List Record → Type 0) → IsTrue s.device.told
-      → EachRead P t next → EachRead P s v
-  each_back P told h =
-      let E : Tree → Type 0 = EachEntry P v.level least_record None in
-      subst E (same_root told) h
-
   clear_then : IsTrue s.device.told → ClearAbove 1 t next
   clear_then told = each_then (ClearOver 1 least_record first_until) told (ready.clear told)
 

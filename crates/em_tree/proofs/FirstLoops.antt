@@ -76,24 +76,6 @@ takes_left {s = s} {v = v} held sound h some may =
     let l = h.left in
     omega (arith, share, most, l)
 
--- It is known that a leaf was split, if there are two.
-pub takes_known : {s : RigState} {v : Trunk} → 2 ≤ (sums_in s v).leaves → (h : TakesSteps s v)
-    → (x : TakesSteps s v) × (x.owed ≡ h.owed) × (x.split ≡ 1) × (x.counts ≡ h.counts)
-takes_known {s = s} {v = v} two h =
-    let x : TakesSteps s v = record {
-      counts = h.counts;
-      owed = h.owed;
-      handed = h.handed;
-      split = 1;
-      longest = h.longest;
-      few = h.few;
-      none_taken = h.none_taken;
-      none_settled = h.none_settled;
-      books = call_known h.books (record { some = inr (inl two) });
-      left = h.left;
-    } in
-    (x, refl, refl, refl)
-
 -- the same number of levels and moves over a step
 sums_eq : (s t : RigState) (v w : Trunk) → t.pool.shape ≡ s.pool.shape → root_of t w ≡ root_of s v
     → w.level ≡ v.level → w.buffer ≡ v.buffer → sums_in t w ≡ sums_in s v

@@ -1,11 +1,10 @@
 -- A new tree, from its blocks and its two lists.
-use Rattle.std.proofs.Common.{◌≡◌, ℕ, ◌+◌, ◌-◌, ◌≤◌, List, [], ◌++◌, refl, sym, ap, ◌∙◌, subst, arith, IsTrue, IsErrAnd, Result, Ok, Err}
+use Rattle.std.proofs.Common.{◌≡◌, ℕ, ◌+◌, ◌-◌, ◌≤◌, List, [], ◌++◌, refl, sym, ap, ◌∙◌, subst, arith, IsTrue}
 use Rattle.std.proofs.lemmas.List.{append-nil}
 use Rattle.em_space.specs.Free.{Off}
 use Rattle.em_space.specs.Held.{Holds}
 use Rattle.em_space.specs.Queue.{Pays}
 use Rattle.em_space.specs.Rig.{RigState, Touches}
-use Rattle.em_space.specs.declared.fault.EmFault.{EmFault}
 use Rattle.em_space.proofs.Held.{apart_none, holds_kept, in_use_kept}
 use Rattle.em_space.proofs.Steps.{touches_both, touches_trans}
 use Rattle.em_chain.specs.Effects.{LendsFrame, Unmoved}
@@ -18,7 +17,7 @@ use Rattle.em_tree_blocks.specs.Reading.{tree_blocks}
 use Rattle.em_tree_blocks.proofs.Frames.{tree_stays}
 use Rattle.em_tree_cost.specs.Books.{count_moves, no_counts}
 use Rattle.em_tree_load.proofs.Losses.{loses_as}
-use Rattle.em_tree.specs.Planting.{IsFreshTrunk, MakesFresh, Planted, StopsPlanting}
+use Rattle.em_tree.specs.Planting.{IsFreshTrunk, Planted}
 use Rattle.em_tree.specs.Trunk.{trunk_blocks}
 use Rattle.em_tree.specs.declared.trunk.Trunk.{Trunk}
 use Rattle.em_tree.proofs.Stays.{forms_stay}
@@ -135,10 +134,3 @@ module _ {s m a t : RigState} {root : ℕ} {buffer answers : Writer} (p : Plante
       let P : ℕ → Type 0 = λ n. IsFreshTrunk s t (fresh_trunk root buffer answers n) in
       let same : m.moves - s.moves ≡ after - before = rw (e, f) refl in
       subst P same fresh_made
-
--- No blocks were stored, and so no tree was made.
-pub fresh_err : {s t : RigState} (result : Result Trunk EmFault) (fault : EmFault)
-    → IsErrAnd result (λ f. f ≡ fault) → StopsPlanting s t fault → MakesFresh s t result
-fresh_err (Ok x) fault i h = absurd i
-fresh_err {s} {t} (Err f) fault i h =
-    let P : EmFault → Type 0 = StopsPlanting s t in subst P (sym i) h

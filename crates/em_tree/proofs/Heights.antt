@@ -3,21 +3,16 @@ use Rattle.std.proofs.Common.{ℕ, ◌+◌, ◌≤◌, subst, IsTrue}
 use Rattle.em_record.specs.Cost.{blocks_of, lev}
 use Rattle.em_record.specs.declared.record.Record.{Record}
 use Rattle.em_space.specs.Rig.{RigState, Sound}
-use Rattle.em_tree_cost.proofs.Books.{books_share}
 use Rattle.em_tree_cost.proofs.Paid.{height_most}
-use Rattle.em_tree.specs.Calls.{IsLow, KeepsShare}
-use Rattle.em_tree.specs.Trunk.{IsTrunk, counts_of}
+use Rattle.em_tree.specs.Calls.{IsLow}
+use Rattle.em_tree.specs.Trunk.{IsTrunk}
 use Rattle.em_tree.specs.declared.trunk.Trunk.{Trunk}
 
 module _ {key : Record → Record} {IsOp IsKept : Record → Type 0} {s : RigState} {v : Trunk}
     (sound : Sound s) (i : IsTrunk key IsOp IsKept s v) (told : IsTrue s.device.told) where
-  -- It has at most two levels more than the blocks of k make.
+  -- It has at most two levels more than `lev` of the blocks of k operations.
   pub trunk_low : IsLow s.pool.shape v
   trunk_low =
       let b = i.books told in
       let P : ℕ → Type 0 = λ k. v.level ≤ 2 + lev s.pool.shape (blocks_of s.pool.shape k) in
       record { most = subst P b.k (height_most sound.shape b.paid) }
-
-  -- Its moves are within its share.
-  pub trunk_share : KeepsShare s.pool.shape (counts_of v)
-  trunk_share = record { within = books_share sound.shape (i.books told) }

@@ -288,10 +288,6 @@ module _ (key : Record → Record) (step : Option Record → Record → Step) (I
               share = λ told. record { within = books_share sound.shape (reset_books told) };
             }
 
-      -- the count of resets has room
-      pub reset_room : v.resets < 2 ^ 100 → (moved_on s t w).resets < 2 ^ 100
-      reset_room few = (let r = on.numbers.resets in omega (arith, r, few))
-
     -- It gave up.
     module _ {fault : EmFault} (h : StopsVisit 0 0 s t begun w fault) where
       pub takes_stopped : StopsTrunk s t v (moved_on s t w) fault
@@ -418,32 +414,27 @@ module _ (key : Record → Record) (step : Option Record → Record → Step) (I
             subst P begun_as h)
 
         -- left some,
-        pub take_some : taken.reset ≡ false → TookFirst key step IsOp IsKept area taken.count s t v y
+        pub take_some : taken.reset ≡ false
+            → TookFirst key step IsOp IsKept area taken.count s t v y × CountsTake s t v y (taken_ok taken.count)
         take_some e =
-            let P : Trunk → Type 0 = λ z. TookFirst key step IsOp IsKept area taken.count s t v z in
-            subst P (sym moved_as) (takes_more key step IsOp IsKept sound is laws took e)
-
-        pub count_some : taken.reset ≡ false → CountsTake s t v y (taken_ok taken.count)
-        count_some e =
-            let P : Trunk → Type 0 = λ z. CountsTake s t v z (taken_ok taken.count) in
-            subst P (sym moved_as) (inl (counts_more key step IsOp IsKept sound is laws took e))
+            let P : Trunk → Type 0 = λ z. TookFirst key step IsOp IsKept area taken.count s t v z
+            × CountsTake s t v z (taken_ok taken.count) in
+            subst P (sym moved_as) (
+              takes_more key step IsOp IsKept sound is laws took e,
+              inl (counts_more key step IsOp IsKept sound is laws took e),
+            )
 
         -- or nothing.
-        pub take_room : v.resets < 2 ^ 100 → y.resets < 2 ^ 100
-        take_room few =
-            let P : Trunk → Type 0 = λ z. z.resets < 2 ^ 100 in
-            subst P (sym moved_as) (reset_room key step IsOp IsKept sound is laws took few)
-
         module _ {z : Trunk} (counted_as : z ≡ counted_reset y) (none : taken.reset ≡ true) where
           reset_as : z ≡ reset_on s t w
           reset_as = counted_as ∙ ap counted_reset moved_as
 
-          pub take_rest : v.resets < 2 ^ 100 → TookFirst key step IsOp IsKept area taken.count s t v z
+          pub take_rest : v.resets < 2 ^ 100
+              → TookFirst key step IsOp IsKept area taken.count s t v z × CountsTake s t v z (taken_ok taken.count)
           take_rest few =
-              let P : Trunk → Type 0 = λ k. TookFirst key step IsOp IsKept area taken.count s t v k in
-              subst P (sym reset_as) (takes_rest key step IsOp IsKept sound is laws took none few)
-
-          pub count_rest : CountsTake s t v z (taken_ok taken.count)
-          count_rest =
-              let P : Trunk → Type 0 = λ k. CountsTake s t v k (taken_ok taken.count) in
-              subst P (sym reset_as) (inr (counts_rest key step IsOp IsKept sound is laws took none))
+              let P : Trunk → Type 0 = λ k. TookFirst key step IsOp IsKept area taken.count s t v k
+              × CountsTake s t v k (taken_ok taken.count) in
+              subst P (sym reset_as) (
+                takes_rest key step IsOp IsKept sound is laws took none few,
+                inr (counts_rest key step IsOp IsKept sound is laws took none),
+              )

@@ -136,6 +136,6 @@ pub record LeavesTrunk (s t : RigState) : Type 0 where
   pub frames : GivenFrames 2 s.pool t.pool
   pub same : t ≡ record s { pool = t.pool }
 
--- The tree has at most two levels more than the blocks of k make.
+-- The tree has at most two levels more than `lev` of the blocks of k operations.
 pub record IsLow (shape : ShapeNumbers) (v : Trunk) : Type 0 where
   pub most : v.level ≤ 2 + lev shape (blocks_of shape v.longest)

@@ -9,7 +9,7 @@
 ghost use Rattle.std.specs.Prelude.{◌≡◌, ◌↔◌, ◌+◌, ◌<◌, ◌^◌, IsTrue, length};
 ghost use Rattle.em_frames.specs.Pool.{load_of};
 ghost use Rattle.em_space.specs.Queue.{CanServe};
-ghost use Rattle.em_space.specs.Rig.{Sound};
+ghost use Rattle.em_space.specs.Rig.{RigState, Sound};
 ghost use Rattle.em_space.specs.Seen.{seen};
 ghost use Rattle.em_space.specs.declared.fault.EmFault.TheVariants.{Damaged};
 ghost use Rattle.em_tree_cost.specs.Books.{count_push, count_settle};
@@ -34,7 +34,7 @@ pub struct Tree<S: Settle> {
 
 impl<S: Settle> Tree<S> {
     ghost use Rattle.std.specs.Prelude.{Result, Ok, Err, IfOk, IfErr};
-    ghost use Rattle.em_tree.specs.Calls.{CountsCall, FinishCosts, FinishesTrunk, IsNewTrunk, LeavesTrunk, PushesOp, SettlesTrunk, StopsNewTrunk};
+    ghost use Rattle.em_tree.specs.Calls.{CountsCall, FinishCosts, FinishesTrunk, IsLow, IsNewTrunk, LeavesTrunk, PushesOp, SettlesTrunk, StopsNewTrunk};
     ghost use Rattle.em_space.specs.Rig.{IfFull};
     ghost use Rattle.em_tree.specs.Finishing.{FullIfUsed};
     ghost use Rattle.em_tree.specs.Meaning.{IsLater};
@@ -174,9 +174,13 @@ impl<S: Settle> Tree<S> {
         }
     }
 
-    /// The levels of nodes.
+    /// The levels of nodes. Over a device that tells, there are at most two more than `lev` of the blocks of k
+    /// operations, where k is the most that were pushed between two resets.
     pub fn height(&self) -> u64
-        ensures { result ≡ self.now.trunk.level }
+        ensures level { result ≡ self.now.trunk.level }
+        ensures low { (s : RigState) → Sound s
+            → IsTrunk (S.key_of self.now.settle) (S.IsOp self.now.settle) (S.IsKept self.now.settle) s
+            self.now.trunk → IsTrue s.device.told → IsLow s.pool.shape self.now.trunk }
     {
         self.trunk.level
     }

@@ -41,8 +41,8 @@ StopCause tells kind text faults after old new Read = Rose faults.read after.rea
 StopCause tells kind text faults after old new Write = Rose faults.write after.write
 StopCause tells kind text faults after old new (Em fault) = Cause old new fault
 
--- A stop of a call that only prints: the output's count of faults rose, or the rig gave up, which had
--- to give no block.
+-- A stop of a call that only prints: the output's count of faults rose, or a call on the rig
+-- failed. Printing takes no block, so it is never full.
 abbrev pub PrintCause : ℕ → ℕ → RigState → RigState → Stop → Type 0
 PrintCause faults after old new (Fault kind place) = ⊥
 PrintCause faults after old new Read = ⊥

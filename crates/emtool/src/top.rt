@@ -181,7 +181,7 @@ pub fn emtool<D: Device, H: Shelf, W: Sink, E: Sink>(
         words.now device.old shelf.old out.old device.new shelf.new out.new) result }
     ensures message_later { E.faults err.old ≤ E.faults err.new }
 {
-    // The words, which carry an allocator, go no further than `read_job`.
+    // The words, which carry an allocator, go no further than `read_job` and `name_at`.
     let outcome = match read_job(words) {
         Ok(job) => run_job(
             &job,
