@@ -27,7 +27,7 @@ use Rattle.em_chain.proofs.Readers.{length_items}
 use Rattle.em_sorting.specs.Room.{FullBeside}
 use Rattle.em_tree_cost.specs.Shares.{queue_share, stab_room, stab_share}
 use Rattle.em_tree_cost.proofs.Services.{stab_within}
-use Rattle.em_segment.specs.Finishes.{AnswersStabs, FinishedStab, FullIfSmall, GivesAll, StabCosts, StabsCost, StopsFinish, StopsStabs, own_share}
+use Rattle.em_segment.specs.Finishes.{AnswersStabs, AsksNothing, FinishedStab, FullIfSmall, GivesAll, StabCosts, StabsCost, StopsFinish, StopsStabs, own_share}
 use Rattle.em_segment.specs.Stabs.{HasCommands, IsStab, stab_account, stab_blocks, stab_size}
 use Rattle.em_segment.specs.declared.stab.Stab.{Stab}
 use Rattle.em_segment.proofs.StabNumbers.{lists_within, stab_blocks_are}
@@ -168,13 +168,14 @@ room_by (Some f) c most held first used p size calls j v r a b h = λ none.
 
 -- The costs where the queue was ended,
 pub end_costs : {Q : Type 0} (q : QueueGhosts Q) (x y : Q) {s t u : RigState} {v : Stab} {e : Chain}
-    (cs : List Command) → StabsCost q x y s t v cs → Sound s → q.HasItsFrames y t
+    (cs : List Command) → (AsksNothing v → y ≡ x) → StabsCost q x y s t v cs → Sound s
+    → q.HasItsFrames y t
     → IfSome q.room (λ f. (q.counts y).most ≤ f t.pool.shape (q.counts y).k) → IfSome q.room IsRisingRoom
     → (q.counts x).k ≤ (q.counts x).n → AnswersStabs q x y s t v e
     → e.blocks ≤ stab_room s.pool.shape (stab_size v cs)
     → Ends q.allowance q.room (q.blocks y t) (q.counts y) t u → IsTrue t.device.told
     → StabCosts q x s u v cs
-end_costs q x y {s} {t} {u} {v} {e} cs c h frames fits rises calls a few d z =
+end_costs q x y {s} {t} {u} {v} {e} cs idle c h frames fits rises calls a few d z =
     let shape = a.session.touches.shape in
     let size = stab_size v cs in
     let m = d.most in
@@ -189,6 +190,7 @@ end_costs q x y {s} {t} {u} {v} {e} cs c h frames fits rises calls a few d z =
       last = y;
       then_is = t;
       was = record { frames = frames; gone = inl d };
+      uncalled = idle;
       calls = c.calls;
       most_calls = c.most_calls;
       own = c.own;
@@ -203,12 +205,13 @@ end_costs q x y {s} {t} {u} {v} {e} cs c h frames fits rises calls a few d z =
 
 -- and where it was given up.
 pub left_costs : {Q : Type 0} (q : QueueGhosts Q) (x y : Q) {s t u : RigState} {v : Stab}
-    {fault : EmFault} (cs : List Command) → StabsCost q x y s t v cs → Sound s → q.HasItsFrames y t
+    {fault : EmFault} (cs : List Command) → (AsksNothing v → y ≡ x) → StabsCost q x y s t v cs → Sound s
+    → q.HasItsFrames y t
     → IfSome q.room (λ f. (q.counts y).most ≤ f t.pool.shape (q.counts y).k) → IfSome q.room IsRisingRoom
     → (q.counts x).k ≤ (q.counts x).n → StopsStabs q x y s t v fault → Leaves (q.counts y) t u
     → IfSome q.allowance (λ f. (q.counts y).spent ≤ f t.pool.shape (q.counts y).n (q.counts y).k)
     → StabCosts q x s u v cs
-left_costs q x y {s} {t} {u} {v} cs c h frames fits rises calls a l spends =
+left_costs q x y {s} {t} {u} {v} cs idle c h frames fits rises calls a l spends =
     let shape = a.touches.shape in
     let size = stab_size v cs in
     let moves = ap (λ (z : RigState). z.moves) l.same in
@@ -224,6 +227,7 @@ left_costs q x y {s} {t} {u} {v} cs c h frames fits rises calls a l spends =
       last = y;
       then_is = t;
       was = record { frames = frames; gone = inr l };
+      uncalled = idle;
       calls = c.calls;
       most_calls = c.most_calls;
       own = c.own;

@@ -90,12 +90,18 @@ pub record QueueWas {Q : Type 0} (q : QueueGhosts Q) (last : Q) (then_is t : Rig
   pub gone : Ends q.allowance q.room (q.blocks last then_is) (q.counts last) then_is t
       ⊎ Leaves (q.counts last) then_is t
 
+-- Nothing is asked: no stab came, or no interval.
+abbrev pub AsksNothing : Stab → Type 0
+AsksNothing v = (v.stabs.count ≡ 0) ⊎ (v.intervals.count ≡ 0)
+
 -- What it cost, over a device that tells, at every exit: n commands and pairs.
 pub record StabCosts {Q : Type 0} (q : QueueGhosts Q) (x : Q) (s t : RigState) (v : Stab)
     (cs : List Command) : Type 0 where
   pub last : Q
   pub then_is : RigState
   pub was : QueueWas q last then_is t
+  -- where nothing is asked, the queue was only ended
+  pub uncalled : AsksNothing v → last ≡ x
   -- two calls for each stab, and two for each pair
   pub calls : (q.counts last).n
       ≤ (q.counts x).n + 2 * (v.stabs.count + length (stab_pairs cs))
@@ -129,18 +135,14 @@ FullIfSmall q x s v cs result = IfErr result (λ fault. IfFull fault (λ used.
     → used + ((q.counts x).blocks + (stab_account v).blocks)
     < s.used + (f s.pool.shape (4 * stab_size v cs) + stab_room s.pool.shape (stab_size v cs)))))
 
--- Nothing is asked: no stab came, or no interval.
-abbrev pub AsksNothing : Stab → Type 0
-AsksNothing v = (v.stabs.count ≡ 0) ⊎ (v.intervals.count ≡ 0)
-
--- Then the queue isn't called before its end, no block is needed, and no pair is found.
+-- Where nothing is asked, the queue isn't called before its end, no block is needed, and no pair is found.
 pub record FindsNothing {Q : Type 0} (x y : Q) (result : Result Chain EmFault) : Type 0 where
   pub queue : y ≡ x
   pub empty : IfOk result (λ c. c ≡ empty_chain)
   pub never : IfErr result (λ fault. IfFull fault (λ used. ⊥))
 
--- Where nothing is asked, it says that the device is full only if the queue's end does: with the list's blocks
--- released, fewer are free than the queue asks.
+-- Nor does it say then that the device is full, but where the queue's end does: with the list's blocks released,
+-- fewer are free than the queue asks.
 abbrev pub FullIfAsked : {Q : Type 0} → QueueGhosts Q → Q → RigState → Stab → Result Chain EmFault
     → Type 0
 FullIfAsked q x s v result = IfErr result (λ fault. IfFull fault (λ used. AsksNothing v

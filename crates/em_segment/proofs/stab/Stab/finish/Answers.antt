@@ -18,7 +18,7 @@ returns-in-Ok-end g c =
     let d = c.end.ensures.ends in
     let calls = laws.k_most x s (laws.frames_of x s c.requires.queue) in record {
       finishes = finished g.Q.Queue x y e.answers d c.in-Ok-end.ensures.ended;
-      costs = λ z cs has. end_costs g.Q.Queue x y cs (e.costs z cs has) c.requires.sound e.frames
+      costs = λ z cs has. end_costs g.Q.Queue x y cs (λ none. (e.nothing none).queue) (e.costs z cs has) c.requires.sound e.frames
           (laws.fits y t e.frames) laws.rising_room calls e.answers
           (answers_few g.Q.Queue x y cs c.requires.sound c.requires.is e.answers z has) d
           (e.answers.session.touches.told ∙ z);
@@ -37,7 +37,7 @@ returns-in-Err-end g c =
     let f = c.in-Err-end.ensures in
     let calls = laws.k_most x s (laws.frames_of x s c.requires.queue) in record {
       finishes = end_stops g.Q.Queue x y e.answers f.ends f.owes f.cause;
-      costs = λ z cs has. end_costs g.Q.Queue x y cs (e.costs z cs has) c.requires.sound e.frames
+      costs = λ z cs has. end_costs g.Q.Queue x y cs (λ none. (e.nothing none).queue) (e.costs z cs has) c.requires.sound e.frames
           (laws.fits y t e.frames) laws.rising_room calls e.answers
           (answers_few g.Q.Queue x y cs c.requires.sound c.requires.is e.answers z has) f.ends
           (e.answers.session.touches.told ∙ z);
@@ -58,7 +58,7 @@ returns-in-Err g c =
     let leaves = c.abandon.ensures.leaves in
     let calls = laws.k_most x s (laws.frames_of x s c.requires.queue) in record {
       finishes = left_stops g.Q.Queue x y e.answers leaves;
-      costs = λ z cs has. left_costs g.Q.Queue x y cs (e.costs z cs has) c.requires.sound e.frames
+      costs = λ z cs has. left_costs g.Q.Queue x y cs (λ none. (e.nothing none).queue) (e.costs z cs has) c.requires.sound e.frames
           (laws.fits y t e.frames) laws.rising_room calls e.answers leaves
           (laws.spends y t e.frames (e.answers.touches.told ∙ z));
       full = λ z cs has. stops_small g.Q.Queue x y cs c.in-Err.fault (e.costs z cs has) calls
