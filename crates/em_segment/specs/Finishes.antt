@@ -141,8 +141,8 @@ pub record FindsNothing {Q : Type 0} (x y : Q) (result : Result Chain EmFault) :
   pub empty : IfOk result (λ c. c ≡ empty_chain)
   pub never : IfErr result (λ fault. IfFull fault (λ used. ⊥))
 
--- Nor does it say then that the device is full, but where the queue's end does: with the list's blocks released,
--- fewer are free than the queue asks.
+-- Where nothing is asked, only the queue's end can be full: with the list's blocks released, fewer are free
+-- than the queue asks.
 abbrev pub FullIfAsked : {Q : Type 0} → QueueGhosts Q → Q → RigState → Stab → Result Chain EmFault
     → Type 0
 FullIfAsked q x s v result = IfErr result (λ fault. IfFull fault (λ used. AsksNothing v
