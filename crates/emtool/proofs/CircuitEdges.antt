@@ -1,5 +1,5 @@
 -- How the reading of a circuit ends: with edges between ranks, or a stop.
-use Rattle.std.proofs.Common.{◌≡◌, ℕ, ◌+◌, ◌-◌, ◌*◌, ◌<◌, ◌≤◌, ◌^◌, max, ◌⊎◌, inl, inr, ⊎_elim, Bool, List, [], ◌++◌, ap, sym, subst, ◌∙◌, arith, IsTrue, Result, Ok, Err, IsErrAnd}
+use Rattle.std.proofs.Common.{◌≡◌, ℕ, ◌+◌, ◌-◌, ◌≤◌, ◌^◌, ◌⊎◌, inl, inr, ⊎_elim, Bool, List, [], ◌++◌, ap, sym, ◌∙◌, arith, IsTrue, Result, Ok, Err, IsErrAnd}
 use Rattle.em_record.specs.Shape.{ShapeNumbers, payload_of}
 use Rattle.em_io.specs.Feed.{Fed}
 use Rattle.em_io.specs.declared.shelf.Shelf.{Ghosts as ShelfGhosts}
@@ -18,7 +18,7 @@ use Rattle.aig_text.specs.declared.stop.AigStop.TheVariants as stop
 use Rattle.aig_text.specs.Source.{Source, left, source}
 use Rattle.aig_text.proofs.Lines.{of_error}
 use Rattle.aig_edges.specs.Build.{UsesUp}
-use Rattle.aig_edges.specs.Graph.{edge_count, graph_blocks, graph_size}
+use Rattle.aig_edges.specs.Graph.{edge_count, graph_blocks}
 use Rattle.aig_edges.specs.declared.graph.Graph.{Graph}
 use Rattle.aig_edges.specs.declared.graph.Ordered.{Ordered}
 use Rattle.aig_order.specs.OrderGraph.{OrdersGraph, StopsOrdering, StoresOrdered}

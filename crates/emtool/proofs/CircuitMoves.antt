@@ -1,8 +1,8 @@
 -- The moves of reading a circuit, making its graph and ordering its gates: at each of its ends they are
 -- within those of a circuit of the size that was read, if its queues keep to their share.
-use Rattle.std.proofs.Common.{◌≡◌, ℕ, ◌+◌, ◌*◌, ◌<◌, ◌≤◌, max, Bool, List, ap, sym, subst, ◌∙◌, refl, arith, IsTrue, Option, Some, None, IfSome, Result, Ok}
+use Rattle.std.proofs.Common.{◌≡◌, ℕ, ◌+◌, ◌*◌, ◌<◌, ◌≤◌, max, Bool, List, ap, sym, subst, ◌∙◌, refl, arith, IsTrue, Option, Some, IfSome, Result, Ok}
 use Rattle.em_record.specs.Shape.{ShapeNumbers, payload_of}
-use Rattle.em_space.specs.Queue.{IsNew, QueueCounts}
+use Rattle.em_space.specs.Queue.{QueueCounts}
 use Rattle.em_space.specs.Rig.{RigState}
 use Rattle.em_space.specs.declared.queue.Queue.{Ghosts as QueueGhosts}
 use Rattle.em_chain.specs.Chain.{payload_in}

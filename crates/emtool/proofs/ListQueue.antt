@@ -1,5 +1,5 @@
 -- A new queue that is a list of its items, and its run.
-use Rattle.std.proofs.Common.{◌≡◌, ℕ, ◌+◌, ◌*◌, ◌≤◌, [], ap, arith, inr}
+use Rattle.std.proofs.Common.{◌≡◌, [], ap, arith, inr}
 use Rattle.em_space.specs.Queue.{CanServe, IsNew, QueueCounts}
 use Rattle.em_space.specs.Rig.{Goes, RigState}
 use Rattle.em_space.proofs.Sessions.{session_as, session_still}

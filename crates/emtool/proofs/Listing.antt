@@ -1,6 +1,6 @@
 -- A file whose commands are given to a service, one after another.
-use Rattle.std.proofs.Common.{◌≡◌, ℕ, suc, ◌+◌, ◌*◌, ◌-◌, ◌<◌, ◌≤◌, ◌^◌, ◌⊎◌, List, [], ◌∷◌, length, take, refl, subst, ap, sym, ◌∙◌, arith, Bool, IsTrue, Option, Some, None, IfSome, inl, inr, ⊎_elim}
-use Rattle.em_record.specs.Shape.{IsShape, ShapeNumbers, fan_of, payload_of}
+use Rattle.std.proofs.Common.{◌≡◌, ℕ, suc, ◌+◌, ◌*◌, ◌-◌, ◌≤◌, ◌^◌, ◌⊎◌, List, [], ◌∷◌, length, take, refl, subst, ap, sym, ◌∙◌, arith, Bool, IsTrue, Option, Some, None, IfSome, inl, inr, ⊎_elim}
+use Rattle.em_record.specs.Shape.{IsShape, ShapeNumbers, fan_of}
 use Rattle.em_model.specs.Stab.{NumberedInterval, stab_answer_of, stab_answers, stab_answers_from, stab_step}
 use Rattle.em_model.specs.declared.command.Command.{Command}
 use Rattle.em_model.specs.declared.command.Command.TheVariants.{Put, Del, Get, Push, Pop, Interval, Stab}

@@ -1,5 +1,5 @@
 -- A run on made texts, from the run of its task over the shelf that makes them, whose output a tally took.
-use Rattle.std.proofs.Common.{◌≡◌, ℕ, ◌<◌, ◌≤◌, List, [], ap, subst, ◌∙◌, refl, arith, true}
+use Rattle.std.proofs.Common.{◌≡◌, ℕ, ◌≤◌, List, [], ap, subst, ◌∙◌, refl, arith, true}
 use Rattle.em_record.specs.Count.{Rose}
 use Rattle.em_record.specs.Shape.{ShapeNumbers}
 use Rattle.em_io.specs.Shelf.{unopened}

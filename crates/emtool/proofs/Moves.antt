@@ -1,5 +1,5 @@
 -- A run whose moves are within its transfer cost.
-use Rattle.std.proofs.Common.{◌≡◌, ℕ, ◌+◌, ◌-◌, ◌*◌, ◌<◌, ◌≤◌, ◌^◌, ◌⊎◌, Bool, false, List, [], Option, Some, None, IfSome, IsTrue, IsFalse, ap, sym, subst, ◌∙◌, refl, arith, inl, inr, ⊎_elim}
+use Rattle.std.proofs.Common.{◌≡◌, ℕ, ◌+◌, ◌-◌, ◌*◌, ◌<◌, ◌≤◌, ◌^◌, ◌⊎◌, Bool, false, List, [], Option, Some, None, IfSome, IsTrue, IsFalse, ap, subst, ◌∙◌, refl, arith, inl, inr, ⊎_elim}
 use Rattle.em_record.specs.Cost.{blocks_of, cost, lev}
 use Rattle.em_record.specs.Count.{Rose}
 use Rattle.em_record.specs.Shape.{ShapeNumbers, IsShape}

@@ -1,5 +1,5 @@
 -- A run on texts of either origin.
-use Rattle.std.proofs.Common.{◌≡◌, ℕ, Bool, List, Option, None, IsNone, IsSome, IfSome, IsTrue, is_none, refl, subst, sym, true}
+use Rattle.std.proofs.Common.{◌≡◌, ℕ, Bool, List, Option, None, IsSome, IfSome, IsTrue, is_none, refl, subst, sym, true}
 use Rattle.em_io.specs.Shelf.{Stand, by_slot}
 use Rattle.em_io.specs.declared.shelf.Shelf.{Ghosts as ShelfGhosts}
 use Rattle.em_io.specs.declared.shelf.Slot.{Slot}

@@ -1,5 +1,5 @@
 -- A run over a service or a queue.
-use Rattle.std.proofs.Common.{◌≡◌, ◌≢◌, ℕ, ◌+◌, ◌-◌, ◌*◌, ◌<◌, ◌≤◌, ◌^◌, List, [], ◌∷◌, ◌++◌, length, ap, sym, subst, ◌∙◌, refl, arith, Bool, true, IsTrue, Result, Some, None, inl, inr, ⊎_elim}
+use Rattle.std.proofs.Common.{◌≡◌, ◌≢◌, ℕ, ◌+◌, ◌-◌, ◌*◌, ◌≤◌, ◌^◌, List, [], ◌∷◌, ◌++◌, length, ap, sym, subst, ◌∙◌, refl, arith, Bool, true, IsTrue, Result, Some, None, inl, inr, ⊎_elim}
 use Rattle.em_record.specs.Shape.{ShapeNumbers}
 use Rattle.em_io.specs.Feed.{Fed, rest}
 use Rattle.em_io.specs.Shelf.{SlotState, Stand}

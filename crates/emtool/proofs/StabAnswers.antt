@@ -1,14 +1,14 @@
 -- An interval list is finished by a queue that is made for it.
-use Rattle.std.proofs.Common.{◌≡◌, ℕ, ◌+◌, ◌*◌, ◌≤◌, List, [], ◌++◌, length, ap, sym, subst, ◌∙◌, refl, arith, IsTrue, IfSome, Option, None, Some, Result, Ok, Err, IfOk, OnErr, IfErr}
+use Rattle.std.proofs.Common.{◌≡◌, ℕ, ◌+◌, ◌*◌, ◌≤◌, List, [], ◌++◌, length, ap, sym, subst, ◌∙◌, arith, IsTrue, IfSome, Option, None, Some, Result, Ok, Err, IfOk, OnErr, IfErr}
 use Rattle.std.proofs.Math.Nat.{mul-le-mul_left}
 use Rattle.em_record.specs.Cost.{blocks_of, lev}
 use Rattle.em_record.specs.Shape.{ShapeNumbers, fan_of}
-use Rattle.em_frames.specs.Pool.{GivenFrames, PoolCounts, SameFrames, singles_of}
+use Rattle.em_frames.specs.Pool.{GivenFrames, PoolCounts, singles_of}
 use Rattle.em_model.specs.StabAnswers.{stab_pairs}
 use Rattle.em_model.specs.declared.command.Command.{Command}
 use Rattle.em_space.specs.Ledger.{Session}
-use Rattle.em_space.specs.Queue.{CanServe, Pays, QueueCounts, Shares}
-use Rattle.em_space.specs.Rig.{Cause, RigState, Sound, Touches}
+use Rattle.em_space.specs.Queue.{Pays, QueueCounts, Shares}
+use Rattle.em_space.specs.Rig.{Cause, RigState, Sound}
 use Rattle.em_space.specs.declared.fault.EmFault.{EmFault}
 use Rattle.em_space.specs.declared.fault.EmFault.TheVariants.{Damaged, DeviceFault, Full}
 use Rattle.em_space.specs.declared.queue.Queue.{Ghosts as QueueGhosts}
@@ -17,7 +17,7 @@ use Rattle.em_space.proofs.Paying.{pays_more, pays_then}
 use Rattle.em_space.proofs.Sessions.{session_as, session_still, session_then, session_trans}
 use Rattle.em_space.proofs.Steps.{cause_after, goes_nothing, touches_then, touches_wider}
 use Rattle.em_space.proofs.Within.{touches_within}
-use Rattle.em_chain.specs.Chain.{chain_blocks, chain_items}
+use Rattle.em_chain.specs.Chain.{chain_items}
 use Rattle.em_chain.specs.declared.chain.Chain.{Chain}
 use Rattle.em_segment.specs.Finishes.{CanFinish, FinishesTo, GivesAll, StabCosts}
 use Rattle.em_segment.specs.Stabs.{HasCommands, IsStab, LeavesStab, StabHasFrames, stab_account, stab_blocks, stab_size}

@@ -1,5 +1,5 @@
 -- An interval list as a service: what its calls leave.
-use Rattle.std.proofs.Common.{◌≡◌, ℕ, ◌+◌, ◌*◌, ◌≤◌, List, [], ◌∷◌, ◌++◌, length, ap, refl, arith, inr, IsTrue, None, Some, Result, Ok, Err, IsOk, OnOk, OnErr, IfOk, IfErr}
+use Rattle.std.proofs.Common.{◌≡◌, ◌+◌, List, [], ◌∷◌, ◌++◌, ap, refl, arith, inr, None, Some, Result, Ok, Err, IsOk, OnOk, OnErr, IfOk, IfErr}
 use Rattle.std.proofs.lemmas.List.{length-append}
 use Rattle.em_model.specs.declared.command.Command.{Command}
 use Rattle.em_space.specs.Queue.{Pays}
@@ -10,7 +10,7 @@ use Rattle.em_space.proofs.Runs.{runs_goes}
 use Rattle.em_chain.specs.Effects.{Unmoved}
 use Rattle.em_chain.specs.Writer.{IsWriter, writer_blocks}
 use Rattle.em_chain.specs.declared.writer.Writer.{Writer}
-use Rattle.em_segment.specs.Stabs.{HasCommands, IsNewStab, IsStab, LeavesStab, StabHasFrames, TakeCosts, TakesTo, stab_account, stab_blocks}
+use Rattle.em_segment.specs.Stabs.{HasCommands, IsNewStab, IsStab, LeavesStab, StabHasFrames, TakeCosts, TakesTo, stab_blocks}
 use Rattle.em_segment.specs.declared.stab.Stab.{Stab}
 use Rattle.em_tree_cost.specs.Shares.{stab_share}
 use Rattle.emtool.specs.Service.{GivesFrames, MakesService, TakesCommand, WithinAllowance}

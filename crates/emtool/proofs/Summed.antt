@@ -1,5 +1,5 @@
 -- A run on made texts ends as the run of its task on them did, with its summary in place of the answers.
-use Rattle.std.proofs.Common.{◌≡◌, ℕ, ◌+◌, ◌≤◌, List, [], Option, Some, None, IfSome, ap, sym, subst, ◌∙◌, refl, arith, true, IsTrue}
+use Rattle.std.proofs.Common.{◌≡◌, ℕ, ◌+◌, ◌≤◌, List, Option, Some, None, IfSome, ap, sym, subst, ◌∙◌, refl, arith, true, IsTrue}
 use Rattle.em_record.specs.Shape.{ShapeNumbers}
 use Rattle.em_io.specs.Shelf.{SlotState, Stand}
 use Rattle.em_io.specs.Sink.{IsRule, SentPart}

@@ -8,7 +8,6 @@ use Rattle.em_frames.specs.Device.{DeviceState}
 use Rattle.em_frames.specs.Pool.{PoolCounts}
 use Rattle.em_space.specs.Rig.{Opens, RigState}
 use Rattle.em_io.specs.declared.shelf.Slot.{Slot}
-use Rattle.em_io.specs.declared.shelf.Slot.TheVariants.{First, Second}
 use Rattle.emtool.specs.declared.job.Job.{Job}
 use Rattle.emtool.specs.declared.job.Origin.{Origin}
 use Rattle.emtool.specs.declared.job.Origin.TheVariants.{Files, Made}

@@ -1,6 +1,6 @@
 -- A run that read its texts whole may hold no fewer blocks, and make no fewer moves, than one that stopped
 -- in them.
-use Rattle.std.proofs.Common.{IfSome, ℕ, zero, suc, ◌-◌, ◌<◌, ◌≤◌, Bool, true, false, cond, List, [], ◌∷◌, length, take, arith}
+use Rattle.std.proofs.Common.{IfSome, ℕ, zero, suc, ◌-◌, ◌≤◌, Bool, true, false, cond, List, [], ◌∷◌, length, take, arith}
 use Rattle.std.specs.List.{sum_by}
 use Rattle.std.proofs.lemmas.List.Sums.{sum_by-append}
 use Rattle.em_record.specs.Cost.{cost}

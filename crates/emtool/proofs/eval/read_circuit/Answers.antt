@@ -1,4 +1,4 @@
-use Rattle.std.proofs.Common.{◌≡◌, ◌≤◌, [], ◌++◌, arith, refl, sym, ◌∙◌, IsTrue}
+use Rattle.std.proofs.Common.{[], ◌++◌, arith, refl, sym, ◌∙◌}
 use Rattle.em_space.specs.Seen.{seen}
 use Rattle.em_space.proofs.Paying.{pays_of_owes, pays_then}
 use Rattle.em_space.proofs.Steps.{goes_then}

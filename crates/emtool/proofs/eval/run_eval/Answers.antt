@@ -1,4 +1,4 @@
-use Rattle.std.proofs.Common.{rules, ◌≡◌, ◌∙◌, ◌<◌, [], ap, refl, Some, arith, IsTrue}
+use Rattle.std.proofs.Common.{rules, ◌≡◌, ◌∙◌, [], ap, refl, Some, arith, IsTrue}
 use Rattle.em_io.specs.declared.shelf.Slot.TheVariants.{First, Second}
 use Rattle.em_space.specs.Seen.{seen}
 use Rattle.em_space.proofs.Within.{touches_within}

@@ -1,4 +1,4 @@
-use Rattle.std.proofs.Common.{rules, ◌<◌, ◌≤◌, [], subst, refl, IsTrue, ◌≡◌, ap, sym, ◌∙◌, None}
+use Rattle.std.proofs.Common.{rules, ◌≤◌, subst, refl, IsTrue, ◌≡◌, ap, sym, ◌∙◌, None}
 use Rattle.em_io.specs.Feed.{Fed, rest}
 use Rattle.em_io.specs.declared.shelf.Slot.TheVariants.{First}
 use Rattle.em_space.specs.Seen.{seen}
