@@ -1,5 +1,6 @@
 -- An evaluator that steps on, and what its steps keep.
-use Rattle.std.specs.Prelude.{◌≡◌, ◌≤◌, ◌++◌, ℕ, Result, OnOk, IsTrue}
+use Rattle.std.specs.Prelude.{◌≡◌, ◌≤◌, ◌++◌, ◌+◌, ◌*◌, ℕ, false, Result, OnOk, IsTrue}
+use Rattle.em_record.specs.Shape.{fan_of}
 use Rattle.em_frames.specs.Pool.{SameFrames}
 use Rattle.em_space.specs.Held.{Holds}
 use Rattle.em_space.specs.Queue.{CanServe, QueueCounts, Shares}
@@ -20,6 +21,13 @@ pub record ReadyToStep {Q : Type 0} (queue : Ghosts Q) (most : ℕ) (text : Sour
   pub ready : CanRead text
   pub free : CanBuild s.pool
   pub few : (queue.counts e.queue).n ≤ most
+
+-- The frames for a new queue over a tree are free, two and an area, and those for stepping beside it.
+pub record HasTreeFrames (s : RigState) : Type 0 where
+  pub sound : Sound s
+  pub two : 2 * fan_of s.pool.shape + 12 ≤ s.pool.free
+  pub areas : 2 ≤ s.pool.free_areas
+  pub rack : s.pool.rack_out ≡ false
 
 -- All that making an evaluator and stepping ask: a queue of which no call came, edges between ranks, and a
 -- stimulus that can be read.

@@ -4,17 +4,27 @@ ghost use Rattle.em_space.specs.Seen.{seen};
 ghost use Rattle.aig_text.specs.Source.{CanRead, source};
 ghost use Rattle.aig_edges.specs.Graph.{IsOrdered};
 ghost use Rattle.aig_trials.specs.Frames.{HasFrames, LeavesFrames};
-ghost use Rattle.aig_forward_tests.specs.Stepping.{GivesBack, ReadyToEvaluate, ReadyToStep, StepsOn};
+ghost use Rattle.aig_forward_tests.specs.Stepping.{GivesBack, HasTreeFrames, ReadyToEvaluate, ReadyToStep, StepsOn};
 
 use aig_edges::{Ordered, StepStop};
 use aig_forward::{Evaluator, StepEnd};
 use em_frames::Device;
 use em_io::{Feed, Printer, Shelf, Sink};
 use em_plain::ScanQueue;
+use em_pqueue::ExtQueue;
 use em_space::{Queue, Rig};
 
 /// No stimulus here has more lines.
 const LINES: u64 = 8;
+
+/// Which queue carries the messages.
+#[derive(Clone, Copy)]
+pub(crate) enum By {
+    /// One that keeps its items in a list.
+    List,
+    /// One that keeps a heap over a buffer tree.
+    Tree,
+}
 
 /// Steps until nothing is left of the stimulus.
 fn step_all<D: Device, Q: Queue, H: Shelf, W: Sink>(
@@ -68,8 +78,8 @@ fn evaluate<D: Device, Q: Queue, H: Shelf, W: Sink>(
     }
 }
 
-/// Evaluates by a new queue for the stimulus of a feed.
-pub(crate) fn evaluate_ordered<D: Device, H: Shelf, W: Sink>(
+/// Evaluates by a new queue over a list for the stimulus of a feed.
+fn evaluate_by_list<D: Device, H: Shelf, W: Sink>(
     rig: &mut Rig<'_, D>,
     ordered: Ordered,
     feed: &mut Feed,
@@ -84,4 +94,44 @@ pub(crate) fn evaluate_ordered<D: Device, H: Shelf, W: Sink>(
 {
     let queue = ScanQueue::new(rig)?;
     evaluate(rig, ordered, queue, feed, shelf, printer, sink)
+}
+
+/// Evaluates by a new queue over a buffer tree for the stimulus of a feed.
+fn evaluate_by_tree<D: Device, H: Shelf, W: Sink>(
+    rig: &mut Rig<'_, D>,
+    ordered: Ordered,
+    feed: &mut Feed,
+    shelf: &mut H,
+    printer: &mut Printer,
+    sink: &mut W,
+) -> Result<(), StepStop>
+    requires has { HasTreeFrames (seen D.state rig.old) }
+    requires ordered { IsOrdered (seen D.state rig.old) ordered }
+    requires ready { CanRead (source H.Shelf feed.old shelf.old) }
+    ensures leaves { LeavesFrames (seen D.state rig.old) (seen D.state rig.new) }
+{
+    let queue = ExtQueue::new(rig)?;
+    evaluate(rig, ordered, queue, feed, shelf, printer, sink)
+}
+
+/// Evaluates by a new queue of this kind for the stimulus of a feed.
+pub(crate) fn evaluate_ordered<D: Device, H: Shelf, W: Sink>(
+    rig: &mut Rig<'_, D>,
+    ordered: Ordered,
+    by: By,
+    feed: &mut Feed,
+    shelf: &mut H,
+    printer: &mut Printer,
+    sink: &mut W,
+) -> Result<(), StepStop>
+    requires has { HasFrames (seen D.state rig.old) }
+    requires has_more { HasTreeFrames (seen D.state rig.old) }
+    requires ordered { IsOrdered (seen D.state rig.old) ordered }
+    requires ready { CanRead (source H.Shelf feed.old shelf.old) }
+    ensures leaves { LeavesFrames (seen D.state rig.old) (seen D.state rig.new) }
+{
+    match by {
+        By::List => evaluate_by_list(rig, ordered, feed, shelf, printer, sink),
+        By::Tree => evaluate_by_tree(rig, ordered, feed, shelf, printer, sink),
+    }
 }

@@ -1,5 +1,6 @@
-//! Evaluates some circuits for some stimuli, and prints the lines that went out and how it ended. What each
-//! must print stands in the file `stdout` of this crate: it was worked out by hand.
+//! Evaluates some circuits for some stimuli, by a queue over a list and by one over a buffer tree, and prints
+//! the lines that went out and how it ended. What each must print stands in the file `stdout` of this crate:
+//! it was worked out by hand, and both queues must print the same.
 #![tactic(auto)]
 
 mod evaluation;

@@ -2,8 +2,9 @@
 ghost use Rattle.std.specs.Prelude.{◌≡◌, IfOk, true};
 ghost use Rattle.em_space.specs.Seen.{seen};
 ghost use Rattle.aig_trials.specs.Frames.{HasFrames, LeavesFrames};
+ghost use Rattle.aig_forward_tests.specs.Stepping.{HasTreeFrames};
 
-use crate::evaluation::evaluate_ordered;
+use crate::evaluation::{By, evaluate_ordered};
 use aig_defs::AigKind;
 use aig_edges::StepStop;
 use aig_text::AigStop;
@@ -42,24 +43,26 @@ fn shelf_of(alloc: Global, text: &str) -> Result<MemShelf, Fail>
     Ok(shelf)
 }
 
-/// Evaluates a circuit for a stimulus.
+/// Evaluates a circuit for a stimulus, by a queue of this kind.
 fn evaluate_texts<D: Device>(
     rig: &mut Rig<'_, D>,
     circuit: &mut MemShelf,
     stimulus: &mut MemShelf,
+    by: By,
     printer: &mut Printer,
     sink: &mut MemSink,
 ) -> Ending
     requires circuit { circuit.old.first.ready ≡ true }
     requires stimulus { stimulus.old.first.ready ≡ true }
     requires has { HasFrames (seen D.state rig.old) }
+    requires has_more { HasTreeFrames (seen D.state rig.old) }
     ensures leaves { LeavesFrames (seen D.state rig.old) (seen D.state rig.new) }
 {
     let mut feed = Feed::new(Slot::First);
     match read_ordered(rig, &mut feed, circuit) {
         Ok(ordered) => {
             let mut lines = Feed::new(Slot::First);
-            match evaluate_ordered(rig, ordered, &mut lines, stimulus, printer, sink) {
+            match evaluate_ordered(rig, ordered, by, &mut lines, stimulus, printer, sink) {
                 Ok(()) => Ending::Done,
                 Err(StepStop::Fault { kind, place }) => Ending::Fault { kind, place },
                 Err(_) => Ending::Failed,
@@ -83,14 +86,9 @@ fn print_bytes(rt: &HostRuntime, bytes: &[u8]) -> Result<(), Fail> {
     Ok(())
 }
 
-/// Prints the lines that the sink took for a circuit and a stimulus, and how it ended. Lines may be
-/// pending in the printer, so a newline more is sent after them, which isn't printed.
-pub(crate) fn print_evaluation(
-    rt: &HostRuntime,
-    title: &str,
-    circuit: &str,
-    stimulus: &str,
-) -> Result<(), Fail> {
+/// Prints the lines that the sink took for a circuit and a stimulus by a queue of this kind, and how it
+/// ended. Lines may be pending in the printer, so a newline more is sent after them, which isn't printed.
+fn print_by(rt: &HostRuntime, circuit: &str, stimulus: &str, by: By) -> Result<(), Fail> {
     let alloc = rt.alloc();
     let mut circuit = shelf_of(alloc, circuit)?;
     let mut stimulus = shelf_of(alloc, stimulus)?;
@@ -102,12 +100,12 @@ pub(crate) fn print_evaluation(
         &mut rig,
         &mut circuit,
         &mut stimulus,
+        by,
         &mut printer,
         &mut sink,
     );
     let _cost = ended(rig);
     printer.end_line(&mut sink)?;
-    println!(rt; "{title}")?;
     if let Some((_newline, lines)) = sink.bytes().split_last() {
         print_bytes(rt, lines)?;
     }
@@ -117,4 +115,17 @@ pub(crate) fn print_evaluation(
         Ending::Failed => println!(rt; "Failed")?,
     }
     Ok(())
+}
+
+/// Prints the lines for a circuit and a stimulus, and how it ended, by each kind of queue.
+pub(crate) fn print_evaluation(
+    rt: &HostRuntime,
+    title: &str,
+    circuit: &str,
+    stimulus: &str,
+) -> Result<(), Fail> {
+    println!(rt; "{title}, by a list")?;
+    print_by(rt, circuit, stimulus, By::List)?;
+    println!(rt; "{title}, by a tree")?;
+    print_by(rt, circuit, stimulus, By::Tree)
 }

@@ -3,7 +3,7 @@ use Rattle.em_space.specs.Queue.{QueueCounts}
 use Rattle.em_space.specs.Seen.{seen}
 use Rattle.aig_trials.proofs.Making.{can_lend}
 use Rattle.aig_forward_tests.proofs.Making.{ordered_held, ordered_stay}
-use Rattle.aig_forward_tests.proofs.evaluation.evaluate_ordered.Goals as goal
+use Rattle.aig_forward_tests.proofs.evaluation.evaluate_by_list.Goals as goal
 
 pub evaluate-requires : goal.evaluate-requires
 evaluate-requires g c =
