@@ -14,8 +14,8 @@ use em_plain::ScanQueue;
 use em_pqueue::ExtQueue;
 use em_space::{Queue, Rig};
 
-/// No stimulus here has more lines.
-const LINES: u64 = 8;
+/// No stimulus here has as many lines.
+const LINES: u64 = 9;
 
 /// Which queue carries the messages.
 #[derive(Clone, Copy)]

@@ -1,12 +1,13 @@
 //! Evaluates some circuits for some stimuli, by a queue over a list and by one over a buffer tree, and prints
-//! the lines that went out and how it ended. What each must print stands in the file `stdout` of this crate:
-//! it was worked out by hand, and both queues must print the same.
+//! the lines that went out and how it ended; and of a made circuit the numbers of its lines. What each must
+//! print stands in the file `stdout` of this crate: it was worked out by hand, the numbers by another program,
+//! and both queues must print the same.
 #![tactic(auto)]
 
 mod evaluation;
 mod printed;
 
-use crate::printed::print_evaluation;
+use crate::printed::{print_evaluation, print_made};
 use std::test::Fail;
 
 /// An and gate.
@@ -67,5 +68,6 @@ fn main(rt: HostRuntime) -> Result<(), Fail> {
     print_evaluation(&rt, "gates, each of the next one", DOWNWARD, "0\n1\n")?;
     print_evaluation(&rt, "a latch of gates in two passes", TWO_PASSES, "\n\n\n")?;
     print_evaluation(&rt, "a cycle of gates", CYCLE, "0\n")?;
-    print_evaluation(&rt, "a gate above a cycle", ABOVE_CYCLE, "0\n")
+    print_evaluation(&rt, "a gate above a cycle", ABOVE_CYCLE, "0\n")?;
+    print_made(&rt, 2000)
 }

@@ -5,6 +5,7 @@ ghost use Rattle.std.specs.Prelude.{◌≡◌};
 mod damaged;
 mod each_call;
 mod each_evaluation;
+mod made;
 mod next_block;
 mod services;
 mod watched;

@@ -162,7 +162,7 @@ fn open_shelf(alloc: Global, text: &[u8]) -> Result<MemShelf, Fail>
 }
 
 /// A new rig of a shape, over a device of 100,000 blocks that isn't begun yet.
-fn open_rig<'d, D: Device>(
+pub(super) fn open_rig<'d, D: Device>(
     alloc: Global,
     shape: Shape,
     device: &'d mut D,
@@ -184,7 +184,7 @@ fn open_rig<'d, D: Device>(
 }
 
 /// Closes a rig of which all frames are back, and answers the moves that were made on it.
-fn close_rig<D: Device>(rig: Rig<'_, D>) -> u64
+pub(super) fn close_rig<D: Device>(rig: Rig<'_, D>) -> u64
     requires { IsWhole (seen D.state rig).pool }
 {
     let moves = rig.moves();
