@@ -7,7 +7,7 @@ ghost use Rattle.em_space.specs.Rig.{Sound};
 ghost use Rattle.em_space.specs.Seen.{seen};
 ghost use Rattle.em_chain.specs.Chain.{IsChain};
 
-use crate::{extend, scans, takes, write};
+use em_devices::{extend, scans, takes, write};
 use em_chain::{Chain, Writer, discard, join, part_at};
 use em_devices::{Cost, Untold, ended, opened};
 use em_frames::{Device, MemDevice};

@@ -7,7 +7,8 @@ ghost use Rattle.em_chain.specs.Chain.{IsChain};
 ghost use Rattle.em_chain.specs.Writers.{HasRack, IsGroup};
 ghost use Rattle.em_chain_tests.specs.Dealt.{FreesFrames, HasFew, HoldsThree};
 
-use crate::{deal, scans, takes, write};
+use crate::groups::deal;
+use em_devices::{scans, takes, write};
 use em_chain::{Chain, Writers};
 use em_devices::{Cost, ended, opened};
 use em_frames::{Device, MemDevice};

@@ -9,7 +9,7 @@ ghost use Rattle.em_empty.specs.Node.{CanEmpty};
 ghost use Rattle.em_empty_tests.specs.Bare.{AreBare, HasBuffers, IsBare, StoresBare};
 
 use em_chain::Chain;
-use em_chain_tests::{scans, write};
+use em_devices::{scans, write};
 use em_frames::{Device, Frame};
 use em_node::{check, count, entry_at};
 use em_record::{Record, Shape};

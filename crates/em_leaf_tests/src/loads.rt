@@ -13,7 +13,7 @@ ghost use Rattle.em_leaf_tests.specs.Standing.{IsSmallRig, KeepsRig};
 
 use crate::load_all;
 use em_chain::{Chain, Writer};
-use em_chain_tests::scans;
+use em_devices::scans;
 use em_devices::{Cost, ended, opened};
 use em_frames::{Area, Device, MemDevice};
 use em_leaf::LeafChange;

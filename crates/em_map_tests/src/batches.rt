@@ -5,7 +5,7 @@ ghost use Rattle.em_space.specs.Seen.{seen};
 ghost use Rattle.em_map_tests.specs.Batches.{HasBatchFrames, KeepsBatch, KeepsRig, ReadyBatch};
 
 use em_chain::Chain;
-use em_chain_tests::takes;
+use em_devices::takes;
 use em_devices::{Cost, ended, opened};
 use em_frames::{Device, MemDevice};
 use em_map::Batch;

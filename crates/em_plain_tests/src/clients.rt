@@ -8,7 +8,7 @@ ghost use Rattle.em_plain_tests.specs.Ready.{HasFrames, KeepsQueue, ReadyQueue};
 
 use crate::pushes::{item, push_next};
 use em_chain::Writer;
-use em_chain_tests::takes;
+use em_devices::takes;
 use em_client::{beside, drain};
 use em_frames::Device;
 use em_plain::ScanQueue;

@@ -7,7 +7,7 @@ ghost use Rattle.em_plain_tests.specs.Ready.{Keeps, KeepsList, ReadyList};
 
 use crate::faults::answer_if;
 use em_chain::Chain;
-use em_chain_tests::takes;
+use em_devices::takes;
 use em_devices::{ended, opened};
 use em_frames::{Device, MemDevice};
 use em_model::Command;

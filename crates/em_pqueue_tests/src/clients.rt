@@ -14,7 +14,7 @@ use em_frames::Device;
 use em_pqueue::ExtQueue;
 use em_record::{Record, Shape};
 use em_space::{EmFault, Queue, Rig};
-use em_tree_walk_tests::Quiet;
+use em_devices::Quiet;
 use std::alloc::Global;
 use std::test::Fail;
 

@@ -9,7 +9,7 @@ ghost use Rattle.em_plain.specs.ScanQueue.{IsScanQueue, LacksFrom};
 ghost use Rattle.em_queued_tests.specs.Ready.{KeepsBeside, ReadyBeside};
 
 use em_chain::Writer;
-use em_chain_tests::takes;
+use em_devices::takes;
 use em_devices::{Cost, ended, opened};
 use em_frames::{Device, MemDevice};
 use em_plain::ScanQueue;

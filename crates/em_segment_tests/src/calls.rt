@@ -6,7 +6,7 @@ ghost use Rattle.em_segment.specs.Stabs.{IsStab};
 ghost use Rattle.em_segment_tests.specs.Ready.{EndsStab, HasFrames, KeepsRig, KeepsStab, ReadyStab};
 
 use em_chain::Chain;
-use em_chain_tests::takes;
+use em_devices::takes;
 use em_devices::{Cost, ended, opened};
 use em_frames::{Device, MemDevice};
 use em_model::Command;

@@ -7,7 +7,7 @@ ghost use Rattle.em_space.specs.Rig.{Sound};
 ghost use Rattle.em_space.specs.Seen.{seen};
 ghost use Rattle.em_sorting_tests.specs.Ready.{KeepsQueue, ReadyToSort};
 
-use em_chain_tests::{takes, write};
+use em_devices::{takes, write};
 use em_devices::{Cost, ended, opened};
 use em_frames::{Device, MemDevice};
 use em_plain::ScanQueue;

@@ -16,7 +16,7 @@ use em_frames::{Area, Device};
 use em_record::Record;
 use em_space::{EmFault, Rig};
 use em_tree_load::{FirstLeaf, first_leaf, remove_first, take_leaf};
-use em_tree_walk_tests::Quiet;
+use em_devices::Quiet;
 use std::alloc::Global;
 use std::test::Fail;
 

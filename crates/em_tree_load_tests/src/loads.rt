@@ -10,14 +10,14 @@ ghost use Rattle.em_chain.specs.Writer.{IsWriter};
 
 use crate::trees::{begins_with, store_leaf, store_node};
 use em_chain::{Chain, Writer};
-use em_chain_tests::write;
+use em_devices::write;
 use em_devices::{Cost, ended, opened};
 use em_frames::Device;
 use em_record::Record;
 use em_settle::MapSettle;
 use em_space::{EmFault, Rig};
 use em_tree_load::load_leaf;
-use em_tree_walk_tests::Quiet;
+use em_devices::Quiet;
 use std::alloc::Global;
 use std::test::Fail;
 

@@ -12,7 +12,7 @@ use em_frames::Device;
 use em_record::Record;
 use em_space::{EmFault, Rig};
 use em_tree_load::release_tree;
-use em_tree_walk_tests::Quiet;
+use em_devices::Quiet;
 use std::alloc::Global;
 use std::test::Fail;
 

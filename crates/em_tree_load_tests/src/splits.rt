@@ -11,7 +11,8 @@ use em_frames::Device;
 use em_record::Record;
 use em_space::{EmFault, Rig};
 use em_tree_load::{Root, split_up};
-use em_tree_walk_tests::{Quiet, set_up};
+use em_devices::Quiet;
+use em_tree_walk_tests::set_up;
 use std::test::Fail;
 
 /// The block and the level of the root afterwards, and whether it is the wanted one.

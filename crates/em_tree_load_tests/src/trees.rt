@@ -4,7 +4,7 @@ ghost use Rattle.em_frames.specs.Device.{DeviceState};
 ghost use Rattle.em_space.specs.Rig.{Goes, InUse, Sound};
 ghost use Rattle.em_space.specs.Seen.{seen};
 
-use em_chain_tests::write;
+use em_devices::write;
 use em_frames::{Device, Frame};
 use em_record::Record;
 use em_space::{EmFault, Rig};

@@ -17,7 +17,7 @@ use em_record::{Record, Shape};
 use em_settle::MapSettle;
 use em_space::{EmFault, Rig};
 use em_tree::Tree;
-use em_tree_walk_tests::Quiet;
+use em_devices::Quiet;
 use std::alloc::Global;
 use std::test::Fail;
 

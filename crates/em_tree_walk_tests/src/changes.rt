@@ -6,7 +6,7 @@ ghost use Rattle.em_space.specs.Rig.{Sound};
 ghost use Rattle.em_space.specs.Seen.{seen};
 
 use crate::hand_made::{FIRST, Row, has_rows, store_node};
-use crate::quiet::Quiet;
+use em_devices::Quiet;
 use em_devices::{Cost, ended, opened};
 use em_frames::Device;
 use em_node::Entry;

@@ -6,7 +6,7 @@ ghost use Rattle.em_space.specs.Rig.{Sound};
 ghost use Rattle.em_space.specs.Seen.{seen};
 
 use crate::hand_made::set_up;
-use crate::quiet::Quiet;
+use em_devices::Quiet;
 use em_devices::{Cost, ended, opened};
 use em_frames::Device;
 use em_record::Record;

@@ -6,9 +6,7 @@ mod changes;
 #[cfg(test)]
 mod descents;
 mod hand_made;
-mod quiet;
 #[cfg(test)]
 mod searches;
 
 pub use hand_made::{has_rows, set_up};
-pub use quiet::Quiet;

@@ -8,7 +8,7 @@ ghost use Rattle.em_chain.specs.Chain.{IsChain, chain_blocks};
 ghost use Rattle.em_weave.specs.State.{IsWeave, WeaveHasFrames, weave_blocks};
 
 use em_chain::Chain;
-use em_chain_tests::write;
+use em_devices::write;
 use em_devices::{Cost, Untold, ended, opened};
 use em_frames::{Device, MemDevice};
 use em_record::Record;

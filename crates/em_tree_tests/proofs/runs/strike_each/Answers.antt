@@ -1,6 +1,6 @@
 use Rattle.em_space.specs.Seen.{seen}
 use Rattle.em_space.proofs.Within.{goes_within, within_then}
-use Rattle.em_chain_tests.proofs.Walks.{reader_within}
+use Rattle.em_devices.proofs.Walks.{reader_within}
 use Rattle.em_tree_tests.proofs.runs.strike_each.Goals as goal
 
 pub loop-preserved : goal.loop-preserved

@@ -2,7 +2,7 @@ use Rattle.std.proofs.Common.{◌∙◌, arith}
 use Rattle.em_space.specs.Seen.{seen}
 use Rattle.em_space.proofs.Within.{goes_within, within_then}
 use Rattle.em_chain.proofs.Withins.{within_grows}
-use Rattle.em_chain_tests.proofs.Walks.{written_more}
+use Rattle.em_devices.proofs.Walks.{written_more}
 use Rattle.em_chain_tests.proofs.lists.append_all.Goals as goal
 
 pub returns-in_err-append-clause-goes : goal.returns-in_err-append-clause-goes
