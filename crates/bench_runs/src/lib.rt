@@ -7,8 +7,6 @@ mod measuring;
 mod program;
 mod records;
 mod stop;
-#[cfg(test)]
-mod tests;
 mod words;
 
 pub use bench::Bench;

@@ -4,8 +4,6 @@
 
 mod bench;
 mod chains;
-#[cfg(test)]
-mod tests;
 
 use crate::bench::ChainBench;
 use bench_runs::run_program;

@@ -4,8 +4,6 @@
 
 mod bench;
 mod nodes;
-#[cfg(test)]
-mod tests;
 
 use crate::bench::EmptyBench;
 use bench_runs::run_program;

@@ -3,8 +3,6 @@
 #![tactic(auto)]
 
 mod sorting;
-#[cfg(test)]
-mod tests;
 mod words;
 
 ghost use Rattle.std.specs.Prelude.{◌≤◌, ◌^◌};
