@@ -1,0 +1,61 @@
+//! A map that answers some commands.
+ghost use Rattle.std.specs.Prelude.{◌≤◌, ◌^◌, length};
+ghost use Rattle.em_space.specs.Rig.{Sound};
+ghost use Rattle.em_space.specs.Seen.{seen};
+ghost use Rattle.em_list_tests.specs.Ready.{Keeps, KeepsList, ReadyList};
+
+use em_devices::takes;
+use em_frames::Device;
+use em_plain::ScanMap;
+use em_record::Record;
+use em_space::{EmFault, Rig};
+
+/// Gives a map a command on the key `a`: with 0 in `c` a get, with 1 a put of the value `b`, with 2 a del.
+fn note<D: Device>(rig: &mut Rig<'_, D>, map: &mut ScanMap, command: Record) -> Result<(), EmFault>
+    requires ready { ReadyList 1 (seen D.state rig.old) map.old.list }
+    ensures kept { KeepsList 1 (seen D.state rig.old) (seen D.state rig.new)
+        map.old.list map.new.list result }
+{
+    match command.c {
+        0 => map.get(rig, command.a),
+        1 => map.put(rig, command.a, command.b),
+        2 => map.del(rig, command.a),
+        _ => Ok(()),
+    }
+}
+
+/// Gives a map some commands.
+fn note_all<D: Device>(
+    rig: &mut Rig<'_, D>,
+    map: &mut ScanMap,
+    commands: &[Record],
+) -> Result<(), EmFault>
+    requires ready { ReadyList (length commands.now) (seen D.state rig.old) map.old.list }
+    ensures kept { KeepsList (length commands.now) (seen D.state rig.old) (seen D.state rig.new)
+        map.old.list map.new.list result }
+{
+    for command in commands {
+        note(rig, map, *command)?;
+    }
+    Ok(())
+}
+
+/// Whether a new map answers exactly these records to some commands.
+pub fn answers<D: Device>(
+    rig: &mut Rig<'_, D>,
+    commands: &[Record],
+    records: &[Record],
+) -> Result<bool, EmFault>
+    requires sound { Sound (seen D.state rig.old) }
+    requires free { 8 ≤ (seen D.state rig.old).pool.free }
+    requires few { length commands.now ≤ 2 ^ 20 }
+    ensures kept { Keeps (seen D.state rig.old) (seen D.state rig.new) }
+{
+    let mut map = ScanMap::new(rig)?;
+    if let Err(fault) = note_all(rig, &mut map, commands) {
+        map.abandon(rig);
+        return Err(fault);
+    }
+    let chain = map.finish(rig)?;
+    takes(rig, chain, records)
+}

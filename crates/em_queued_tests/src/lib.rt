@@ -1,5 +1,0 @@
-//! Tests of `em_queued` with a queue of `em_plain`, by calls that any user may make.
-#![tactic(auto)]
-
-#[cfg(test)]
-mod popping;
