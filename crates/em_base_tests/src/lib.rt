@@ -1,14 +1,29 @@
-//! Tests of the crates that stand on no rig, em_record, em_model, em_io and em_frames, by calls that
-//! any user may make.
+//! Tests of the crates on which lists and trees stand, by calls that any user may make.
 #![tactic(auto)]
 
 #[cfg(test)]
 mod answers;
 #[cfg(test)]
-mod bytes;
+mod blocks;
 #[cfg(test)]
-mod machine;
+mod cells;
 #[cfg(test)]
-mod memory;
+mod files;
 #[cfg(test)]
-mod numbers;
+mod frames;
+#[cfg(test)]
+mod heaps;
+#[cfg(test)]
+mod joined;
+#[cfg(test)]
+mod made;
+#[cfg(test)]
+mod scripts;
+#[cfg(test)]
+mod settled;
+#[cfg(test)]
+mod shapes;
+#[cfg(test)]
+mod texts;
+#[cfg(test)]
+mod words;
