@@ -1,9 +1,10 @@
 -- Over a device that doesn't tell, a block is asked for its range alone, and a chain for its numbers.
-use Rattle.std.proofs.Common.{◌≡◌, ℕ, ◌<◌, ◌≤◌, ◌^◌, List, [], false, refl, sym, ap, ◌∙◌, arith, Bool, IsTrue, Result, Ok, Err, IfOk}
+use Rattle.std.proofs.Common.{◌≡◌, ℕ, ◌+◌, ◌-◌, ◌*◌, ◌/◌, ◌<◌, ◌≤◌, ◌^◌, List, [], false, refl, sym, ap, ◌∙◌, arith, Bool, IsTrue, Result, Ok, Err, IfOk}
 use Rattle.std.proofs.lemmas.Bool.{false≢true}
+use Rattle.em_record.specs.Shape.{ShapeNumbers}
 use Rattle.em_record.specs.declared.record.Record.{Record}
 use Rattle.em_frames.specs.Device.{DeviceState}
-use Rattle.em_frames.specs.Pool.{IsWhole, SameFrames, fresh_pool}
+use Rattle.em_frames.specs.Pool.{IsWhole, PoolCounts, SameFrames, fresh_pool}
 use Rattle.em_space.specs.Ledger.{Session}
 use Rattle.em_space.specs.Rig.{RigState, Goes, InUse, Opens, Sound, Touches}
 use Rattle.em_space.specs.declared.fault.EmFault.{EmFault}
@@ -57,8 +58,8 @@ pub small_kept : {s t : RigState} → IsSmall s → Keeps s t → IsSmall t
 small_kept r k = record {
   sound = k.sound;
   untold = k.told ∙ r.untold;
-  block = ap (λ (z : _). z.block) k.frames.shape ∙ r.block;
-  frames = ap (λ (z : _). z.frames) k.frames.shape ∙ r.frames;
+  block = ap (λ (z : ShapeNumbers). z.block) k.frames.shape ∙ r.block;
+  frames = ap (λ (z : ShapeNumbers). z.frames) k.frames.shape ∙ r.frames;
   free = let e = k.frames.free in let f = r.free in omega (arith, e, f);
 }
 
@@ -71,10 +72,12 @@ ready_kept r k = record {
 }
 
 -- a block that a call took, after a call that keeps the number of blocks
-pub below_after : {m n : ℕ} {result : Result ℕ EmFault} → n ≡ m → IfOk result (λ k. k < m)
+pub below_after : {m n : ℕ} (result : Result ℕ EmFault) → n ≡ m → IfOk result (λ k. k < m)
     → IfOk result (λ k. k < n)
-below_after {m} {n} {Ok k} e u = rw e u
-below_after {m} {n} {Err f} e u = tt
+below_after (Ok k) e u = rw e u
+below_after (Err f) e u = tt
+
+pub ruleset kept = (keeps_goes, keeps_session, small_kept, ready_kept, below_after)
 
 pub in_use : {s : RigState} {k : ℕ} → IsSmall s → k < s.blocks → InUse s k
 in_use r h = record { told = never r.untold; untold = λ z. h }
@@ -148,18 +151,30 @@ pub is_view : {s : RigState} {c : Chain} → IsSmall s → c.count ≤ 2 ^ 56 �
     → IsView s c
 is_view r m n = record { count_most = m; blocks_most = n; told = never r.untold }
 
--- A rig is ready when it was opened, and whole when it is ready.
+-- A rig is ready when it was opened,
 pub ready_opened : {d : DeviceState} {n : ℕ} {t : RigState} → d.told ≡ false
     → Opens d (fresh_pool small) n t → IsReady t
-ready_opened h o = record {
-  small = record {
-    sound = o.sound;
-    untold = o.told ∙ h;
-    block = ap (λ (z : _). z.shape.block) o.pool_is;
-    frames = ap (λ (z : _). z.shape.frames) o.pool_is;
-    free = rw o.pool_is (omega arith);
-  };
-  free = ap (λ (z : _). z.free) o.pool_is;
-  areas = ap (λ (z : _). z.free_areas) o.pool_is;
-  rack = ap (λ (z : _). z.rack_out) o.pool_is;
+ready_opened {d} {n} {t} h o =
+    let free : t.pool.free ≡ 48 = ap (λ (z : PoolCounts). z.free) o.pool_is in
+    record {
+      small = record {
+        sound = o.sound;
+        untold = o.told ∙ h;
+        block = ap (λ (z : PoolCounts). z.shape.block) o.pool_is;
+        frames = ap (λ (z : PoolCounts). z.shape.frames) o.pool_is;
+        free = omega (arith, free);
+      };
+      free = free;
+      areas = ap (λ (z : PoolCounts). z.free_areas) o.pool_is;
+      rack = ap (λ (z : PoolCounts). z.rack_out) o.pool_is;
+    }
+
+none_out : (m f a : ℕ) → m ≡ 64 → f ≡ 48 → a ≡ 2 → (3 * (m / 4) - f) + (m / 4 / 2) * (2 - a) ≡ 0
+none_out m f a p q r = rw (p, q, r) refl
+
+-- and whole when it is ready.
+pub whole_ready : {s : RigState} → IsReady s → IsWhole s.pool
+whole_ready {s} r = record {
+  frames = none_out s.pool.shape.frames s.pool.free s.pool.free_areas r.small.frames r.free r.areas;
+  rack = r.rack;
 }

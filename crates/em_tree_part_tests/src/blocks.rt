@@ -78,7 +78,7 @@ fn store_frame<D: Device>(rig: &mut Rig<'_, D>, frame: &Frame) -> Result<u64, Em
 }
 
 /// Stores a node of this level with these entries in a new block, and answers its number.
-#[tactic(auto, using(crate::proofs::Ready::below_after))]
+#[tactic(auto, using(crate::proofs::Ready::kept))]
 pub fn store_node<D: Device>(rig: &mut Rig<'_, D>, level: u64, rows: &[Row]) -> Result<u64, EmFault>
     requires ready { IsReady (seen D.state rig.old) }
     ensures keeps { Keeps (seen D.state rig.old) (seen D.state rig.new) }
@@ -92,7 +92,7 @@ pub fn store_node<D: Device>(rig: &mut Rig<'_, D>, level: u64, rows: &[Row]) -> 
 }
 
 /// Stores a leaf with these records: a chain, and then the leaf's block, whose number is answered.
-#[tactic(auto, using(crate::proofs::Ready::below_after))]
+#[tactic(auto, using(crate::proofs::Ready::kept))]
 pub fn store_leaf<D: Device>(rig: &mut Rig<'_, D>, records: &[Record]) -> Result<u64, EmFault>
     requires ready { IsReady (seen D.state rig.old) }
     requires few { length records.now ≤ 2 ^ 20 }
@@ -109,6 +109,7 @@ pub fn store_leaf<D: Device>(rig: &mut Rig<'_, D>, records: &[Record]) -> Result
 }
 
 /// Stores the tree that is walked through, and answers the block of its root.
+#[tactic(auto, using(crate::proofs::Ready::kept))]
 pub fn set_up<D: Device>(rig: &mut Rig<'_, D>) -> Result<u64, EmFault>
     requires ready { IsReady (seen D.state rig.old) }
     ensures keeps { Keeps (seen D.state rig.old) (seen D.state rig.new) }

@@ -42,7 +42,7 @@ fn five() -> [Record; 5] {
 }
 
 /// Stores a chain of some records, and a node of level 1 with two children at most, from 5 and from 101 on.
-#[tactic(auto, using(crate::proofs::Ready::keeps_goes, crate::proofs::Ready::ready_kept, crate::proofs::Ready::can_empty))]
+#[tactic(auto, using(crate::proofs::Ready::kept, crate::proofs::Ready::can_empty))]
 fn store_both<D: Device>(
     rig: &mut Rig<'_, D>,
     children: u64,
@@ -60,7 +60,7 @@ fn store_both<D: Device>(
 }
 
 /// Whether the buffer of a place has exactly these records.
-#[tactic(auto, using(crate::proofs::Ready::keeps_goes, crate::proofs::Ready::ready_kept, crate::proofs::Ready::is_view))]
+#[tactic(auto, using(crate::proofs::Ready::kept, crate::proofs::Ready::is_view))]
 fn child_has<D: Device>(
     rig: &mut Rig<'_, D>,
     node: u64,
@@ -80,7 +80,7 @@ fn child_has<D: Device>(
 /// Empties a chain of some gets into a node with some children. Answers the least place of a full buffer, and
 /// whether the buffer of a place has the gets that it should: the five of one key if there are two children, else
 /// all.
-#[tactic(auto, using(crate::proofs::Ready::keeps_goes, crate::proofs::Ready::keeps_session, crate::proofs::Ready::ready_kept))]
+#[tactic(auto, using(crate::proofs::Ready::kept))]
 pub fn emptied<D: Device>(rig: &mut Rig<'_, D>, children: u64, count: u64, at: u64) -> Answer
     requires ready { IsReady (seen D.state rig.old) }
     ensures keeps { Keeps (seen D.state rig.old) (seen D.state rig.new) }

@@ -18,6 +18,7 @@ use em_tree_load::{FirstLeaf, first_leaf, remove_first, take_leaf};
 use std::test::Fail;
 
 /// Stores the three leaves, and answers their blocks.
+#[tactic(auto, using(crate::proofs::Ready::kept))]
 fn store_leaves<D: Device>(rig: &mut Rig<'_, D>) -> Result<(u64, u64, u64), EmFault>
     requires ready { IsReady (seen D.state rig.old) }
     ensures keeps { Keeps (seen D.state rig.old) (seen D.state rig.new) }
@@ -34,6 +35,7 @@ fn store_leaves<D: Device>(rig: &mut Rig<'_, D>) -> Result<(u64, u64, u64), EmFa
 }
 
 /// Stores the nodes over three leaves, and answers the block of the root.
+#[tactic(auto, using(crate::proofs::Ready::kept))]
 fn store_nodes<D: Device>(
     rig: &mut Rig<'_, D>,
     first: u64,
@@ -52,7 +54,7 @@ fn store_nodes<D: Device>(
 
 /// Takes at most `most` records of the first leaf of a tree of a level to the places of an area from 1 on. If
 /// none is left there and the tree has other leaves, the first one is taken out.
-#[tactic(auto, using(crate::proofs::Ready::keeps_goes, crate::proofs::Ready::keeps_session, crate::proofs::Ready::small_kept, crate::proofs::Ready::can_find, crate::proofs::Ready::can_take, crate::proofs::Ready::can_remove))]
+#[tactic(auto, using(crate::proofs::Ready::kept, crate::proofs::Ready::can_find, crate::proofs::Ready::can_take, crate::proofs::Ready::can_remove))]
 fn take_first<D: Device>(
     rig: &mut Rig<'_, D>,
     root: u64,
@@ -82,7 +84,7 @@ fn take_first<D: Device>(
 }
 
 /// Takes records of the first leaf of a tree in an area of its own. Answers how many, and the last one.
-#[tactic(auto, using(crate::proofs::Ready::small_kept))]
+#[tactic(auto, using(crate::proofs::Ready::kept))]
 fn take_own<D: Device>(
     rig: &mut Rig<'_, D>,
     root: u64,
@@ -111,7 +113,7 @@ fn take_own<D: Device>(
 /// Takes the first leaf of the tree of three out. Answers how many records were taken, and two words of the last
 /// one; of the root the number of entries, and the child of the first one; and of block 7 the number of entries,
 /// and the low key and the child of the first one.
-#[tactic(auto, using(crate::proofs::Ready::ready_kept))]
+#[tactic(auto, using(crate::proofs::Ready::kept))]
 pub fn taken_first<D: Device>(rig: &mut Rig<'_, D>) -> Answer
     requires ready { IsReady (seen D.state rig.old) }
     ensures keeps { Keeps (seen D.state rig.old) (seen D.state rig.new) }
@@ -125,6 +127,7 @@ pub fn taken_first<D: Device>(rig: &mut Rig<'_, D>) -> Answer
 }
 
 /// Stores a leaf of 200 records alone under a node, and answers the blocks of both.
+#[tactic(auto, using(crate::proofs::Ready::kept))]
 fn store_long<D: Device>(rig: &mut Rig<'_, D>) -> Result<(u64, u64), EmFault>
     requires ready { IsReady (seen D.state rig.old) }
     ensures keeps { Keeps (seen D.state rig.old) (seen D.state rig.new) }
@@ -141,7 +144,7 @@ fn store_long<D: Device>(rig: &mut Rig<'_, D>) -> Result<(u64, u64), EmFault>
 
 /// Takes at most 150 records of a leaf of 200. Answers how many were taken, and two words of the last one; and
 /// whether the leaf has the others: 73, from the second block of its list on.
-#[tactic(auto, using(crate::proofs::Ready::ready_kept))]
+#[tactic(auto, using(crate::proofs::Ready::kept))]
 pub fn cut<D: Device>(rig: &mut Rig<'_, D>) -> Answer
     requires ready { IsReady (seen D.state rig.old) }
     ensures keeps { Keeps (seen D.state rig.old) (seen D.state rig.new) }
@@ -173,7 +176,10 @@ fn a_first_leaf_is_taken_out_with_its_node(rt: HostRuntime) -> Result<(), Fail> 
 #[test]
 fn each_failing_move_is_a_fault(rt: HostRuntime) -> Result<(), Fail> {
     let given = [20, NONE, 0, 0, 0, 0, 0, 0];
-    assert_eq!(rt; first_unfaulted(rt.alloc(), Call::TakeFirst, given, 24)?, None);
+    assert_eq!(rt;
+        first_unfaulted(rt.alloc(), Call::TakeFirst, given, 24)?,
+        None
+    );
     assert_eq!(rt; first_unfaulted(rt.alloc(), Call::Cut, given, 10)?, None);
     Ok(())
 }

@@ -11,7 +11,7 @@ use em_space::{EmFault, Rig};
 use std::test::Fail;
 
 /// Takes a block and frees it, if that is asked for.
-#[tactic(auto, using(crate::proofs::Ready::keeps_goes))]
+#[tactic(auto, using(crate::proofs::Ready::kept))]
 fn prepare<D: Device>(rig: &mut Rig<'_, D>, freed: u64) -> Result<(), EmFault>
     requires ready { IsReady (seen D.state rig.old) }
     ensures keeps { Keeps (seen D.state rig.old) (seen D.state rig.new) }
@@ -26,7 +26,7 @@ fn prepare<D: Device>(rig: &mut Rig<'_, D>, freed: u64) -> Result<(), EmFault>
 /// Splits a full node of a level, after a block was freed if that is asked for. Answers the low key and the
 /// link of the entry for the new block; and of both halves the level, the number of entries, and the low key
 /// of the sixteenth one.
-#[tactic(auto, using(crate::proofs::Ready::keeps_goes, crate::proofs::Ready::keeps_session, crate::proofs::Ready::ready_kept, crate::proofs::Ready::can_halve))]
+#[tactic(auto, using(crate::proofs::Ready::kept, crate::proofs::Ready::can_halve))]
 pub fn halved<D: Device>(rig: &mut Rig<'_, D>, level: u64, freed: u64) -> Answer
     requires ready { IsReady (seen D.state rig.old) }
     ensures keeps { Keeps (seen D.state rig.old) (seen D.state rig.new) }
@@ -36,13 +36,22 @@ pub fn halved<D: Device>(rig: &mut Rig<'_, D>, level: u64, freed: u64) -> Answer
     let upper = split_node(rig, node)?;
     let (under, count, (low, _, _)) = entry_in(rig, node, 15)?;
     let (over, others, (high, _, _)) = entry_in(rig, upper.child.saturating_sub(1), 15)?;
-    Ok([upper.low.a, upper.child, under, count, low, over, others, high])
+    Ok([
+        upper.low.a,
+        upper.child,
+        under,
+        count,
+        low,
+        over,
+        others,
+        high,
+    ])
 }
 
 /// Splits a full node of a level, and makes a root over it. Answers the block of the new root, its level, its
 /// number of entries, and the low key and the child of the second one; and of the old root the number of
 /// entries, and the low key of the sixteenth one.
-#[tactic(auto, using(crate::proofs::Ready::keeps_goes, crate::proofs::Ready::keeps_session, crate::proofs::Ready::ready_kept, crate::proofs::Ready::can_halve, crate::proofs::Ready::can_grow))]
+#[tactic(auto, using(crate::proofs::Ready::kept, crate::proofs::Ready::can_halve, crate::proofs::Ready::can_grow))]
 pub fn grown<D: Device>(rig: &mut Rig<'_, D>, level: u64) -> Answer
     requires ready { IsReady (seen D.state rig.old) }
     ensures keeps { Keeps (seen D.state rig.old) (seen D.state rig.new) }

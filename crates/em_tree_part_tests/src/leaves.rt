@@ -59,7 +59,6 @@ fn ended_with<D: Device>(
 }
 
 /// Settles the operations of a case over a leaf's chain, with an area.
-#[tactic(auto, using(crate::proofs::Ready::can_settle))]
 fn answered<D: Device, S: Settle>(
     rig: &mut Rig<'_, D>,
     settle: &S,
@@ -88,7 +87,7 @@ fn answered<D: Device, S: Settle>(
 }
 
 /// Does that with a chain that is written first, and an area that the rig lends.
-#[tactic(auto, using(crate::proofs::Ready::keeps_goes, crate::proofs::Ready::ready_kept))]
+#[tactic(auto, using(crate::proofs::Ready::kept))]
 fn left_of<D: Device, S: Settle>(
     rig: &mut Rig<'_, D>,
     settle: &S,
@@ -108,7 +107,7 @@ fn left_of<D: Device, S: Settle>(
 }
 
 /// Does that over a new rig, and answers what it costs. More records or operations aren't tried.
-#[tactic(auto, using(crate::proofs::Ready::ready_opened))]
+#[tactic(auto, using(crate::proofs::Ready::kept, crate::proofs::Ready::ready_opened, crate::proofs::Ready::whole_ready))]
 fn run<S: Settle>(
     alloc: Global,
     settle: &S,
@@ -180,11 +179,7 @@ fn operations_of_a_key_are_settled_in_order(rt: HostRuntime) -> Result<(), Fail>
 }
 
 /// 1024 puts of new keys over some records of a leaf. Answers what is left, if the low part has this many records.
-fn filled(
-    alloc: Global,
-    count: u64,
-    low: u64,
-) -> Result<Result<Left, EmFault>, Fail> {
+fn filled(alloc: Global, count: u64, low: u64) -> Result<Result<Left, EmFault>, Fail> {
     let stored = kept(alloc, count)?;
     let ops = puts(alloc, count, 1024)?;
     let lows = kept(alloc, low)?;

@@ -21,6 +21,7 @@ use em_tree_load::load_leaf;
 use std::test::Fail;
 
 /// Stores both leaves, and answers their blocks.
+#[tactic(auto, using(crate::proofs::Ready::kept))]
 fn store_leaves<D: Device>(rig: &mut Rig<'_, D>) -> Result<(u64, u64), EmFault>
     requires ready { IsReady (seen D.state rig.old) }
     ensures keeps { Keeps (seen D.state rig.old) (seen D.state rig.new) }
@@ -36,7 +37,7 @@ fn store_leaves<D: Device>(rig: &mut Rig<'_, D>) -> Result<(u64, u64), EmFault>
 }
 
 /// Stores a node over two leaves, and answers its block. A put, a del and gets wait for the first leaf.
-#[tactic(auto, using(crate::proofs::Ready::keeps_goes, crate::proofs::Ready::ready_kept))]
+#[tactic(auto, using(crate::proofs::Ready::kept))]
 fn store_over<D: Device>(rig: &mut Rig<'_, D>, first: u64, other: u64) -> Result<u64, EmFault>
     requires ready { IsReady (seen D.state rig.old) }
     ensures keeps { Keeps (seen D.state rig.old) (seen D.state rig.new) }
@@ -54,7 +55,7 @@ fn store_over<D: Device>(rig: &mut Rig<'_, D>, first: u64, other: u64) -> Result
 }
 
 /// Loads the first leaf of a node, and finishes the answers. Answers the first word of the least key of a new leaf.
-#[tactic(auto, using(crate::proofs::Ready::keeps_goes, crate::proofs::Ready::keeps_session, crate::proofs::Ready::small_kept, crate::proofs::Ready::can_load))]
+#[tactic(auto, using(crate::proofs::Ready::kept, crate::proofs::Ready::can_load))]
 fn load<D: Device>(rig: &mut Rig<'_, D>, node: u64) -> Result<u64, EmFault>
     requires ready { IsReady (seen D.state rig.old) }
     requires below { node < (seen D.state rig.old).blocks }
@@ -74,6 +75,7 @@ fn load<D: Device>(rig: &mut Rig<'_, D>, node: u64) -> Result<u64, EmFault>
 }
 
 /// Whether the node and the first leaf begin as they should.
+#[tactic(auto, using(crate::proofs::Ready::kept))]
 fn are_right<D: Device>(rig: &mut Rig<'_, D>, node: u64) -> Result<(u64, u64), EmFault>
     requires ready { IsReady (seen D.state rig.old) }
     ensures keeps { Keeps (seen D.state rig.old) (seen D.state rig.new) }
@@ -94,6 +96,7 @@ fn are_right<D: Device>(rig: &mut Rig<'_, D>, node: u64) -> Result<(u64, u64), E
 }
 
 /// Whether the leaf's list, in block 4, and the answers, in block 6, begin as they should.
+#[tactic(auto, using(crate::proofs::Ready::kept))]
 fn are_written<D: Device>(rig: &mut Rig<'_, D>) -> Result<(u64, u64), EmFault>
     requires ready { IsReady (seen D.state rig.old) }
     ensures keeps { Keeps (seen D.state rig.old) (seen D.state rig.new) }
@@ -105,13 +108,17 @@ fn are_written<D: Device>(rig: &mut Rig<'_, D>) -> Result<(u64, u64), EmFault>
         record(7, 0, 0, 71),
     ];
     let list = begins_with(rig, 4, &items)?;
-    let given = begins_with(rig, 6, &[record(0, 2, 1, 0), record(3, 1, 71, 0), record(4, 0, 0, 0)])?;
+    let given = begins_with(
+        rig,
+        6,
+        &[record(0, 2, 1, 0), record(3, 1, 71, 0), record(4, 0, 0, 0)],
+    )?;
     Ok((list, given))
 }
 
 /// Loads the first leaf with the operations over it. Answers the first word of the least key of a new leaf, and
 /// whether the node, the leaf, its list and the answers are as they should be.
-#[tactic(auto, using(crate::proofs::Ready::ready_kept))]
+#[tactic(auto, using(crate::proofs::Ready::kept))]
 pub fn loaded<D: Device>(rig: &mut Rig<'_, D>) -> Answer
     requires ready { IsReady (seen D.state rig.old) }
     ensures keeps { Keeps (seen D.state rig.old) (seen D.state rig.new) }

@@ -68,7 +68,16 @@ fn parted(frame: &mut Frame, upper: &mut Frame, word: u64) -> Numbers
     let (lower, higher) = part_and_fuse(frame, upper);
     let all = count(frame);
     if all == 0 || count(upper) == 0 {
-        return [lower as u64, higher as u64, NONE, all as u64, NONE, NONE, 0, 0];
+        return [
+            lower as u64,
+            higher as u64,
+            NONE,
+            all as u64,
+            NONE,
+            NONE,
+            0,
+            0,
+        ];
     }
     let first = entry_at(upper, 0).low.a;
     let at = find(frame, key(word));

@@ -67,6 +67,7 @@ fn answer_of(text: &str) -> Result<Answer, Fail> {
 }
 
 /// Makes a call on a new rig, and answers what it answers and costs.
+#[tactic(auto, using(crate::proofs::Ready::kept, crate::proofs::Ready::ready_opened, crate::proofs::Ready::whole_ready))]
 fn run(alloc: Global, call: Call, given: Numbers) -> Result<(Answer, Numbers), Fail> {
     let [blocks, failing, ..] = given;
     let mut device = Quiet::new(alloc, &[failing])?;
@@ -111,7 +112,11 @@ pub fn first_unfaulted(
     let [blocks, _, first, second, third, ..] = given;
     for before in 0..moves {
         let failing = before.saturating_add(1);
-        let (answer, _cost) = run(alloc, call, [blocks, failing, first, second, third, 0, 0, 0])?;
+        let (answer, _cost) = run(
+            alloc,
+            call,
+            [blocks, failing, first, second, third, 0, 0, 0],
+        )?;
         if answer != Err(EmFault::DeviceFault) {
             return Ok(Some(failing));
         }

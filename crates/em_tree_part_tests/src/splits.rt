@@ -12,6 +12,7 @@ use em_tree_load::{Root, release_tree, split_up};
 use std::test::Fail;
 
 /// Stores a full root of level 1, if that is asked for, or else the tree of `blocks`, whose nodes have room.
+#[tactic(auto, using(crate::proofs::Ready::kept))]
 fn store_root<D: Device>(rig: &mut Rig<'_, D>, is_full: u64) -> Result<Root, EmFault>
     requires ready { IsReady (seen D.state rig.old) }
     ensures keeps { Keeps (seen D.state rig.old) (seen D.state rig.new) }
@@ -29,7 +30,7 @@ fn store_root<D: Device>(rig: &mut Rig<'_, D>, is_full: u64) -> Result<Root, EmF
 
 /// Splits what is full on the path of the key 45. Answers the block and the level of the root; and its level,
 /// its number of entries, and the low key and the child of the second one.
-#[tactic(auto, using(crate::proofs::Ready::keeps_goes, crate::proofs::Ready::keeps_session, crate::proofs::Ready::ready_kept, crate::proofs::Ready::can_split))]
+#[tactic(auto, using(crate::proofs::Ready::kept, crate::proofs::Ready::can_split))]
 pub fn split<D: Device>(rig: &mut Rig<'_, D>, is_full: u64) -> Answer
     requires ready { IsReady (seen D.state rig.old) }
     ensures keeps { Keeps (seen D.state rig.old) (seen D.state rig.new) }
@@ -41,6 +42,7 @@ pub fn split<D: Device>(rig: &mut Rig<'_, D>, is_full: u64) -> Answer
 }
 
 /// Stores a leaf with two records and one with none, and a node over them, and answers its block.
+#[tactic(auto, using(crate::proofs::Ready::kept))]
 fn store_tree<D: Device>(rig: &mut Rig<'_, D>) -> Result<u64, EmFault>
     requires ready { IsReady (seen D.state rig.old) }
     ensures keeps { Keeps (seen D.state rig.old) (seen D.state rig.new) }
@@ -53,7 +55,7 @@ fn store_tree<D: Device>(rig: &mut Rig<'_, D>) -> Result<u64, EmFault>
 }
 
 /// Releases such a tree, whose node is taken for one of this level. Answers how many blocks were in use before.
-#[tactic(auto, using(crate::proofs::Ready::keeps_goes, crate::proofs::Ready::keeps_session, crate::proofs::Ready::ready_kept, crate::proofs::Ready::can_release))]
+#[tactic(auto, using(crate::proofs::Ready::kept, crate::proofs::Ready::can_release))]
 pub fn released<D: Device>(rig: &mut Rig<'_, D>, level: u64) -> Answer
     requires ready { IsReady (seen D.state rig.old) }
     ensures keeps { Keeps (seen D.state rig.old) (seen D.state rig.new) }
@@ -102,6 +104,9 @@ fn all_blocks_of_a_tree_are_released(rt: HostRuntime) -> Result<(), Fail> {
 fn each_failing_move_is_a_fault(rt: HostRuntime) -> Result<(), Fail> {
     let given = [20, NONE, 1, 0, 0, 0, 0, 0];
     assert_eq!(rt; first_unfaulted(rt.alloc(), Call::SplitUp, given, 8)?, None);
-    assert_eq!(rt; first_unfaulted(rt.alloc(), Call::Release, given, 12)?, None);
+    assert_eq!(rt;
+        first_unfaulted(rt.alloc(), Call::Release, given, 12)?,
+        None
+    );
     Ok(())
 }

@@ -12,7 +12,7 @@ use em_tree_walk::{Finding, Range, add_entry, descend, search, take_out};
 use std::test::Fail;
 
 /// The block on a key's way down to a level, and the first word of where its keys end.
-#[tactic(auto, using(crate::proofs::Ready::keeps_goes, crate::proofs::Ready::ready_kept, crate::proofs::Ready::leads))]
+#[tactic(auto, using(crate::proofs::Ready::kept, crate::proofs::Ready::leads))]
 pub fn descended<D: Device>(rig: &mut Rig<'_, D>, to: u64, word: u64) -> Answer
     requires ready { IsReady (seen D.state rig.old) }
     ensures keeps { Keeps (seen D.state rig.old) (seen D.state rig.new) }
@@ -24,7 +24,7 @@ pub fn descended<D: Device>(rig: &mut Rig<'_, D>, to: u64, word: u64) -> Answer
 
 /// What a search in level 1 finds: a node, a place, and the first words of its range; or the first word of
 /// the next node's keys; or nothing.
-#[tactic(auto, using(crate::proofs::Ready::keeps_goes, crate::proofs::Ready::ready_kept, crate::proofs::Ready::leads))]
+#[tactic(auto, using(crate::proofs::Ready::kept, crate::proofs::Ready::leads))]
 pub fn searched<D: Device>(rig: &mut Rig<'_, D>, limit: u64, from: u64, until: u64) -> Answer
     requires ready { IsReady (seen D.state rig.old) }
     ensures keeps { Keeps (seen D.state rig.old) (seen D.state rig.new) }
@@ -38,7 +38,11 @@ pub fn searched<D: Device>(rig: &mut Rig<'_, D>, limit: u64, from: u64, until: u
 fn range(from: u64, until: u64) -> Range {
     Range {
         from: key(from),
-        until: if until == NONE { None } else { Some(key(until)) },
+        until: if until == NONE {
+            None
+        } else {
+            Some(key(until))
+        },
     }
 }
 
@@ -63,7 +67,7 @@ fn told(finding: Finding) -> [u64; 8] {
 /// Takes the buffer of a place out of block 0, which is taken for a node of this level. Answers the child and
 /// the number of records; and the number of entries then, and the low key, the child and the records of the
 /// place.
-#[tactic(auto, using(crate::proofs::Ready::keeps_goes, crate::proofs::Ready::ready_kept, crate::proofs::Ready::has_place))]
+#[tactic(auto, using(crate::proofs::Ready::kept, crate::proofs::Ready::has_place))]
 pub fn taken<D: Device>(rig: &mut Rig<'_, D>, level: u64, at: u64) -> Answer
     requires ready { IsReady (seen D.state rig.old) }
     ensures keeps { Keeps (seen D.state rig.old) (seen D.state rig.new) }
@@ -76,7 +80,7 @@ pub fn taken<D: Device>(rig: &mut Rig<'_, D>, level: u64, at: u64) -> Answer
 
 /// Puts an entry with this low key in after a place of a node that has as many entries of a full one. Answers
 /// the number of entries then, and the low key, the child and the records of the next place.
-#[tactic(auto, using(crate::proofs::Ready::keeps_goes, crate::proofs::Ready::ready_kept, crate::proofs::Ready::can_add))]
+#[tactic(auto, using(crate::proofs::Ready::kept, crate::proofs::Ready::can_add))]
 pub fn added<D: Device>(rig: &mut Rig<'_, D>, entries: u64, at: u64, low: u64) -> Answer
     requires ready { IsReady (seen D.state rig.old) }
     ensures keeps { Keeps (seen D.state rig.old) (seen D.state rig.new) }
