@@ -1,0 +1,131 @@
+//! A node's buffer is emptied into its children. A block has 127 records, and a buffer is full
+//! with 2048.
+ghost use Rattle.std.specs.Prelude.{◌≡◌, ◌<◌, ◌≤◌, ◌^◌, length, IfOk};
+ghost use Rattle.em_space.specs.Seen.{seen};
+ghost use Rattle.em_empty.specs.Node.{CanEmpty};
+ghost use Rattle.em_tree_part_tests.specs.Ready.{IsReady, Keeps};
+
+use crate::blocks::{entry_in, record, store_node};
+use crate::calls::Call;
+use crate::rows::{Answer, NONE, first_wrong_row};
+use em_chain::Chain;
+use em_devices::{scans, write};
+use em_empty::empty_node;
+use em_frames::Device;
+use em_record::Record;
+use em_settle::MapSettle;
+use em_space::{EmFault, Rig};
+use std::test::Fail;
+
+/// 2048 gets: those of five numbers are of the key 150, and the others of keys below 100.
+fn gets() -> [Record; 2048] {
+    let mut records = [Record::ZERO; 2048];
+    for number in 0..2048 {
+        let key = match number {
+            100 | 500 | 900 | 1300 | 1700 => 150,
+            _ => number as u64 % 100,
+        };
+        records[number] = record(key, number as u64, 2, 0);
+    }
+    records
+}
+
+/// The five gets of the key 150, in their order.
+fn five() -> [Record; 5] {
+    [
+        record(150, 100, 2, 0),
+        record(150, 500, 2, 0),
+        record(150, 900, 2, 0),
+        record(150, 1300, 2, 0),
+        record(150, 1700, 2, 0),
+    ]
+}
+
+/// Stores a chain of some records, and a node of level 1 with two children at most, from 5 and from 101 on.
+#[tactic(auto, using(crate::proofs::Ready::kept, crate::proofs::Ready::can_empty))]
+fn store_both<D: Device>(
+    rig: &mut Rig<'_, D>,
+    children: u64,
+    records: &[Record],
+) -> Result<(u64, Chain), EmFault>
+    requires ready { IsReady (seen D.state rig.old) }
+    requires few { length records.now ≤ 2 ^ 20 }
+    ensures keeps { Keeps (seen D.state rig.old) (seen D.state rig.new) }
+    ensures can { IfOk result (λ made. CanEmpty (seen D.state rig.new) made.0 made.1) }
+{
+    let rows = [(5, 0, [0; 5]), (101, 0, [0; 5])];
+    let chain = write(rig, records)?;
+    let node = store_node(rig, 1, &rows[..(children as usize).min(2)])?;
+    Ok((node, chain))
+}
+
+/// Whether the buffer of a place has exactly these records.
+#[tactic(auto, using(crate::proofs::Ready::kept, crate::proofs::Ready::is_view))]
+fn child_has<D: Device>(
+    rig: &mut Rig<'_, D>,
+    node: u64,
+    at: usize,
+    records: &[Record],
+) -> Result<bool, EmFault>
+    requires ready { IsReady (seen D.state rig.old) }
+    ensures keeps { Keeps (seen D.state rig.old) (seen D.state rig.new) }
+{
+    let (_, _, (_, _, words)) = entry_in(rig, node, at)?;
+    if words[3] > 10_000 || words[4] > 10_000 {
+        return Ok(false);
+    }
+    scans(rig, &Chain::from_words(words), records)
+}
+
+/// Empties a chain of some gets into a node with some children. Answers the least place of a full buffer, and
+/// whether the buffer of a place has the gets that it should: the five of one key if there are two children, else
+/// all.
+#[tactic(auto, using(crate::proofs::Ready::kept))]
+pub fn emptied<D: Device>(rig: &mut Rig<'_, D>, children: u64, count: u64, at: u64) -> Answer
+    requires ready { IsReady (seen D.state rig.old) }
+    ensures keeps { Keeps (seen D.state rig.old) (seen D.state rig.new) }
+{
+    let all = gets();
+    let sent = &all[..(count as usize).min(2048)];
+    let (node, chain) = store_both(rig, children, sent)?;
+    let least = match empty_node(rig, &MapSettle {}, node, chain)? {
+        Some(place) => u64::from(place),
+        None => NONE,
+    };
+    let has = if children == 2 {
+        child_has(rig, node, at as usize, &five())?
+    } else {
+        child_has(rig, node, at as usize, sent)?
+    };
+    Ok([least, u64::from(has), 0, 0, 0, 0, 0, 0])
+}
+
+/// 17 moves write the chain, and 1 the node. Emptying loads the node, reads and releases 17
+/// blocks, and stores 17 blocks of 2043 records, 1 block of the five, and the node. 16 of the new
+/// blocks are freed ones, and each of these takes 1 move more. To look at the child takes 2. At
+/// first 18 blocks are in use and then 2 more, before the chain's first block is released. Frames
+/// are out for the node, the reader, two members and a block that is freed.
+///
+/// If all 2048 records go to one child, its buffer is then full: 17 + 1 moves before, and 1 + 34 + 17 + 16 + 1 for
+/// the emptying. 17 + 1 to look at it.
+///
+/// If there is no record, the node is stored, loaded and stored, and loaded to look at it. Frames are out for the
+/// node, the reader and a member.
+///
+/// With 19 blocks the first record of the second child is refused: 18 moves before, and then the node and the
+/// chain's first block were loaded; four frames are out, and no block was freed. With call 19 failing, the node
+/// isn't loaded. A node with no child, in block 17, is none to empty into.
+const EMPTYINGS: &str = "\
+100 none 2 2048 1|ok none 1|19 20 90 5
+100 none 1 2048 0|ok 0 1|18 19 105 4
+100 none 1 0 0|ok none 1|1 1 4 3
+19 none 2 2048 1|full 19|19 19 20 4
+100 19 2 2048 1|fault|18 18 19 1
+100 none 0 2048 0|damaged 17|18 18 19 1
+";
+
+#[test]
+fn operations_keep_their_order(rt: HostRuntime) -> Result<(), Fail> {
+    assert_eq!(rt; first_wrong_row(rt.alloc(), Call::Empty, EMPTYINGS)?, None);
+    Ok(())
+}

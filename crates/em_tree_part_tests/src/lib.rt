@@ -1,0 +1,27 @@
+//! Tests of the parts of a buffer tree, each by calls that any user may make.
+#![tactic(auto)]
+
+#[cfg(test)]
+mod blocks;
+#[cfg(test)]
+mod calls;
+#[cfg(test)]
+mod checked;
+#[cfg(test)]
+mod emptied;
+#[cfg(test)]
+mod firsts;
+#[cfg(test)]
+mod halves;
+#[cfg(test)]
+mod leaves;
+#[cfg(test)]
+mod loads;
+#[cfg(test)]
+mod nodes;
+#[cfg(test)]
+mod rows;
+#[cfg(test)]
+mod splits;
+#[cfg(test)]
+mod walks;

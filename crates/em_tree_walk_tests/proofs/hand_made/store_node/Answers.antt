@@ -1,6 +1,0 @@
-use Rattle.em_tree_walk_tests.proofs.Untold.{in_use_after}
-use Rattle.em_tree_walk_tests.proofs.hand_made.store_node.Goals as goal
-
-pub returns-clause-in_use : goal.returns-clause-in_use
-returns-clause-in_use g c =
-    in_use_after c.store_in-stored.result c.give.ensures.touches c.store_in-stored.ensures.in_use
