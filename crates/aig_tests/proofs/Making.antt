@@ -27,8 +27,8 @@ pub can_lend : (s t : RigState) → HasFrames s → LendsFrame s t → CanBuild 
 can_lend s t h l = record {
   singles = let e = ap fan_of l.frames.shape in let a = l.frames.free in let b = h.two in
       omega (arith, e, a, b);
-  areas = let a = l.frames.free_areas in let b = h.areas in omega (arith, a, b);
-  rack = l.frames.rack ∙ h.rack;
+  areas = let a = l.frames.free_areas in let b = h.build.areas in omega (arith, a, b);
+  rack = l.frames.rack ∙ h.build.rack;
 }
 
 -- A circuit's parts after a new queue was made.
@@ -122,5 +122,5 @@ pub tree_builds : (s t : RigState) (c : QueueCounts) → HasFrames s
 tree_builds s t c h lent few area = record {
   singles = let e = ap fan_of lent.shape in omega (arith, e, h.two, lent.free, few);
   areas = omega (arith, h.areas, lent.areas, area);
-  rack = lent.rack ∙ h.rack;
+  rack = lent.rack ∙ h.build.rack;
 }

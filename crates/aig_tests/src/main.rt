@@ -40,7 +40,12 @@ fn print_table(rt: &HostRuntime, heading: &str, table: &str, parts: &[Part]) -> 
 fn main(rt: HostRuntime) -> Result<(), Fail> {
     let queues = [Part::Lines(By::List), Part::Lines(By::Tree)];
     print_table(&rt, "Texts in ASCII", "texts_in_ascii", &[Part::Chains])?;
-    print_table(&rt, "Texts in the binary form", "texts_in_binary", &[Part::Chains])?;
+    print_table(
+        &rt,
+        "Texts in the binary form",
+        "texts_in_binary",
+        &[Part::Chains],
+    )?;
     print_table(&rt, "Edges between ranks", "circuits", &[Part::Edges])?;
     print_table(&rt, "Evaluations", "evaluations", &queues)?;
     print_made(&rt, By::List)?;

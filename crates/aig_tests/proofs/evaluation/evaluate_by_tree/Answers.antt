@@ -8,7 +8,7 @@ pub new-requires-clause-free : goal.new-requires-clause-free
 new-requires-clause-free g c = record {
   singles = omega (arith, c.requires.has.two);
   areas = omega (arith, c.requires.has.areas);
-  rack = c.requires.has.rack;
+  rack = c.requires.has.build.rack;
 }
 
 pub evaluate-requires : goal.evaluate-requires
