@@ -1,0 +1,15 @@
+use Rattle.std.proofs.Common.{◌+◌, ◌*◌, ◌^◌}
+use Rattle.em_space.specs.Seen.{seen}
+use Rattle.aig_text.specs.Source.{source}
+use Rattle.aig_tests.specs.Stepping.{KeepsFrames, ReadyToStep}
+use Rattle.aig_tests.proofs.evaluation.step_all.Given as goal
+
+abbrev pub invariant-loop : goal.invariant-loop
+invariant-loop g l =
+    let now = seen g.D.Device.state l.rig in
+    record {
+      ready : ReadyToStep g.Q.Queue (2 ^ 90 + l.counter * 2 ^ 44)
+          (source g.H.Shelf l.feed l.shelf) now l.evaluator;
+      keeps : KeepsFrames (g.Q.Queue.counts l.fn.evaluator.queue)
+          (g.Q.Queue.counts l.evaluator.queue) (seen g.D.Device.state l.fn.rig) now;
+    }

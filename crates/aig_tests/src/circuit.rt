@@ -1,0 +1,77 @@
+//! A row of a table: its circuit and its stimulus on shelves in memory, over a rig of its own.
+ghost use Rattle.std.specs.Prelude.{◌≡◌, IfOk, true};
+ghost use Rattle.em_io.specs.MemShelf.{stand_of};
+
+use crate::chains::{print_chains, print_edges};
+use crate::evaluation::By;
+use crate::lines::print_lines;
+use crate::row::spelled;
+use em_devices::{ended, opened};
+use em_frames::MemDevice;
+use em_io::{MemShelf, Shelf, Slot};
+use std::alloc::Global;
+use std::test::Fail;
+
+/// The bytes that a shelf gives and a sink takes in a call.
+pub(crate) const PIECE: usize = 3;
+
+/// The blocks of the device.
+pub(crate) const BLOCKS: u64 = 1000;
+
+/// What is printed of a row.
+#[derive(Clone, Copy)]
+pub(crate) enum Part {
+    /// The circuit's header and its three chains.
+    Chains,
+    /// Its edges between ranks.
+    Edges,
+    /// Its lines for the stimulus, by this kind of queue.
+    Lines(By),
+}
+
+/// A shelf that gives the text that a part of a row spells.
+fn shelf_of(alloc: Global, slot: Slot, escaped: &str) -> Result<MemShelf, Fail>
+    ensures ready { IfOk result (λ shelf. ((stand_of shelf).slot slot).ready ≡ true) }
+{
+    let text = spelled(alloc, escaped)?;
+    let mut shelf = MemShelf::new(alloc, PIECE, &[])?;
+    shelf.add("text", &text)?;
+    shelf.open(slot, "text")?;
+    Ok(shelf)
+}
+
+/// Prints a part of a row.
+fn print_part(
+    rt: &HostRuntime,
+    title: &str,
+    circuit: &str,
+    stimulus: &str,
+    part: Part,
+) -> Result<(), Fail> {
+    let alloc = rt.alloc();
+    let mut circuit = shelf_of(alloc, Slot::First, circuit)?;
+    let mut stimulus = shelf_of(alloc, Slot::Second, stimulus)?;
+    let mut device = MemDevice::new(alloc, &[])?;
+    let mut rig = opened(alloc, BLOCKS, &mut device)?;
+    let printed = match part {
+        Part::Chains => print_chains(rt, &mut rig, &mut circuit, title),
+        Part::Edges => print_edges(rt, &mut rig, &mut circuit, title),
+        Part::Lines(by) => print_lines(rt, &mut rig, &mut circuit, &mut stimulus, title, by),
+    };
+    let _cost = ended(rig);
+    printed
+}
+
+/// Prints these parts of a row.
+pub(crate) fn print_row(
+    rt: &HostRuntime,
+    title: &str,
+    row: &str,
+    parts: &[Part],
+) -> Result<(), Fail> {
+    let (circuit, stimulus) = row.split_once('|').unwrap_or((row, ""));
+    for part in parts {
+        print_part(rt, title, circuit, stimulus, *part)?;
+    }
+    Ok(())
+}

@@ -1,0 +1,164 @@
+//! A circuit's text, evaluated by a queue over a list or over a buffer tree until nothing is left of the stimulus.
+ghost use Rattle.std.specs.Prelude.{◌≡◌, ◌^◌, true};
+ghost use Rattle.em_io.specs.declared.shelf.Slot.TheVariants.{First, Second};
+ghost use Rattle.em_space.specs.Seen.{seen};
+ghost use Rattle.aig_text.specs.Source.{CanRead, source};
+ghost use Rattle.aig_edges.specs.Graph.{IsOrdered};
+ghost use Rattle.aig_tests.specs.Frames.{HasFrames, LeavesFrames};
+ghost use Rattle.aig_tests.specs.Stepping.{GivesBack, ReadyToEvaluate, ReadyToStep, StepsOn};
+
+use crate::ordering::read_ordered;
+use crate::stop::unread;
+use aig_edges::{Ordered, StepStop};
+use aig_forward::{Evaluator, StepEnd};
+use em_frames::Device;
+use em_io::{Feed, Printer, Shelf, Sink, Slot};
+use em_plain::ScanQueue;
+use em_pqueue::ExtQueue;
+use em_space::{Queue, Rig};
+
+/// No stimulus here has as many lines.
+const LINES: u64 = 9;
+
+/// Which queue carries the messages.
+#[derive(Clone, Copy)]
+pub(crate) enum By {
+    /// One that keeps its items in a list.
+    List,
+    /// One that keeps a heap over a buffer tree.
+    Tree,
+}
+
+/// Steps until nothing is left of the stimulus.
+fn step_all<D: Device, Q: Queue, H: Shelf, W: Sink>(
+    rig: &mut Rig<'_, D>,
+    evaluator: &mut Evaluator<Q>,
+    feed: &mut Feed,
+    shelf: &mut H,
+    printer: &mut Printer,
+    sink: &mut W,
+) -> Result<(), StepStop>
+    requires { ReadyToStep Q.Queue (2 ^ 90) (source H.Shelf feed.old shelf.old)
+        (seen D.state rig.old) evaluator.old }
+    ensures { StepsOn Q.Queue (seen D.state rig.old) (seen D.state rig.new)
+        evaluator.old evaluator.new result }
+{
+    for _ in 0..LINES {
+        match evaluator.step(rig, feed, shelf, printer, sink) {
+            Ok(StepEnd::Printed) => {}
+            Ok(StepEnd::End) => return Ok(()),
+            Err(stop) => return Err(stop),
+        }
+    }
+    Ok(())
+}
+
+/// Makes an evaluator, steps until nothing is left of the stimulus, and ends it. All frames of the
+/// queue are back.
+fn evaluate<D: Device, Q: Queue, H: Shelf, W: Sink>(
+    rig: &mut Rig<'_, D>,
+    ordered: Ordered,
+    queue: Q,
+    feed: &mut Feed,
+    shelf: &mut H,
+    printer: &mut Printer,
+    sink: &mut W,
+) -> Result<(), StepStop>
+    requires { ReadyToEvaluate Q.Queue (source H.Shelf feed.old shelf.old)
+        (seen D.state rig.old) ordered queue }
+    ensures { GivesBack (Q.counts queue) (seen D.state rig.old) (seen D.state rig.new) }
+{
+    let mut evaluator = Evaluator::new(rig, ordered, queue)?;
+    match step_all(rig, &mut evaluator, feed, shelf, printer, sink) {
+        Ok(()) => {
+            evaluator.end(rig)?;
+            Ok(())
+        }
+        Err(stop) => {
+            evaluator.abandon(rig);
+            Err(stop)
+        }
+    }
+}
+
+/// Evaluates by a new queue over a list for the stimulus of a feed.
+fn evaluate_by_list<D: Device, H: Shelf, W: Sink>(
+    rig: &mut Rig<'_, D>,
+    ordered: Ordered,
+    feed: &mut Feed,
+    shelf: &mut H,
+    printer: &mut Printer,
+    sink: &mut W,
+) -> Result<(), StepStop>
+    requires has { HasFrames (seen D.state rig.old) }
+    requires ordered { IsOrdered (seen D.state rig.old) ordered }
+    requires ready { CanRead (source H.Shelf feed.old shelf.old) }
+    ensures leaves { LeavesFrames (seen D.state rig.old) (seen D.state rig.new) }
+{
+    let queue = ScanQueue::new(rig)?;
+    evaluate(rig, ordered, queue, feed, shelf, printer, sink)
+}
+
+/// Evaluates by a new queue over a buffer tree for the stimulus of a feed.
+fn evaluate_by_tree<D: Device, H: Shelf, W: Sink>(
+    rig: &mut Rig<'_, D>,
+    ordered: Ordered,
+    feed: &mut Feed,
+    shelf: &mut H,
+    printer: &mut Printer,
+    sink: &mut W,
+) -> Result<(), StepStop>
+    requires has { HasFrames (seen D.state rig.old) }
+    requires ordered { IsOrdered (seen D.state rig.old) ordered }
+    requires ready { CanRead (source H.Shelf feed.old shelf.old) }
+    ensures leaves { LeavesFrames (seen D.state rig.old) (seen D.state rig.new) }
+{
+    let queue = ExtQueue::new(rig)?;
+    evaluate(rig, ordered, queue, feed, shelf, printer, sink)
+}
+
+/// Evaluates edges between ranks by a new queue of this kind for the stimulus of a feed.
+fn evaluate_by<D: Device, H: Shelf, W: Sink>(
+    rig: &mut Rig<'_, D>,
+    ordered: Ordered,
+    by: By,
+    feed: &mut Feed,
+    shelf: &mut H,
+    printer: &mut Printer,
+    sink: &mut W,
+) -> Result<(), StepStop>
+    requires has { HasFrames (seen D.state rig.old) }
+    requires ordered { IsOrdered (seen D.state rig.old) ordered }
+    requires ready { CanRead (source H.Shelf feed.old shelf.old) }
+    ensures leaves { LeavesFrames (seen D.state rig.old) (seen D.state rig.new) }
+{
+    match by {
+        By::List => evaluate_by_list(rig, ordered, feed, shelf, printer, sink),
+        By::Tree => evaluate_by_tree(rig, ordered, feed, shelf, printer, sink),
+    }
+}
+
+/// Evaluates the circuit in the first slot of a shelf for the stimulus in the second slot of another one, by a
+/// queue of this kind.
+pub(crate) fn evaluate_texts<D: Device, H: Shelf, W: Sink>(
+    rig: &mut Rig<'_, D>,
+    circuit: &mut H,
+    stimulus: &mut H,
+    by: By,
+    printer: &mut Printer,
+    sink: &mut W,
+) -> Result<(), StepStop>
+    requires circuit { ((H.stand circuit.old).slot First).ready ≡ true }
+    requires stimulus { ((H.stand stimulus.old).slot Second).ready ≡ true }
+    requires has { HasFrames (seen D.state rig.old) }
+    ensures leaves { LeavesFrames (seen D.state rig.old) (seen D.state rig.new) }
+{
+    let mut feed = Feed::new(Slot::First);
+    match read_ordered(rig, &mut feed, circuit) {
+        Ok(ordered) => {
+            let mut lines = Feed::new(Slot::Second);
+            evaluate_by(rig, ordered, by, &mut lines, stimulus, printer, sink)
+        }
+        Err(stop) => Err(unread(stop)),
+    }
+}
