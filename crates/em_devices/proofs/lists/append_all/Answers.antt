@@ -3,7 +3,7 @@ use Rattle.em_space.specs.Seen.{seen}
 use Rattle.em_space.proofs.Within.{goes_within, within_then}
 use Rattle.em_chain.proofs.Withins.{within_grows}
 use Rattle.em_devices.proofs.Walks.{written_more}
-use Rattle.em_chain_tests.proofs.lists.append_all.Goals as goal
+use Rattle.em_devices.proofs.lists.append_all.Goals as goal
 
 pub returns-in_err-append-clause-goes : goal.returns-in_err-append-clause-goes
 returns-in_err-append-clause-goes g c =

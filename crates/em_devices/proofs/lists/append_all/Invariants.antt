@@ -3,7 +3,7 @@ use Rattle.em_space.specs.Held.{Within}
 use Rattle.em_space.specs.Rig.{Goes}
 use Rattle.em_space.specs.Seen.{seen}
 use Rattle.em_chain.specs.Writer.{IsWriter, writer_blocks, writer_items}
-use Rattle.em_chain_tests.proofs.lists.append_all.Given as goal
+use Rattle.em_devices.proofs.lists.append_all.Given as goal
 
 abbrev pub invariant-loop-record : goal.invariant-loop-record
 invariant-loop-record g l = record {

@@ -3,7 +3,7 @@ use Rattle.em_space.proofs.Within.{within_same, within_kept, within_then, touche
 use Rattle.em_chain.specs.Chain.{chain_blocks}
 use Rattle.em_chain.specs.Writer.{writer_blocks}
 use Rattle.em_chain.proofs.Keeps.{lent_same, lent_given, touches_none}
-use Rattle.em_chain_tests.proofs.lists.extend.Goals as goal
+use Rattle.em_devices.proofs.lists.extend.Goals as goal
 
 pub returns-clause-goes : goal.returns-clause-goes
 returns-clause-goes g c =

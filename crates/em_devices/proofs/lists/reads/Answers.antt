@@ -1,7 +1,7 @@
 use Rattle.em_space.specs.Seen.{seen}
 use Rattle.em_space.proofs.Within.{goes_within, within_then}
 use Rattle.em_devices.proofs.Walks.{reader_within}
-use Rattle.em_chain_tests.proofs.lists.reads.Goals as goal
+use Rattle.em_devices.proofs.lists.reads.Goals as goal
 
 pub loop-record-preserved : goal.loop-record-preserved
 loop-record-preserved g c =

@@ -2,7 +2,7 @@ use Rattle.em_space.specs.Held.{Within}
 use Rattle.em_space.specs.Rig.{Goes}
 use Rattle.em_space.specs.Seen.{seen}
 use Rattle.em_chain.specs.Reader.{IsReader, reader_blocks}
-use Rattle.em_chain_tests.proofs.lists.reads.Given as goal
+use Rattle.em_devices.proofs.lists.reads.Given as goal
 
 abbrev pub invariant-loop-record : goal.invariant-loop-record
 invariant-loop-record g l = record {

@@ -2,7 +2,7 @@ use Rattle.std.proofs.Common.{[], ◌∙◌}
 use Rattle.std.proofs.lemmas.Result.{IfOk-weaker}
 use Rattle.em_space.specs.Seen.{seen}
 use Rattle.em_space.proofs.Within.{within_kept, within_same, within_then}
-use Rattle.em_chain_tests.proofs.lists.write.Goals as goal
+use Rattle.em_devices.proofs.lists.write.Goals as goal
 
 pub returns-clause-fresh : goal.returns-clause-fresh
 returns-clause-fresh g c =
