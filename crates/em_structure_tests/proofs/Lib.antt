@@ -1,0 +1,6 @@
+mod Kept
+mod Frames
+mod Trees
+mod Batches
+mod Queues
+mod Stabs

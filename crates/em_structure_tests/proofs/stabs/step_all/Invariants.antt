@@ -1,0 +1,12 @@
+use Rattle.std.proofs.Common.{◌≡◌, ◌*◌, ◌^◌, ◌≤◌, length}
+use Rattle.std.specs.Prelude.{Ok}
+use Rattle.em_space.specs.Seen.{seen}
+use Rattle.em_structure_tests.specs.Ready.{KeepsStab}
+use Rattle.em_structure_tests.proofs.stabs.step_all.Given as goal
+
+abbrev pub invariant-loop-call : goal.invariant-loop-call
+invariant-loop-call g l = record {
+  kept : KeepsStab {T = Unit {0}} l.call-index (seen g.D.Device.state l.fn.rig)
+      (seen g.D.Device.state l.rig) l.fn.list l.list (Ok tt);
+  within : l.call-index ≤ length l.calls;
+}

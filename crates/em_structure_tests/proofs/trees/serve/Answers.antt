@@ -1,0 +1,56 @@
+use Rattle.std.proofs.Common.{◌^◌, ◌≤◌, arith, ap, sym, ◌∙◌, length}
+use Rattle.em_frames.specs.Pool.{load_of}
+use Rattle.em_space.specs.Seen.{seen}
+use Rattle.em_structure_tests.proofs.Frames.{kept_goes, some_free}
+use Rattle.em_structure_tests.proofs.Kept.{ready_next}
+use Rattle.em_structure_tests.proofs.Trees.{abandoned_keeps, finished_keeps, new_ready}
+use Rattle.em_structure_tests.proofs.trees.serve.Goals as goal
+
+pub step_all-requires-clause-tree : goal.step_all-requires-clause-tree
+step_all-requires-clause-tree g c =
+    let few = c.is_long.ensures c.if-is_long.false in
+    new_ready (length c.args.calls.now) _ _ _ (omega (arith, few)) c.requires.frames
+    c.in_ok-tree.ensures.makes
+
+pub step_all-requires-clause-area : goal.step_all-requires-clause-area
+step_all-requires-clause-area g c =
+    c.requires.area ∙ sym (ap load_of c.in_ok-tree.ensures.makes.frames.shape)
+
+pub finish-requires-clause-free : goal.finish-requires-clause-free
+finish-requires-clause-free g c =
+    let few = c.is_long.ensures c.if-is_long.false in
+    let n = length c.args.calls.now in
+    (ready_next n 0 n _ _ _ _ _ _ _ _ (omega arith) (new_ready n _ _ _ (omega (arith, few))
+    c.requires.frames c.in_ok-tree.ensures.makes) c.in-Ok.ensures.kept).serves
+
+pub finish-requires-clause-few : goal.finish-requires-clause-few
+finish-requires-clause-few g c =
+    let few = c.is_long.ensures c.if-is_long.false in
+    let n = length c.args.calls.now in
+    let calls = (ready_next n 0 n _ _ _ _ _ _ _ _ (omega arith) (new_ready n _ _ _
+    (omega (arith, few)) c.requires.frames c.in_ok-tree.ensures.makes) c.in-Ok.ensures.kept).few in
+    omega (arith, calls)
+
+pub returns-in_err-chain-in-Ok-clause-kept : goal.returns-in_err-chain-in-Ok-clause-kept
+returns-in_err-chain-in-Ok-clause-kept g c =
+    finished_keeps (length c.args.calls.now) _ _ _ (seen g.D.Device.state c.finish.new.rig) _ _ _
+    c.finish.result c.in_ok-tree.ensures.makes c.in-Ok.ensures.kept c.finish.ensures.finishes
+
+pub read_all-requires-clause-free : goal.read_all-requires-clause-free
+read_all-requires-clause-free g c =
+    let k = finished_keeps (length c.args.calls.now) (seen g.D.Device.state c.args.rig.now) _ _
+    (seen g.D.Device.state c.finish.new.rig) _ _ _ c.finish.result c.in_ok-tree.ensures.makes
+    c.in-Ok.ensures.kept c.finish.ensures.finishes in
+    some_free _ _ c.requires.frames k.frames
+
+pub returns-in-Ok-clause-kept : goal.returns-in-Ok-clause-kept
+returns-in-Ok-clause-kept g c =
+    let k = finished_keeps (length c.args.calls.now) (seen g.D.Device.state c.args.rig.now) _ _
+    (seen g.D.Device.state c.finish.new.rig) _ _ _ c.finish.result c.in_ok-tree.ensures.makes
+    c.in-Ok.ensures.kept c.finish.ensures.finishes in
+    kept_goes _ _ _ _ k c.read_all.ensures.goes
+
+pub returns-in-Err-clause-kept : goal.returns-in-Err-clause-kept
+returns-in-Err-clause-kept g c =
+    abandoned_keeps (length c.args.calls.now) _ _ _ _ _ _ _ c.in_ok-tree.ensures.makes
+    c.in-Err.ensures.kept c.abandon.ensures.leaves

@@ -1,0 +1,67 @@
+//! A batch that gets commands. A command is an operation of a map, of which the batch makes the number itself.
+ghost use Rattle.std.specs.Prelude.{◌≤◌, ◌^◌, length};
+ghost use Rattle.em_space.specs.Seen.{seen};
+ghost use Rattle.em_structure_tests.specs.Ready.{HasAll, KeepsBatch, KeepsRig, ReadyBatch};
+
+use crate::reading::{is_long, note, read_all};
+use em_frames::Device;
+use em_map::Batch;
+use em_record::Record;
+use em_space::{EmFault, Rig};
+
+/// One command.
+#[tactic(auto, using(crate::proofs::Batches::given_keeps))]
+fn step<D: Device>(rig: &mut Rig<'_, D>, batch: &mut Batch, call: Record) -> Result<(), EmFault>
+    requires { ReadyBatch 1 (seen D.state rig.old) batch.old }
+    ensures { KeepsBatch 1 (seen D.state rig.old) (seen D.state rig.new) batch.old batch.new result }
+{
+    match call.c {
+        0 => batch.put(rig, call.a, call.d),
+        1 => batch.del(rig, call.a),
+        _ => batch.get(rig, call.a),
+    }
+}
+
+/// Some commands.
+fn step_all<D: Device>(
+    rig: &mut Rig<'_, D>,
+    batch: &mut Batch,
+    calls: &[Record],
+) -> Result<(), EmFault>
+    requires { ReadyBatch (length calls.now) (seen D.state rig.old) batch.old }
+    ensures { KeepsBatch (length calls.now) (seen D.state rig.old) (seen D.state rig.new)
+        batch.old batch.new result }
+{
+    for call in calls {
+        step(rig, batch, *call)?;
+    }
+    Ok(())
+}
+
+/// The same with a new batch, which is finished. Notes the same of its tree as `trees` does, and then the answers.
+pub fn serve<D: Device>(
+    rig: &mut Rig<'_, D>,
+    calls: &[Record],
+    found: &mut Vec<Record>,
+) -> Result<(), EmFault>
+    requires { HasAll (seen D.state rig.old) }
+    ensures { KeepsRig (seen D.state rig.old) (seen D.state rig.new) }
+{
+    if is_long(calls) {
+        return Ok(());
+    }
+    let mut batch = Batch::new(rig)?;
+    match step_all(rig, &mut batch, calls) {
+        Ok(()) => {
+            let tree = batch.tree();
+            note(found, (tree.height(), u64::from(tree.is_fresh())), &[], 0);
+            note(found, (rig.used(), rig.moves()), &[], 0);
+            let chain = batch.finish(rig)?;
+            read_all(rig, chain, found)
+        }
+        Err(fault) => {
+            batch.abandon(rig);
+            Err(fault)
+        }
+    }
+}

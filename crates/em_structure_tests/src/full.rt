@@ -1,0 +1,193 @@
+//! Runs that give up: a device of which a call fails, and one of too few blocks. All frames are back each time, or the run
+//! couldn't be ended.
+ghost use Rattle.std.specs.Prelude.{◌<◌, ◌≤◌, ◌^◌};
+
+use crate::item_scripts::{pushes, with_last};
+use crate::map_scripts::{add_rising, drawn, with_calls};
+use crate::queues::POP;
+use crate::runs::{NO_CALL, Structure, Told, run_failing};
+use crate::stab_scripts::{interval, one_over_points, stab};
+use crate::trees::{SETTLE, TAKE};
+use em_record::Record;
+use em_space::EmFault;
+use std::alloc::Global;
+use std::test::Fail;
+
+/// A run over a device of this many blocks, of which a call fails.
+fn told(
+    alloc: Global,
+    structure: Structure,
+    blocks: u64,
+    failing: u64,
+    calls: &[Record],
+) -> Result<Told, Fail>
+    requires blocks_low { 0 < blocks }
+    requires blocks_high { blocks ≤ 2 ^ 40 }
+{
+    let mut found = Vec::new(alloc);
+    run_failing(alloc, structure, (128, 64), blocks, failing, calls, &mut found)
+}
+
+/// The first one of these calls of the device that fails, and the run isn't refused at it.
+fn first_missed(
+    alloc: Global,
+    structure: Structure,
+    calls: &[Record],
+    first: u64,
+    last: u64,
+) -> Result<Option<u64>, Fail> {
+    for failing in first..last {
+        let (result, cost) = told(alloc, structure, 100, failing, calls)?;
+        if result != Err(EmFault::DeviceFault) || cost.2 != failing {
+            return Ok(Some(failing));
+        }
+    }
+    Ok(None)
+}
+
+/// The least number of blocks up to 40 over which the run doesn't say that the device is full. It has them all in use at
+/// once.
+fn blocks_enough(
+    alloc: Global,
+    structure: Structure,
+    calls: &[Record],
+) -> Result<Option<u64>, Fail> {
+    for blocks in 1..40 {
+        let (result, cost) = told(alloc, structure, blocks, NO_CALL, calls)?;
+        if cost.1 != blocks {
+            return Ok(None);
+        }
+        if result != Err(EmFault::Full { used: blocks }) {
+            return Ok(if result == Ok(()) { Some(blocks) } else { None });
+        }
+    }
+    Ok(None)
+}
+
+/// The calls of a row, by its number.
+///
+/// - 0: 300 drawn operations of a tree, which is settled once on the way.
+/// - 1: 700 items are put into a tree, of which all are taken out after 300, 600 and 700.
+/// - 2: 4097 items are in two leaves of a tree, which are emptied one after the other.
+/// - 3: a batch of 300 drawn commands.
+/// - 4: 1100 pushes into a queue, and as many pops.
+/// - 5: five stabs and three intervals, which have four pairs.
+/// - 6: an interval from 100 to 900 over a point at each place from 0 to 1024.
+fn row(alloc: Global, number: u64) -> Result<(Structure, Vec<Record>), Fail> {
+    let mut puts = Vec::new(alloc);
+    add_rising(&mut puts, 0, if number == 1 { 700 } else { 4097 }, 4097, 0)?;
+    Ok(match number {
+        0 => {
+            let ops = drawn(alloc, 300, 20_000)?;
+            (Structure::Tree, with_calls(alloc, &ops, 200, SETTLE, SETTLE, 0)?)
+        }
+        1 => (Structure::Tree, with_calls(alloc, &puts, 300, TAKE, TAKE, 2)?),
+        2 => (Structure::Tree, with_calls(alloc, &puts, 0, TAKE, TAKE, 6)?),
+        3 => (Structure::Batch, drawn(alloc, 300, 20_000)?),
+        4 => {
+            let calls = pushes(alloc, 1100, true)?;
+            (Structure::Queue, with_last(alloc, &calls, POP, 1100, 1)?)
+        }
+        5 => (Structure::Stab, worked(alloc)?),
+        _ => (Structure::Stab, one_over_points(alloc, 1025, 100, 900)?),
+    })
+}
+
+/// Five stabs and three intervals, of which four pairs come.
+fn worked(alloc: Global) -> Result<Vec<Record>, Fail> {
+    let mut calls = Vec::new(alloc);
+    for call in [
+        stab(5),
+        interval(5, 5),
+        interval(7, u64::MAX),
+        stab(5),
+        stab(6),
+        stab(u64::MAX),
+        interval(0, 5),
+        stab(5),
+    ] {
+        calls.push(call)?;
+    }
+    Ok(calls)
+}
+
+/// A row's number, the least and the most moves of its run, and the first of the 160 calls that fail, or 0 for its last
+/// ones. The call 0 begins the device, so that the moves are all others.
+type Failing = (u64, u64, u64, u64);
+
+/// - Row 2: the last calls are of takings alone, and the first leaf is removed there.
+/// - Row 5: both lists are stored by 2 moves. The queue puts n records of one block in order by 4n + 3: it reads and
+///   releases their block by 2, each pop stores, reads and releases the queue's by 3, all pops but the last one take a
+///   block by 1, and the new list takes one and is stored by 2. So the five points take 23 moves, and the four pairs 19.
+///   Between them points and intervals are read and released by 4, and the pairs take a block and are stored by 2. At
+///   last they are read and released by 2.
+const FAILING: [Failing; 6] = [
+    (0, 41, 99, 1),
+    (1, 7, 160, 1),
+    (2, 161, 100_000, 0),
+    (3, 20, 99, 1),
+    (4, 7, 199, 1),
+    (5, 52, 52, 1),
+];
+
+/// 10 moves store the interval and 1025 points. With n items left the queue has ceil(n / 127) blocks, which are 4653 for
+/// all n from 1 to 1025: each pop stores, reads and releases its own, by 3 moves a block. The pops take 4643 free blocks
+/// and a new one, and the pushes take 8 free ones, by 1 move each. The list of points is read and released by 18 moves,
+/// and the new list takes its blocks and is stored by 18. So the node begins after 18,656 moves, and it makes about 100
+/// with its leaves. The calls from 1 on store both lists and begin to put the points in order.
+const FAILING_NODE: [Failing; 2] = [(6, 18_779, 19_000, 1), (6, 18_779, 19_000, 18_620)];
+
+/// The first of these rows of which a run isn't refused at a call that fails; and the call, or 0 if the run without one
+/// isn't as it must be.
+fn first_wrong(alloc: Global, rows: &[Failing]) -> Result<Option<(u64, u64)>, Fail> {
+    for (number, least, most, from) in rows {
+        let (structure, calls) = row(alloc, *number)?;
+        let (result, cost) = told(alloc, structure, 100, NO_CALL, &calls)?;
+        let moves = cost.2;
+        if result != Ok(()) || moves < *least || *most < moves {
+            return Ok(Some((*number, 0)));
+        }
+        let first = if *from == 0 { moves.saturating_sub(159) } else { *from };
+        let end = first.saturating_add(160).min(moves.saturating_add(1));
+        if let Some(call) = first_missed(alloc, structure, &calls, first, end)? {
+            return Ok(Some((*number, call)));
+        }
+    }
+    Ok(None)
+}
+
+#[test]
+fn each_call_that_fails_is_a_fault(rt: HostRuntime) -> Result<(), Fail> {
+    assert_eq!(rt; first_wrong(rt.alloc(), &FAILING)?, None);
+    Ok(())
+}
+
+#[test]
+fn each_call_of_a_node_that_fails_is_a_fault(rt: HostRuntime) -> Result<(), Fail> {
+    assert_eq!(rt; first_wrong(rt.alloc(), &FAILING_NODE)?, None);
+    Ok(())
+}
+
+/// Each device of fewer blocks than a run has in use at once is full, with all of them in use.
+///
+/// - Row 5: at the second pop the intervals, the points that are in order, those that are left, and those that are left
+///   without the least one have a block each: 4 at once.
+/// - Row 6: the four strips have 3, 3, 3 and 2 blocks of points. Beside them the list of the two strips in the middle and
+///   those of the pieces that go down into the two others have a block each, and the 514 pairs of the middle have 5: 19 at
+///   once.
+#[test]
+fn a_device_of_too_few_blocks_is_full(rt: HostRuntime) -> Result<(), Fail> {
+    for (number, least, most) in [
+        (0, 3, 12),
+        (1, 3, 12),
+        (3, 3, 12),
+        (4, 3, 30),
+        (5, 4, 4),
+        (6, 19, 19),
+    ] {
+        let (structure, calls) = row(rt.alloc(), number)?;
+        let enough = blocks_enough(rt.alloc(), structure, &calls)?;
+        assert!(rt; enough >= Some(least) && enough <= Some(most), "row {number}");
+    }
+    Ok(())
+}

@@ -1,0 +1,101 @@
+//! What a batch answers, as worked out by hand or by a plain map.
+
+use crate::map_scripts::{add_rising, drawn, record};
+use crate::plain_map::{agrees, answers_after, found_at};
+use crate::runs::{Structure, run};
+use em_record::Record;
+use std::alloc::Global;
+use std::test::Fail;
+
+/// The commands of a text. `K=V` is a put, `K-` a del and `K?` a get.
+fn commands_of(alloc: Global, text: &str) -> Result<Vec<Record>, Fail> {
+    let mut commands = Vec::new(alloc);
+    for word in text.split(',') {
+        if let Some((key, value)) = word.split_once('=') {
+            commands.push(record(key.parse::<u64>()?, 1, 0, value.parse::<u64>()?))?;
+        } else if let Some((key, _)) = word.split_once('-') {
+            commands.push(record(key.parse::<u64>()?, 1, 1, 0))?;
+        } else if let Some((key, _)) = word.split_once('?') {
+            commands.push(record(key.parse::<u64>()?, 1, 2, 0))?;
+        }
+    }
+    Ok(commands)
+}
+
+/// The answers of a text: a number, and the value after a space or none.
+fn answers_of(alloc: Global, text: &str) -> Result<Vec<Record>, Fail> {
+    let mut answers = Vec::new(alloc);
+    for word in text.split(',') {
+        if let Some((number, value)) = word.split_once(' ') {
+            answers.push(record(number.parse::<u64>()?, 1, value.parse::<u64>()?, 0))?;
+        } else if word != "" {
+            answers.push(record(word.parse::<u64>()?, 0, 0, 0))?;
+        }
+    }
+    Ok(answers)
+}
+
+/// Commands, and the answers in the order of their numbers. Each get sees the commands before it, of its own key alone.
+/// The last line has forty puts of one key.
+const ROWS: &str = "\
+|
+1=2,1-|
+5?,5=10,5?,5=11,5?,5-,5?,5=0,5?|1,3 10,5 11,7,9 0
+0=7,18446744073709551615=8,9-,0?|4 7
+0=7,18446744073709551615=8,9-,1?|4
+0=7,18446744073709551615=8,9-,18446744073709551615?|4 8
+0=7,18446744073709551615=8,9-,9?|4
+1=2,1=2,1=2,1=2,1=2,1=2,1=2,1=2,1=2,1=2,1=2,1=2,1=2,1=2,1=2,1=2,1=2,1=2,1=2,1=2,1=2,1=2,1=2,1=2,1=2,1=2,1=2,1=2,1=2,1=2,1=2,1=2,1=2,1=2,1=2,1=2,1=2,1=2,1=2,1=2,1?|41 2
+";
+
+#[test]
+fn each_get_answers_the_last_put_of_its_key_before_it(rt: HostRuntime) -> Result<(), Fail> {
+    let mut row = 0u64;
+    for line in ROWS.lines() {
+        row = row.saturating_add(1);
+        let (commands, answers) = line.split_once('|').unwrap_or((line, "0"));
+        let commands = commands_of(rt.alloc(), commands)?;
+        let answers = answers_of(rt.alloc(), answers)?;
+        let mut found = Vec::new(rt.alloc());
+        let cost = run(rt.alloc(), Structure::Batch, (128, 64), &commands, &mut found)?;
+        let found = answers_after(rt.alloc(), &found, 3)?;
+        assert!(rt; cost.0 == 0 && found.as_slice() == answers.as_slice(), "row {row}");
+    }
+    assert_eq!(rt; row, 8);
+    Ok(())
+}
+
+/// At the first shape the leaf is split. Its 20,000 operations fill 157 blocks, which are two levels at a fan-out of 16:
+/// at most 248 * 158 * 3 moves. At the others a full buffer has 4096 and 8192 operations, and a leaf at most 8192 and
+/// 16384 records.
+#[test]
+fn drawn_commands_are_answered_as_by_a_plain_map(rt: HostRuntime) -> Result<(), Fail> {
+    for (block, count, keys, most) in [
+        (128, 20_000, 20_000, 248 * 158 * 3),
+        (256, 8_000, 2_000, u64::MAX),
+        (512, 8_000, 100, u64::MAX),
+    ] {
+        let calls = drawn(rt.alloc(), count, keys)?;
+        let mut found = Vec::new(rt.alloc());
+        let cost = run(rt.alloc(), Structure::Batch, (block, 64), &calls, &mut found)?;
+        let same = agrees(rt.alloc(), &calls, &found, 127, 0)?;
+        assert_eq!(rt; (same, cost.0), (Some(0), 0), "block {block}");
+        let moves = cost.2;
+        assert!(rt; moves <= most, "block {block}, moves {moves}");
+    }
+    Ok(())
+}
+
+/// Ten thousand puts and as many gets, 20,000 commands as well. The answers fill 79 blocks of 127 records.
+#[test]
+fn puts_and_a_get_of_each_are_answered_within_the_share(rt: HostRuntime) -> Result<(), Fail> {
+    let mut calls = Vec::new(rt.alloc());
+    add_rising(&mut calls, 0, 10_000, 10_000, 10_000)?;
+    let mut found = Vec::new(rt.alloc());
+    let cost = run(rt.alloc(), Structure::Batch, (128, 64), &calls, &mut found)?;
+    assert_eq!(rt; agrees(rt.alloc(), &calls, &found, 127, 0)?, Some(0));
+    assert_eq!(rt; (found_at(&found, 2), cost.0), (record(79, 10_000, 0, 0), 0));
+    let moves = cost.2;
+    assert!(rt; moves <= 248 * 158 * 3, "moves {moves}");
+    Ok(())
+}
