@@ -1,5 +1,7 @@
 //! Texts that are read, and lines that are written, also where a call fails.
-use em_io::{Digits, DiskShelf, Feed, MemShelf, MemSink, Printer, Shelf, Sink, Slot, StdSink, send};
+use em_io::{
+    Digits, DiskShelf, Feed, MemShelf, MemSink, Printer, Shelf, Sink, Slot, StdSink, send,
+};
 use em_record::Failed;
 use std::test::Fail;
 
