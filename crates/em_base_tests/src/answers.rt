@@ -7,10 +7,16 @@ use std::test::Fail;
 fn each_definition_answers_its_commands(rt: HostRuntime) -> Result<(), Fail> {
     let put = Command::Put { key: 5, value: 10 };
     let gotten = map_answers_of(rt.alloc(), &[put, Command::Get { key: 5 }])?;
-    assert_eq!(rt; (gotten.len(), gotten.first().copied()), (1, Some(Some(10))));
+    assert_eq!(rt;
+        (gotten.len(), gotten.first().copied()),
+        (1, Some(Some(10)))
+    );
     let push = Command::Push { key: 9, value: 1 };
     let popped = queue_answers_of(rt.alloc(), &[push, Command::Pop])?;
-    assert_eq!(rt; (popped.len(), popped.first().copied()), (1, Some(Some((9, 1)))));
+    assert_eq!(rt;
+        (popped.len(), popped.first().copied()),
+        (1, Some(Some((9, 1))))
+    );
     let interval = Command::Interval { low: 5, high: 9 };
     let stabbed = stab_answers_of(rt.alloc(), &[interval, Command::Stab { point: 9 }])?;
     assert_eq!(rt; stabbed.len(), 1);

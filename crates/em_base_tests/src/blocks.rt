@@ -125,7 +125,11 @@ fn blocks_are_kept_and_come_again(rt: HostRuntime) -> Result<(), Fail> {
         (Script::FreeBoth, 3, 9, Ok(10), (2, 2, 4, 1), 0),
     ] {
         let ended = run_kept(rt.alloc(), failing, blocks, script)?;
-        assert_eq!(rt; ended, ((answer, cost), cost.2, faults), "{script:?} {failing}");
+        assert_eq!(rt;
+            ended,
+            ((answer, cost), cost.2, faults),
+            "{script:?} {failing}"
+        );
     }
     Ok(())
 }
@@ -182,7 +186,12 @@ fn a_damaged_header_is_refused(rt: HostRuntime) -> Result<(), Fail> {
     let second = Err(EmFault::Damaged { block: 1 });
     let most = u64::MAX;
     for (script, header, answer, cost) in [
-        (Script::FreeFirst, words(most, most, most, most), first, (1, 2, 2, 1)),
+        (
+            Script::FreeFirst,
+            words(most, most, most, most),
+            first,
+            (1, 2, 2, 1),
+        ),
         (Script::FreeFirst, words(0, 0, 1, 0), first, (1, 2, 2, 1)),
         (Script::FreeFirst, words(0, 1, 3, 0), first, (1, 2, 2, 1)),
         (Script::FreeFirst, words(0, 0, 3, 1), first, (1, 2, 2, 1)),

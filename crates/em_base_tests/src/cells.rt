@@ -119,9 +119,21 @@ fn a_block_that_is_not_laid_out_is_damaged(rt: HostRuntime) -> Result<(), Fail> 
     let second = Err(EmFault::Damaged { block: 1 });
     let most = u64::MAX;
     for (script, given, echoed) in [
-        (Script::Beside(1), (first, (1, 2, 5, 1)), (first, (1, 2, 5, 1))),
-        (Script::ReadSecond, (second, (2, 2, 3, 1)), (Ok(6), (2, 2, 3, 1))),
-        (Script::WaitAgain, (first, (0, 1, 3, 1)), (Ok(1), (1, 1, 3, 1))),
+        (
+            Script::Beside(1),
+            (first, (1, 2, 5, 1)),
+            (first, (1, 2, 5, 1)),
+        ),
+        (
+            Script::ReadSecond,
+            (second, (2, 2, 3, 1)),
+            (Ok(6), (2, 2, 3, 1)),
+        ),
+        (
+            Script::WaitAgain,
+            (first, (0, 1, 3, 1)),
+            (Ok(1), (1, 1, 3, 1)),
+        ),
     ] {
         let mut device = Untold::giving(words(most, most, most, most));
         let ended = run(rt.alloc(), &mut device, 3, script)?;

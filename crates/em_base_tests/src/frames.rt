@@ -6,6 +6,13 @@ use em_frames::{Device, Grant, MemDevice, Pool};
 use em_record::{Failed, Record, Shape};
 use std::test::Fail;
 
+const SEVEN: Record = Record {
+    a: 7,
+    b: 1,
+    c: 2,
+    d: 3,
+};
+
 /// The first and the last record of a block of 128 records.
 fn ends_of(device: &mut MemDevice, at: u64) -> Result<(Record, Record), Failed>
     requires at { at < device.old.blocks }
@@ -64,24 +71,24 @@ fn a_pool_lends_and_takes_back(rt: HostRuntime) -> Result<(), Fail> {
     Ok(())
 }
 
-/// 128 records and 64 frames: f is 16, so the rack has 32 places, and 48 frames are lent singly.
+/// 128 records and 64 frames: f is 16, so 48 frames are lent singly.
 #[test]
 fn a_rack_holds_frames_at_its_places(rt: HostRuntime) -> Result<(), Fail> {
     let mut pool = Grant::new(rt.alloc()).pool(Shape::new(128, 64)?)?;
     let mut rack = pool.lend_rack();
-    let places = rack.places();
     let mut frame = pool.lend();
-    frame.records_mut()[127] = words(7, 1, 2, 3);
+    frame.records_mut()[127] = SEVEN;
     rack.put(31, frame);
-    let held = (rack.holds(0), rack.holds(31), rack.records(31)[127]);
+    let lent = left_in(&pool);
+    assert_eq!(rt; (rack.holds(0), rack.holds(31)), (false, true));
+    let held = rack.records(31)[127];
     let frame = rack.take(31);
     let taken = (frame.records()[127], rack.holds(31));
-    let lent = left_in(&pool);
     pool.give(frame);
     pool.give_rack(rack);
+    let back = left_in(&pool);
     pool.end();
-    let seven = words(7, 1, 2, 3);
-    assert_eq!(rt; (places, lent), (32, (47, 2, 1)));
-    assert_eq!(rt; (held, taken), ((false, true, seven), (seven, false)));
+    assert_eq!(rt; (held, taken), (SEVEN, (SEVEN, false)));
+    assert_eq!(rt; [lent, back], [(47, 2, 1), (48, 2, 1)]);
     Ok(())
 }

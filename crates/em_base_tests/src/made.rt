@@ -44,8 +44,9 @@ fn is_made(
 /// The commands of the first draws from 1, by hand: 16838, 5758, 10113 and so on. Modulo 8 a wide draw is
 /// its second draw.
 const MAP: &[u8] = b"put 1 1\nget 3\nput 4 3\nput 7 4\ndel 1\nget 7\nput 6 7\nput 7 8\n";
-const QUEUE: &[u8] =
-    b"push 1 1\npush 3 2\npush 4 3\npush 7 4\npop\npush 7 6\npush 6 7\npush 7 8\n";
+
+const QUEUE: &[u8] = b"push 1 1\npush 3 2\npush 4 3\npush 7 4\npop\npush 7 6\npush 6 7\npush 7 8\n";
+
 const STAB: &[u8] = b"iv 1 7\niv 3 14\niv 4 6\niv 7 13\nstab 1\niv 7 14\niv 6 7\niv 7 9\n";
 
 /// A circuit of two gates: the header, 16 inputs, 16 latches, 16 outputs, and the gates of the
@@ -78,7 +79,16 @@ fn a_circuit_and_its_stimulus(rt: HostRuntime) -> Result<(), Fail> {
     assert!(rt; is_made(alloc, GenKind::Eval, (1, 2), Slot::First, 218, CIRCUIT)?);
     assert!(rt; is_made(alloc, GenKind::Eval, (1, 2), Slot::Second, 136, STIMULUS)?);
     let first = b"0001011100101011\n";
-    assert!(rt; is_made(alloc, GenKind::Eval, (2147483647, 2), Slot::Second, 136, first)?);
+    assert!(rt;
+        is_made(
+            alloc,
+            GenKind::Eval,
+            (2147483647, 2),
+            Slot::Second,
+            136,
+            first
+        )?
+    );
     Ok(())
 }
 

@@ -1,6 +1,5 @@
 //! Operations of three kinds of rules, as worked out by hand: of a map and of a bag from the table in the
 //! README of `em_settle`, and of rules that store a closure.
-ghost use Rattle.std.specs.Prelude.{◌≡◌};
 
 use crate::joined::JoinSettle;
 use crate::words::words;
@@ -9,8 +8,8 @@ use em_settle::{BagSettle, MapSettle, Settle, Step};
 use std::test::Fail;
 
 /// A line for each operation of a map: the stored record of its key or `-`, the operation, what is stored
-/// after it, its answer, and its key. Three puts, over nothing and over
-/// other values; two dels, of a value and of nothing; three gets, of a value, of the value 0 and of nothing.
+/// after it, its answer, and its key. Three puts, over nothing and over other values; two dels, of a value and
+/// of nothing; three gets, of a value, of the value 0 and of nothing.
 const MAP: &str = "\
 -|5 1 0 10|5 0 0 10|-|5 0 0 0
 5 0 0 10|5 3 0 11|5 0 0 11|-|5 0 0 0
@@ -44,7 +43,12 @@ fn record_of(part: &str) -> Result<Option<Record>, Fail> {
     let (Some(c), Some(d)) = (numbers.next(), numbers.next()) else {
         return Ok(None);
     };
-    let record = words(a.parse::<u64>()?, b.parse::<u64>()?, c.parse::<u64>()?, d.parse::<u64>()?);
+    let record = words(
+        a.parse::<u64>()?,
+        b.parse::<u64>()?,
+        c.parse::<u64>()?,
+        d.parse::<u64>()?,
+    );
     Ok(Some(record))
 }
 

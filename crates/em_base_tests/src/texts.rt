@@ -1,5 +1,7 @@
 //! Texts that are read, and lines that are written, also where a call fails.
-use em_io::{Digits, DiskShelf, Feed, MemShelf, MemSink, Printer, Shelf, Sink, Slot, StdSink, send};
+use em_io::{
+    Digits, DiskShelf, Feed, MemShelf, MemSink, Printer, Shelf, Sink, Slot, StdSink, send,
+};
 use em_record::Failed;
 use std::test::Fail;
 
@@ -36,7 +38,8 @@ fn a_shelf_fails_where_it_is_told_to(rt: HostRuntime) -> Result<(), Fail> {
     let mut into = [0; 4];
     let count = shelf.read(Slot::Second, &mut into);
     assert_eq!(rt; (count, into), (Ok(2), [b'4', b' ', 0, 0]));
-    assert_eq!(rt; shelf.open(Slot::First, "row2"), Err(Failed));
+    let mut empty = MemShelf::new(rt.alloc(), 3, &[])?;
+    assert_eq!(rt; empty.open(Slot::First, "numbers"), Err(Failed));
     Ok(())
 }
 
