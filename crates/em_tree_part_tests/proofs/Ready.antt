@@ -9,6 +9,7 @@ use Rattle.em_space.specs.Ledger.{Session}
 use Rattle.em_space.specs.Rig.{RigState, Goes, InUse, Opens, Sound, Touches}
 use Rattle.em_space.specs.declared.fault.EmFault.{EmFault}
 use Rattle.em_chain.specs.Chain.{IsChain, empty_chain, word_list}
+use Rattle.em_chain.specs.Effects.{LendsFrame}
 use Rattle.em_chain.specs.View.{IsView}
 use Rattle.em_chain.specs.Writer.{IsWriter}
 use Rattle.em_chain.specs.declared.chain.Chain.{Chain}
@@ -61,6 +62,17 @@ small_kept r k = record {
   block = ap (λ (z : ShapeNumbers). z.block) k.frames.shape ∙ r.block;
   frames = ap (λ (z : ShapeNumbers). z.frames) k.frames.shape ∙ r.frames;
   free = let e = k.frames.free in let f = r.free in omega (arith, e, f);
+}
+
+-- A writer was begun, and calls after it left its frame alone.
+pub small_lent : {held ks : List ℕ} {s t u : RigState} → IsSmall s → 41 ≤ s.pool.free → LendsFrame s t
+    → Session held t u ks → SameFrames t.pool u.pool → IsSmall u
+small_lent r more l w f = record {
+  sound = w.sound;
+  untold = w.touches.told ∙ l.touches.told ∙ r.untold;
+  block = ap (λ (z : ShapeNumbers). z.block) (f.shape ∙ l.frames.shape) ∙ r.block;
+  frames = ap (λ (z : ShapeNumbers). z.frames) (f.shape ∙ l.frames.shape) ∙ r.frames;
+  free = let e = f.free in let g = l.frames.free in omega (arith, e, g, more);
 }
 
 pub ready_kept : {s t : RigState} → IsReady s → Keeps s t → IsReady t

@@ -92,11 +92,9 @@ pub fn emptied<D: Device>(rig: &mut Rig<'_, D>, children: u64, count: u64, at: u
         Some(place) => u64::from(place),
         None => NONE,
     };
-    let has = if children == 2 {
-        child_has(rig, node, at as usize, &five())?
-    } else {
-        child_has(rig, node, at as usize, sent)?
-    };
+    let five = five();
+    let wanted: &[Record] = if children == 2 { &five } else { sent };
+    let has = child_has(rig, node, at as usize, wanted)?;
     Ok([least, u64::from(has), 0, 0, 0, 0, 0, 0])
 }
 

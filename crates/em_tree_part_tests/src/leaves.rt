@@ -72,6 +72,7 @@ fn answered<D: Device, S: Settle>(
     requires count { chain.count ≤ 4096 }
     requires area { length area.old ≡ 1024 }
     requires few { length case.now.ops.now ≤ 1024 }
+    requires more { 41 ≤ (seen D.state rig.old).pool.free }
     ensures keeps { Keeps (seen D.state rig.old) (seen D.state rig.new) }
     ensures area { length area.new ≡ 1024 }
 {
