@@ -1,12 +1,12 @@
 -- Over a device that doesn't tell, a block is asked for its range alone, and a chain for its numbers.
-use Rattle.std.proofs.Common.{◌≡◌, ℕ, ◌+◌, ◌-◌, ◌*◌, ◌/◌, ◌<◌, ◌≤◌, ◌^◌, List, [], false, refl, sym, ap, ◌∙◌, arith, Bool, IsTrue, Result, Ok, Err, IfOk}
+use Rattle.std.proofs.Common.{◌≡◌, ℕ, ◌+◌, ◌-◌, ◌*◌, ◌/◌, ◌<◌, ◌≤◌, ◌^◌, List, false, refl, sym, ap, ◌∙◌, arith, Bool, IsTrue, Result, Ok, Err, IfOk}
 use Rattle.std.proofs.lemmas.Bool.{false≢true}
 use Rattle.em_record.specs.Shape.{ShapeNumbers}
 use Rattle.em_record.specs.declared.record.Record.{Record}
 use Rattle.em_frames.specs.Device.{DeviceState}
 use Rattle.em_frames.specs.Pool.{IsWhole, PoolCounts, SameFrames, fresh_pool}
 use Rattle.em_space.specs.Ledger.{Session}
-use Rattle.em_space.specs.Rig.{RigState, Goes, InUse, Opens, Sound, Touches}
+use Rattle.em_space.specs.Rig.{RigState, Goes, InUse, Opens}
 use Rattle.em_space.specs.declared.fault.EmFault.{EmFault}
 use Rattle.em_chain.specs.Chain.{IsChain, empty_chain, word_list}
 use Rattle.em_chain.specs.Effects.{LendsFrame}

@@ -1,5 +1,5 @@
 -- A rig of the smallest shape over a device that doesn't tell what it holds.
-use Rattle.std.specs.Prelude.{◌≡◌, ℕ, ◌≤◌, false}
+use Rattle.std.specs.Prelude.{◌≡◌, ◌≤◌, false}
 use Rattle.em_frames.specs.Pool.{SameFrames}
 use Rattle.em_space.specs.Rig.{RigState, Sound}
 
