@@ -1,4 +1,4 @@
-use Rattle.std.proofs.Common.{[], sym, ◌∙◌}
+use Rattle.std.proofs.Common.{sym, ◌∙◌}
 use Rattle.em_space.specs.Seen.{seen}
 use Rattle.em_space.proofs.Held.{apart_none}
 use Rattle.em_space.proofs.Queues.{out_given}
