@@ -1,3 +1,3 @@
 pub mod Beside
 pub mod Dealt
-pub mod Sorting
+pub mod Sorted

@@ -55,7 +55,6 @@ fn popped(call: Record) -> Option<Record> {
 }
 
 /// Whether the queue has `a` items, if there is 3 in `c`; else whether the next item is the one that the call is to pop.
-#[tactic(auto, using(em_list_tests::proofs::Beside::lacks_more))]
 fn checks<D: Device>(
     rig: &mut Rig<'_, D>,
     queue: &mut ScanQueue,

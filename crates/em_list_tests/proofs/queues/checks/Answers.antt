@@ -9,3 +9,6 @@ returns-clause-lacks g c =
     let t = seen g.D.Device.state c.pop.new.rig in
     λ n h. lacks_more (lacks_still n s t c.args.queue.now c.pop.new.self c.in_ok-item.item h
     c.pop.ensures.serves.touches.told c.in_ok-item.ensures.items)
+
+pub returns-then-call-eq3-clause-lacks : goal.returns-then-call-eq3-clause-lacks
+returns-then-call-eq3-clause-lacks g c = λ n h. lacks_more h

@@ -1,5 +1,5 @@
 use Rattle.std.proofs.Common.{refl, sym, ◌∙◌}
-use Rattle.em_list_tests.proofs.Sorting.{can_sort, kept_refused, kept_sorted, kept_stops, queue_kept, three_lack}
+use Rattle.em_list_tests.proofs.Sorted.{can_sort, kept_refused, kept_sorted, kept_stops, queue_kept, three_lack}
 use Rattle.em_list_tests.proofs.sorting.sorts.Goals as goal
 
 pub returns-in_err-list : goal.returns-in_err-list
