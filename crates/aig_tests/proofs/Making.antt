@@ -1,5 +1,5 @@
 -- A new rig; a new queue beside a circuit's parts, beside its graph, and beside its edges between ranks.
-use Rattle.std.proofs.Common.{◌≡◌, ◌+◌, ◌*◌, ◌^◌, ◌<◌, ◌≤◌, ◌++◌, ℕ, List, [], IsTrue, ap, sym, subst, ◌∙◌, refl, arith, Result, Ok, Err, IfOk}
+use Rattle.std.proofs.Common.{◌≡◌, ◌+◌, ◌*◌, ◌≤◌, ◌++◌, ℕ, List, [], IsTrue, ap, sym, subst, ◌∙◌, refl, arith, Result, Ok, Err, IfOk}
 use Rattle.em_record.specs.Shape.{fan_of}
 use Rattle.em_frames.specs.Device.{DeviceState}
 use Rattle.em_frames.specs.Pool.{PoolCounts, fresh_pool}
