@@ -1,8 +1,10 @@
--- A new queue beside a circuit's parts, beside its graph, and beside its edges between ranks.
-use Rattle.std.proofs.Common.{◌≡◌, ◌+◌, ◌*◌, ◌^◌, ◌<◌, ◌≤◌, ◌++◌, ℕ, List, [], IsTrue, ap, sym, subst, ◌∙◌, arith, Result, Ok, Err, IfOk}
+-- A new rig; a new queue beside a circuit's parts, beside its graph, and beside its edges between ranks.
+use Rattle.std.proofs.Common.{◌≡◌, ◌+◌, ◌*◌, ◌≤◌, ◌++◌, ℕ, List, [], IsTrue, ap, sym, subst, ◌∙◌, refl, arith, Result, Ok, Err, IfOk}
 use Rattle.em_record.specs.Shape.{fan_of}
+use Rattle.em_frames.specs.Device.{DeviceState}
+use Rattle.em_frames.specs.Pool.{PoolCounts, fresh_pool}
 use Rattle.em_space.specs.Held.{Holds}
-use Rattle.em_space.specs.Rig.{RigState, Touches, Sound}
+use Rattle.em_space.specs.Rig.{RigState, Touches, Sound, Opens}
 use Rattle.em_space.proofs.Held.{apart_none}
 use Rattle.em_space.specs.Ledger.{Session}
 use Rattle.em_space.specs.Queue.{QueueCounts, Shares}
@@ -20,7 +22,19 @@ use Rattle.aig_edges.proofs.GraphLaws.{GraphStays, graph_stays}
 use Rattle.aig_edges.specs.declared.graph.Ordered.{Ordered}
 use Rattle.aig_order.specs.OrderGraph.{OfDefinedCircuit}
 use Rattle.aig_forward.specs.Evaluator.{without_frames}
+use Rattle.em_devices.specs.Small.{small}
 use Rattle.aig_tests.specs.Frames.{HasFrames}
+
+-- A rig of the smallest shape was opened.
+pub has_opened : (device : DeviceState) (blocks : ℕ) (s : RigState)
+    → Opens device (fresh_pool small) blocks s → HasFrames s
+has_opened device blocks s o = record {
+  sound = o.sound;
+  build = subst CanBuild (sym o.pool_is)
+      (record { singles = omega arith; areas = omega arith; rack = refl });
+  two = subst (λ (p : PoolCounts). 2 * fan_of p.shape + 12 ≤ p.free) (sym o.pool_is) (omega arith);
+  areas = subst (λ (p : PoolCounts). 2 ≤ p.free_areas) (sym o.pool_is) (omega arith);
+}
 
 -- A frame was lent to the queue.
 pub can_lend : (s t : RigState) → HasFrames s → LendsFrame s t → CanBuild t.pool
