@@ -134,8 +134,9 @@ const FAILING: [Failing; 6] = [
 /// all n from 1 to 1025: each pop stores, reads and releases its own, by 3 moves a block. The pops take 4643 free blocks
 /// and a new one, and the pushes take 8 free ones, by 1 move each. The list of points is read and released by 18 moves,
 /// and the new list takes its blocks and is stored by 18. So the node begins after 18,656 moves, and it makes about 100
-/// with its leaves. The calls from 1 on store both lists and begin to put the points in order.
-const FAILING_NODE: [Failing; 2] = [(6, 18_779, 19_000, 1), (6, 18_779, 19_000, 18_620)];
+/// with its leaves, before the pairs are put in order. The calls from 1 on store both lists and begin to put the points in
+/// order.
+const FAILING_NODE: [Failing; 2] = [(6, 18_779, u64::MAX, 1), (6, 18_779, u64::MAX, 18_620)];
 
 /// The first of these rows of which a run isn't refused at a call that fails; and the call, or 0 if the run without one
 /// isn't as it must be.
