@@ -1,6 +1,6 @@
 use Rattle.std.proofs.Common.{◌^◌, ◌≤◌, arith, length}
 use Rattle.em_space.specs.Seen.{seen}
-use Rattle.em_structure_tests.proofs.Batches.{abandoned_keeps, finished_keeps, new_ready}
+use Rattle.em_structure_tests.proofs.BatchKeeps.{abandoned_keeps, finished_keeps, new_ready}
 use Rattle.em_structure_tests.proofs.Frames.{kept_goes, some_free}
 use Rattle.em_structure_tests.proofs.Kept.{ready_next}
 use Rattle.em_structure_tests.proofs.batches.serve.Goals as goal

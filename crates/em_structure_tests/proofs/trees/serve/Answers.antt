@@ -3,7 +3,7 @@ use Rattle.em_frames.specs.Pool.{load_of}
 use Rattle.em_space.specs.Seen.{seen}
 use Rattle.em_structure_tests.proofs.Frames.{kept_goes, some_free}
 use Rattle.em_structure_tests.proofs.Kept.{ready_next}
-use Rattle.em_structure_tests.proofs.Trees.{abandoned_keeps, finished_keeps, new_ready}
+use Rattle.em_structure_tests.proofs.TreeKeeps.{abandoned_keeps, finished_keeps, new_ready}
 use Rattle.em_structure_tests.proofs.trees.serve.Goals as goal
 
 pub step_all-requires-clause-tree : goal.step_all-requires-clause-tree
