@@ -1,4 +1,4 @@
-use Rattle.std.proofs.Common.{◌^◌, ◌≤◌, arith, length}
+use Rattle.std.proofs.Common.{arith, length}
 use Rattle.em_space.specs.Seen.{seen}
 use Rattle.em_structure_tests.proofs.BatchKeeps.{abandoned_keeps, finished_keeps, new_ready}
 use Rattle.em_structure_tests.proofs.Frames.{kept_goes, some_free}

@@ -1,4 +1,4 @@
-use Rattle.std.proofs.Common.{◌^◌, ◌≤◌, arith, length}
+use Rattle.std.proofs.Common.{arith, length}
 use Rattle.em_space.specs.Seen.{seen}
 use Rattle.em_structure_tests.proofs.Frames.{kept_goes, some_free}
 use Rattle.em_structure_tests.proofs.Kept.{ready_next}
