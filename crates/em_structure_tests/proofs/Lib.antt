@@ -1,6 +1,6 @@
 mod Kept
 mod Frames
-mod Trees
-mod Batches
-mod Queues
-mod Stabs
+mod TreeKeeps
+mod BatchKeeps
+mod QueueKeeps
+mod StabKeeps

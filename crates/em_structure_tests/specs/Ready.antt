@@ -36,14 +36,14 @@ pub record Ready (more calls : ℕ) (s : RigState) (Is : Type 0) : Type 0 where
   pub few : calls + more ≤ 2 ^ 40
 
 -- After at most this many calls more it is one still, or its frames are there, of which `Has` tells.
-pub record Keeps {T : Type 0} (more calls later : ℕ) (s t : RigState) (Has Is : Type 0)
+pub record Keeps {T : Type 0} (more before later : ℕ) (s t : RigState) (Has Is : Type 0)
     (result : Result T EmFault) : Type 0 where
   pub sound : Sound t
   pub untold : t.device.told ≡ false
   pub frames : SameFrames s.pool t.pool
   pub has : Has
   pub is : OnOk result Is
-  pub calls : OnOk result (later ≤ calls + more)
+  pub calls : OnOk result (later ≤ before + more)
 
 -- The rig is sound, and as many frames are lent as before.
 pub record KeepsRig (s t : RigState) : Type 0 where

@@ -10,7 +10,7 @@ use em_record::Record;
 use em_space::{EmFault, Rig};
 
 /// One command.
-#[tactic(auto, using(crate::proofs::Batches::given_keeps))]
+#[tactic(auto, using(crate::proofs::BatchKeeps::given_keeps))]
 fn step<D: Device>(rig: &mut Rig<'_, D>, batch: &mut Batch, call: Record) -> Result<(), EmFault>
     requires { ReadyBatch 1 (seen D.state rig.old) batch.old }
     ensures { KeepsBatch 1 (seen D.state rig.old) (seen D.state rig.new) batch.old batch.new result }

@@ -25,7 +25,15 @@ fn told(
     requires blocks_high { blocks ≤ 2 ^ 40 }
 {
     let mut found = Vec::new(alloc);
-    run_failing(alloc, structure, (128, 64), blocks, failing, calls, &mut found)
+    run_failing(
+        alloc,
+        structure,
+        (128, 64),
+        blocks,
+        failing,
+        calls,
+        &mut found,
+    )
 }
 
 /// The first one of these calls of the device that fails, and the run isn't refused at it.
@@ -79,9 +87,15 @@ fn row(alloc: Global, number: u64) -> Result<(Structure, Vec<Record>), Fail> {
     Ok(match number {
         0 => {
             let ops = drawn(alloc, 300, 20_000)?;
-            (Structure::Tree, with_calls(alloc, &ops, 200, SETTLE, SETTLE, 0)?)
+            (
+                Structure::Tree,
+                with_calls(alloc, &ops, 200, SETTLE, SETTLE, 0)?,
+            )
         }
-        1 => (Structure::Tree, with_calls(alloc, &puts, 300, TAKE, TAKE, 2)?),
+        1 => (
+            Structure::Tree,
+            with_calls(alloc, &puts, 300, TAKE, TAKE, 2)?,
+        ),
         2 => (Structure::Tree, with_calls(alloc, &puts, 0, TAKE, TAKE, 6)?),
         3 => (Structure::Batch, drawn(alloc, 300, 20_000)?),
         4 => {
@@ -115,18 +129,21 @@ fn worked(alloc: Global) -> Result<Vec<Record>, Fail> {
 /// ones. The call 0 begins the device, so that the moves are all others.
 type Failing = (u64, u64, u64, u64);
 
-/// - Row 2: the last calls are of takings alone, and the first leaf is removed there.
+/// - Rows 0, 1, 3 and 4: more than the 6 moves of a structure that gets no call, and no more than the calls that fail.
+/// - Row 2: the operations fill 17 blocks of the root's buffer twice, of which each is read and released, and their
+///   records 34 blocks of leaves, of which each is stored, read and released. So there are more than 160 moves. The last
+///   hundred are of takings alone, and the first leaf is removed there.
 /// - Row 5: both lists are stored by 2 moves. The queue puts n records of one block in order by 4n + 3: it reads and
 ///   releases their block by 2, each pop stores, reads and releases the queue's by 3, all pops but the last one take a
 ///   block by 1, and the new list takes one and is stored by 2. So the five points take 23 moves, and the four pairs 19.
 ///   Between them points and intervals are read and released by 4, and the pairs take a block and are stored by 2. At
 ///   last they are read and released by 2.
 const FAILING: [Failing; 6] = [
-    (0, 41, 99, 1),
+    (0, 7, 160, 1),
     (1, 7, 160, 1),
-    (2, 161, 100_000, 0),
-    (3, 20, 99, 1),
-    (4, 7, 199, 1),
+    (2, 161, u64::MAX, 0),
+    (3, 7, 160, 1),
+    (4, 7, 160, 1),
     (5, 52, 52, 1),
 ];
 
@@ -134,8 +151,9 @@ const FAILING: [Failing; 6] = [
 /// all n from 1 to 1025: each pop stores, reads and releases its own, by 3 moves a block. The pops take 4643 free blocks
 /// and a new one, and the pushes take 8 free ones, by 1 move each. The list of points is read and released by 18 moves,
 /// and the new list takes its blocks and is stored by 18. So the node begins after 18,656 moves, and it makes about 100
-/// with its leaves. The calls from 1 on store both lists and begin to put the points in order.
-const FAILING_NODE: [Failing; 2] = [(6, 18_779, 19_000, 1), (6, 18_779, 19_000, 18_620)];
+/// with its leaves, before the pairs are put in order. The calls from 1 on store both lists and begin to put the points in
+/// order.
+const FAILING_NODE: [Failing; 2] = [(6, 18_779, u64::MAX, 1), (6, 18_779, u64::MAX, 18_620)];
 
 /// The first of these rows of which a run isn't refused at a call that fails; and the call, or 0 if the run without one
 /// isn't as it must be.
@@ -147,7 +165,11 @@ fn first_wrong(alloc: Global, rows: &[Failing]) -> Result<Option<(u64, u64)>, Fa
         if result != Ok(()) || moves < *least || *most < moves {
             return Ok(Some((*number, 0)));
         }
-        let first = if *from == 0 { moves.saturating_sub(159) } else { *from };
+        let first = if *from == 0 {
+            moves.saturating_sub(159)
+        } else {
+            *from
+        };
         let end = first.saturating_add(160).min(moves.saturating_add(1));
         if let Some(call) = first_missed(alloc, structure, &calls, first, end)? {
             return Ok(Some((*number, call)));
@@ -187,7 +209,10 @@ fn a_device_of_too_few_blocks_is_full(rt: HostRuntime) -> Result<(), Fail> {
     ] {
         let (structure, calls) = row(rt.alloc(), number)?;
         let enough = blocks_enough(rt.alloc(), structure, &calls)?;
-        assert!(rt; enough >= Some(least) && enough <= Some(most), "row {number}");
+        assert!(rt;
+            enough >= Some(least) && enough <= Some(most),
+            "row {number}"
+        );
     }
     Ok(())
 }

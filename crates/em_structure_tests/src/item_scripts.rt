@@ -8,7 +8,12 @@ use std::alloc::{AllocError, Global};
 /// An item with this place in order, which isn't 0. Of items of the same place the one that is made later may be the
 /// lesser: an odd number times their numbers gives each another word `b`.
 fn item(place: u64, number: u64) -> Record {
-    record(place, number.wrapping_mul(6364136223846793005), number % 3, place)
+    record(
+        place,
+        number.wrapping_mul(6364136223846793005),
+        number % 3,
+        place,
+    )
 }
 
 /// As many pushes and pops as `count`, of which one of four is a pop. The items have 50 places, so many have the same.

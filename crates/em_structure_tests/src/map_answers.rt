@@ -57,9 +57,18 @@ fn each_get_answers_the_last_put_of_its_key_before_it(rt: HostRuntime) -> Result
         let commands = commands_of(rt.alloc(), commands)?;
         let answers = answers_of(rt.alloc(), answers)?;
         let mut found = Vec::new(rt.alloc());
-        let cost = run(rt.alloc(), Structure::Batch, (128, 64), &commands, &mut found)?;
+        let cost = run(
+            rt.alloc(),
+            Structure::Batch,
+            (128, 64),
+            &commands,
+            &mut found,
+        )?;
         let found = answers_after(rt.alloc(), &found, 3)?;
-        assert!(rt; cost.0 == 0 && found.as_slice() == answers.as_slice(), "row {row}");
+        assert!(rt;
+            cost.0 == 0 && found.as_slice() == answers.as_slice(),
+            "row {row}"
+        );
     }
     assert_eq!(rt; row, 8);
     Ok(())
@@ -77,7 +86,13 @@ fn drawn_commands_are_answered_as_by_a_plain_map(rt: HostRuntime) -> Result<(), 
     ] {
         let calls = drawn(rt.alloc(), count, keys)?;
         let mut found = Vec::new(rt.alloc());
-        let cost = run(rt.alloc(), Structure::Batch, (block, 64), &calls, &mut found)?;
+        let cost = run(
+            rt.alloc(),
+            Structure::Batch,
+            (block, 64),
+            &calls,
+            &mut found,
+        )?;
         let same = agrees(rt.alloc(), &calls, &found, 127, 0)?;
         assert_eq!(rt; (same, cost.0), (Some(0), 0), "block {block}");
         let moves = cost.2;
@@ -94,7 +109,10 @@ fn puts_and_a_get_of_each_are_answered_within_the_share(rt: HostRuntime) -> Resu
     let mut found = Vec::new(rt.alloc());
     let cost = run(rt.alloc(), Structure::Batch, (128, 64), &calls, &mut found)?;
     assert_eq!(rt; agrees(rt.alloc(), &calls, &found, 127, 0)?, Some(0));
-    assert_eq!(rt; (found_at(&found, 2), cost.0), (record(79, 10_000, 0, 0), 0));
+    assert_eq!(rt;
+        (found_at(&found, 2), cost.0),
+        (record(79, 10_000, 0, 0), 0)
+    );
     let moves = cost.2;
     assert!(rt; moves <= 248 * 158 * 3, "moves {moves}");
     Ok(())

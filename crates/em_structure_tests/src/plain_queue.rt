@@ -1,6 +1,7 @@
 //! A plain sorted list of items, beside which a queue gets calls.
 
 use crate::map_scripts::record;
+use crate::plain_map::found_at;
 use crate::queues::{DRAIN, POP};
 use em_record::Record;
 use std::alloc::Global;
@@ -36,26 +37,29 @@ pub fn agrees(alloc: Global, calls: &[Record], found: &[Record]) -> bool {
         records: Vec::new(alloc),
         first: 0,
     };
-    let mut found = found.iter().copied();
+    let mut at = 0usize;
     for call in calls {
         if *call == POP {
-            let item = plain.pop().unwrap_or(POP);
-            if found.next() != Some(item) {
+            if found_at(found, at) != plain.pop().unwrap_or(POP) {
                 return false;
             }
-            let empty = plain.first >= plain.records.len();
-            if empty && found.next() != Some(record(2, 0, 0, 0)) {
-                return false;
+            at = at.saturating_add(1);
+            if plain.first >= plain.records.len() {
+                if found_at(found, at) != record(2, 0, 0, 0) {
+                    return false;
+                }
+                at = at.saturating_add(1);
             }
         } else if *call == DRAIN {
             for _ in plain.first..plain.records.len() {
-                if found.next() != plain.pop() {
+                if Some(found_at(found, at)) != plain.pop() {
                     return false;
                 }
+                at = at.saturating_add(1);
             }
         } else if !plain.push(*call) {
             return false;
         }
     }
-    found.next().is_none()
+    at == found.len()
 }

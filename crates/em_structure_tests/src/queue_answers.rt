@@ -57,7 +57,10 @@ fn items_are_sorted_within_the_share(rt: HostRuntime) -> Result<(), Fail> {
         let (same, cost) = told(rt.alloc(), (128, 64), &calls)?;
         let (used, blocks, moves, _) = cost;
         assert!(rt; same && used == 0, "{count} items, {often} times");
-        assert!(rt; least <= moves && moves <= most, "{count} items, {often} times, {moves} moves");
+        assert!(rt;
+            least <= moves && moves <= most,
+            "{count} items, {often} times, {moves} moves"
+        );
         assert!(rt; moves > 6 || blocks == 2, "{count} items, {blocks} blocks");
     }
     Ok(())

@@ -44,7 +44,7 @@ fn note_item(found: &mut Vec<Record>, item: Record, left: u64, used: u64) {
 }
 
 /// Drains the queue into the first places of these, if they are enough.
-#[tactic(auto, using(crate::proofs::Queues::still_keeps))]
+#[tactic(auto, using(crate::proofs::QueueKeeps::still_keeps))]
 fn drain_all<D: Device>(
     rig: &mut Rig<'_, D>,
     queue: &mut ExtQueue,

@@ -30,16 +30,30 @@ fn each_stab_answers_the_earlier_intervals_that_hold_its_point(
         (&[], &[]),
         (&[stab(5)], &[]),
         (&[interval(0, 9)], &[]),
-        (&[interval(0, TOP), stab(TOP), stab(0)], &[pair(0, 0), pair(1, 0)]),
         (
-            &[stab(3), interval(0, 9), interval(3, 3), interval(2, 4), stab(9), stab(3)],
+            &[interval(0, TOP), stab(TOP), stab(0)],
+            &[pair(0, 0), pair(1, 0)],
+        ),
+        (
+            &[
+                stab(3),
+                interval(0, 9),
+                interval(3, 3),
+                interval(2, 4),
+                stab(9),
+                stab(3),
+            ],
             &[pair(1, 0), pair(2, 0), pair(2, 1), pair(2, 2)],
         ),
     ];
     let mut row = 0u64;
     for (calls, pairs) in rows {
         let blocks = u64::from(!pairs.is_empty());
-        assert_eq!(rt; blocks_of(rt.alloc(), calls, pairs)?, Some(blocks), "row {row}");
+        assert_eq!(rt;
+            blocks_of(rt.alloc(), calls, pairs)?,
+            Some(blocks),
+            "row {row}"
+        );
         row = row.saturating_add(1);
     }
     Ok(())
@@ -73,7 +87,11 @@ fn an_interval_is_reported_by_the_strips_that_it_holds_and_below_its_ends(
         let calls = one_over_points(rt.alloc(), count, low, high)?;
         let mut pairs = Vec::new(rt.alloc());
         add_pairs(&mut pairs, low, high + 1, 0)?;
-        assert_eq!(rt; blocks_of(rt.alloc(), &calls, &pairs)?, Some(blocks), "points {count}");
+        assert_eq!(rt;
+            blocks_of(rt.alloc(), &calls, &pairs)?,
+            Some(blocks),
+            "points {count}"
+        );
     }
     Ok(())
 }
@@ -89,7 +107,11 @@ fn a_value_may_fill_more_than_a_strip(rt: HostRuntime) -> Result<(), Fail> {
         if number == 512 {
             calls.push(interval(0, TOP))?;
         }
-        let point = if 213 < number && number < 813 { 213 } else { number };
+        let point = if 213 < number && number < 813 {
+            213
+        } else {
+            number
+        };
         calls.push(stab(point))?;
     }
     let mut pairs = Vec::new(rt.alloc());

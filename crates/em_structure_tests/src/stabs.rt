@@ -15,7 +15,7 @@ use em_segment::Stab;
 use em_space::{EmFault, Rig};
 
 /// One command.
-#[tactic(auto, using(crate::proofs::Stabs::given_keeps))]
+#[tactic(auto, using(crate::proofs::StabKeeps::given_keeps))]
 fn step<D: Device>(rig: &mut Rig<'_, D>, list: &mut Stab, call: Record) -> Result<(), EmFault>
     requires { ReadyStab 1 (seen D.state rig.old) list.old }
     ensures { KeepsStab 1 (seen D.state rig.old) (seen D.state rig.new) list.old list.new result }

@@ -25,17 +25,28 @@ fn drawn_calls_are_answered_as_by_a_plain_map(rt: HostRuntime) -> Result<(), Fai
         (4000, TAKE, 2, 2001, u64::MAX),
         (9000, SETTLE, 20, 4097, u64::MAX),
     ];
-    for (block, frames, payload, area) in
-        [(128, 64, 127, 1024), (129, 64, 128, 1032), (144, 72, 143, 1296)]
-    {
+    for (block, frames, payload, area) in [
+        (128, 64, 127, 1024),
+        (129, 64, 128, 1032),
+        (144, 72, 143, 1296),
+    ] {
         for (every, call, takes, least, most) in rows {
             let ops = drawn(rt.alloc(), 16_000, 20_000)?;
             let calls = with_calls(rt.alloc(), &ops, every, call, TAKE, takes)?;
             let mut found = Vec::new(rt.alloc());
-            let cost = run(rt.alloc(), Structure::Tree, (block, frames), &calls, &mut found)?;
+            let cost = run(
+                rt.alloc(),
+                Structure::Tree,
+                (block, frames),
+                &calls,
+                &mut found,
+            )?;
             let taken = agrees(rt.alloc(), &calls, &found, payload, area)?;
             assert!(rt; taken >= Some(least), "block {block}, every {every}");
-            assert!(rt; cost.0 == 0 && cost.2 <= most, "block {block}, every {every}");
+            assert!(rt;
+                cost.0 == 0 && cost.2 <= most,
+                "block {block}, every {every}"
+            );
         }
     }
     Ok(())
@@ -92,12 +103,23 @@ fn rising(
 fn puts_of_rising_keys_hold_their_blocks(rt: HostRuntime) -> Result<(), Fail> {
     for (count, settles, levels, used, least, most) in SIZES {
         let mut found = Vec::new(rt.alloc());
-        rising(rt.alloc(), (1, count, count, 0), (SETTLE, settles), &mut found)?;
+        rising(
+            rt.alloc(),
+            (1, count, count, 0),
+            (SETTLE, settles),
+            &mut found,
+        )?;
         let rig = found_at(&found, 1);
         let (blocks, moves) = (rig.a, rig.b);
         assert_eq!(rt; found_at(&found, 0).a, levels, "{count} puts");
-        assert!(rt; used == 0 || blocks == used, "{count} puts, {blocks} blocks");
-        assert!(rt; least <= moves && moves <= most, "{count} puts, {moves} moves");
+        assert!(rt;
+            used == 0 || blocks == used,
+            "{count} puts, {blocks} blocks"
+        );
+        assert!(rt;
+            least <= moves && moves <= most,
+            "{count} puts, {moves} moves"
+        );
         assert_eq!(rt; found_at(&found, 2), record(0, 0, 0, 0), "{count} puts");
     }
     Ok(())
@@ -129,7 +151,11 @@ fn an_area_is_filled_as_far_as_whole_blocks_go(rt: HostRuntime) -> Result<(), Fa
         let mut found = Vec::new(rt.alloc());
         let times = counts.len() as u64;
         let (calls, _) = rising(rt.alloc(), (1, count, count, 0), (TAKE, times), &mut found)?;
-        assert_eq!(rt; agrees(rt.alloc(), &calls, &found, 127, 1024)?, Some(count), "{count} records");
+        assert_eq!(rt;
+            agrees(rt.alloc(), &calls, &found, 127, 1024)?,
+            Some(count),
+            "{count} records"
+        );
         let mut at = 0usize;
         for taken in counts {
             assert_eq!(rt; found_at(&found, at).a, *taken, "{count} records");
@@ -147,13 +173,18 @@ fn an_area_is_filled_as_far_as_whole_blocks_go(rt: HostRuntime) -> Result<(), Fa
 /// the deletions that wait over it are settled.
 #[test]
 fn periods_leave_two_blocks(rt: HostRuntime) -> Result<(), Fail> {
-    for (times, count, kept, every, taken) in
-        [(150, 800, 700, 0, 150 * 700), (1, 4097, 600, 4097, 600)]
-    {
+    for (times, count, kept, every, taken) in [
+        (150, 800, 700, 0, 150 * 700),
+        (1, 4097, 600, 4097, 600),
+    ] {
         let mut found = Vec::new(rt.alloc());
         let row = (times, count, kept, every);
         let (calls, cost) = rising(rt.alloc(), row, (TAKE, 2), &mut found)?;
-        assert_eq!(rt; agrees(rt.alloc(), &calls, &found, 127, 1024)?, Some(taken), "{count} keys");
+        assert_eq!(rt;
+            agrees(rt.alloc(), &calls, &found, 127, 1024)?,
+            Some(taken),
+            "{count} keys"
+        );
         assert_eq!(rt; cost.0, 0, "{count} keys");
     }
     Ok(())

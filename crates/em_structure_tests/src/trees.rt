@@ -72,7 +72,7 @@ fn take<D: Device>(
 }
 
 /// One call.
-#[tactic(auto, using(crate::proofs::Trees::settled_keeps))]
+#[tactic(auto, using(crate::proofs::TreeKeeps::settled_keeps))]
 fn step<D: Device>(
     rig: &mut Rig<'_, D>,
     tree: &mut Tree<MapSettle>,

@@ -1,6 +1,6 @@
-use Rattle.std.proofs.Common.{◌^◌, ◌≤◌, arith, length}
+use Rattle.std.proofs.Common.{arith, length}
 use Rattle.em_space.specs.Seen.{seen}
-use Rattle.em_structure_tests.proofs.Batches.{abandoned_keeps, finished_keeps, new_ready}
+use Rattle.em_structure_tests.proofs.BatchKeeps.{abandoned_keeps, finished_keeps, new_ready}
 use Rattle.em_structure_tests.proofs.Frames.{kept_goes, some_free}
 use Rattle.em_structure_tests.proofs.Kept.{ready_next}
 use Rattle.em_structure_tests.proofs.batches.serve.Goals as goal
@@ -28,10 +28,10 @@ read_all-requires-clause-free g c =
     let k = finished_keeps (length c.args.calls.now) (seen g.D.Device.state c.args.rig.now) _ _
     (seen g.D.Device.state c.finish.new.rig) _ _ _ c.finish.result c.in_ok-batch.ensures.makes
     c.in-Ok.ensures c.finish.ensures.finishes in
-    some_free _ _ c.requires.frames k.frames
+    some_free _ (seen g.D.Device.state c.finish.new.rig) c.requires.frames k.frames
 
-pub returns-in-Ok : goal.returns-in-Ok
-returns-in-Ok g c =
+pub returns-in_ok-chain-in-Ok : goal.returns-in_ok-chain-in-Ok
+returns-in_ok-chain-in-Ok g c =
     let k = finished_keeps (length c.args.calls.now) (seen g.D.Device.state c.args.rig.now) _ _
     (seen g.D.Device.state c.finish.new.rig) _ _ _ c.finish.result c.in_ok-batch.ensures.makes
     c.in-Ok.ensures c.finish.ensures.finishes in

@@ -1,7 +1,7 @@
 use Rattle.std.proofs.Common.{◌^◌, arith, length}
 use Rattle.em_space.specs.Seen.{seen}
 use Rattle.em_structure_tests.proofs.Kept.{keeps_more, kept_on}
-use Rattle.em_structure_tests.proofs.Queues.{drained_keeps}
+use Rattle.em_structure_tests.proofs.QueueKeeps.{drained_keeps}
 use Rattle.em_structure_tests.proofs.queues.drain_all.Goals as goal
 
 pub drain-requires-clause-few : goal.drain-requires-clause-few

@@ -1,7 +1,7 @@
 use Rattle.std.proofs.Common.{◌^◌, arith}
 use Rattle.em_space.specs.Seen.{seen}
 use Rattle.em_structure_tests.proofs.Kept.{keeps_more, kept_on}
-use Rattle.em_structure_tests.proofs.Queues.{called_keeps, popped_len}
+use Rattle.em_structure_tests.proofs.QueueKeeps.{called_keeps, popped_len}
 use Rattle.em_structure_tests.proofs.queues.pop.Goals as goal
 
 pub returns-in_err-item : goal.returns-in_err-item

@@ -1,7 +1,6 @@
-use Rattle.std.proofs.Common.{◌*◌, ◌^◌, ◌≤◌, arith, length}
-use Rattle.em_space.specs.Seen.{seen}
+use Rattle.std.proofs.Common.{◌*◌, ◌^◌, arith, length}
 use Rattle.em_structure_tests.proofs.Kept.{ready_next}
-use Rattle.em_structure_tests.proofs.Queues.{ended_keeps, new_ready}
+use Rattle.em_structure_tests.proofs.QueueKeeps.{ended_keeps, new_ready}
 use Rattle.em_structure_tests.proofs.queues.serve.Goals as goal
 
 pub step_all-requires : goal.step_all-requires

@@ -1,7 +1,7 @@
 use Rattle.std.proofs.Common.{◌^◌, arith}
 use Rattle.em_space.specs.Seen.{seen}
 use Rattle.em_structure_tests.proofs.Kept.{never}
-use Rattle.em_structure_tests.proofs.Queues.{called_keeps, pushed_len}
+use Rattle.em_structure_tests.proofs.QueueKeeps.{called_keeps, pushed_len}
 use Rattle.em_structure_tests.proofs.queues.step.Goals as goal
 
 pub push-requires-clause-lacks : goal.push-requires-clause-lacks

@@ -1,4 +1,4 @@
-use Rattle.em_structure_tests.proofs.Stabs.{can_finish, list_beside}
+use Rattle.em_structure_tests.proofs.StabKeeps.{can_finish, list_beside}
 use Rattle.em_structure_tests.proofs.stabs.finish.Goals as goal
 
 pub finish-requires-clause-is : goal.finish-requires-clause-is

@@ -1,8 +1,8 @@
-use Rattle.std.proofs.Common.{◌^◌, ◌≤◌, arith, length}
+use Rattle.std.proofs.Common.{arith, length}
 use Rattle.em_space.specs.Seen.{seen}
 use Rattle.em_structure_tests.proofs.Frames.{kept_goes, some_free}
 use Rattle.em_structure_tests.proofs.Kept.{ready_next}
-use Rattle.em_structure_tests.proofs.Stabs.{abandoned_keeps, ended_keeps, free_left, new_ready}
+use Rattle.em_structure_tests.proofs.StabKeeps.{abandoned_keeps, ended_keeps, free_left, new_ready}
 use Rattle.em_structure_tests.proofs.stabs.serve.Goals as goal
 
 pub step_all-requires : goal.step_all-requires
@@ -25,20 +25,20 @@ finish-requires-clause-free g c =
 pub returns-in_err-chain-in-Ok : goal.returns-in_err-chain-in-Ok
 returns-in_err-chain-in-Ok g c =
     ended_keeps (length c.args.calls.now) _ _ _ (seen g.D.Device.state c.finish.new.rig) _ _ _
-    c.in_ok-list.ensures.makes c.in-Ok.ensures c.in_err-chain.ensures.ends
+    c.in_ok-list.ensures.makes c.in-Ok.ensures c.finish.ensures.ends
 
 pub read_all-requires-clause-free : goal.read_all-requires-clause-free
 read_all-requires-clause-free g c =
     let k = ended_keeps (length c.args.calls.now) (seen g.D.Device.state c.args.rig.now) _ _
     (seen g.D.Device.state c.finish.new.rig) _ _ _ c.in_ok-list.ensures.makes c.in-Ok.ensures
-    c.in_ok-chain.ensures.ends in
-    some_free _ _ c.requires.frames k.frames
+    c.finish.ensures.ends in
+    some_free _ (seen g.D.Device.state c.finish.new.rig) c.requires.frames k.frames
 
-pub returns-in-Ok : goal.returns-in-Ok
-returns-in-Ok g c =
+pub returns-in_ok-chain-in-Ok : goal.returns-in_ok-chain-in-Ok
+returns-in_ok-chain-in-Ok g c =
     let k = ended_keeps (length c.args.calls.now) (seen g.D.Device.state c.args.rig.now) _ _
     (seen g.D.Device.state c.finish.new.rig) _ _ _ c.in_ok-list.ensures.makes c.in-Ok.ensures
-    c.in_ok-chain.ensures.ends in
+    c.finish.ensures.ends in
     kept_goes _ _ _ _ k c.read_all.ensures.goes
 
 pub returns-in-Err : goal.returns-in-Err

@@ -1,4 +1,4 @@
-use Rattle.std.proofs.Common.{◌+◌, ◌*◌, ◌^◌, arith, length}
+use Rattle.std.proofs.Common.{◌+◌, arith, length}
 use Rattle.std.specs.Prelude.{Err}
 use Rattle.em_space.specs.Seen.{seen}
 use Rattle.em_structure_tests.proofs.Kept.{keeps_more, keeps_none, keeps_then, kept_on, ready_next}

@@ -1,6 +1,6 @@
 use Rattle.em_space.specs.Seen.{seen}
 use Rattle.em_structure_tests.proofs.Kept.{keeps_none, never}
-use Rattle.em_structure_tests.proofs.Trees.{pushed_keeps}
+use Rattle.em_structure_tests.proofs.TreeKeeps.{pushed_keeps}
 use Rattle.em_structure_tests.proofs.trees.push.Goals as goal
 
 pub returns-then-not-is_op : goal.returns-then-not-is_op

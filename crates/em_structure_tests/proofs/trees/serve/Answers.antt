@@ -1,9 +1,9 @@
-use Rattle.std.proofs.Common.{◌^◌, ◌≤◌, arith, ap, sym, ◌∙◌, length}
+use Rattle.std.proofs.Common.{arith, ap, sym, ◌∙◌, length}
 use Rattle.em_frames.specs.Pool.{load_of}
 use Rattle.em_space.specs.Seen.{seen}
 use Rattle.em_structure_tests.proofs.Frames.{kept_goes, some_free}
 use Rattle.em_structure_tests.proofs.Kept.{ready_next}
-use Rattle.em_structure_tests.proofs.Trees.{abandoned_keeps, finished_keeps, new_ready}
+use Rattle.em_structure_tests.proofs.TreeKeeps.{abandoned_keeps, finished_keeps, new_ready}
 use Rattle.em_structure_tests.proofs.trees.serve.Goals as goal
 
 pub step_all-requires-clause-tree : goal.step_all-requires-clause-tree
@@ -41,10 +41,10 @@ read_all-requires-clause-free g c =
     let k = finished_keeps (length c.args.calls.now) (seen g.D.Device.state c.args.rig.now) _ _
     (seen g.D.Device.state c.finish.new.rig) _ _ _ c.finish.result c.in_ok-tree.ensures.makes
     c.in-Ok.ensures.kept c.finish.ensures.finishes in
-    some_free _ _ c.requires.frames k.frames
+    some_free _ (seen g.D.Device.state c.finish.new.rig) c.requires.frames k.frames
 
-pub returns-in-Ok-clause-kept : goal.returns-in-Ok-clause-kept
-returns-in-Ok-clause-kept g c =
+pub returns-in_ok-chain-in-Ok-clause-kept : goal.returns-in_ok-chain-in-Ok-clause-kept
+returns-in_ok-chain-in-Ok-clause-kept g c =
     let k = finished_keeps (length c.args.calls.now) (seen g.D.Device.state c.args.rig.now) _ _
     (seen g.D.Device.state c.finish.new.rig) _ _ _ c.finish.result c.in_ok-tree.ensures.makes
     c.in-Ok.ensures.kept c.finish.ensures.finishes in

@@ -1,4 +1,4 @@
-use Rattle.std.proofs.Common.{◌≡◌, ◌*◌, ◌^◌, ◌≤◌, length}
+use Rattle.std.proofs.Common.{◌≡◌, ◌≤◌, length}
 use Rattle.std.specs.Prelude.{Ok}
 use Rattle.em_space.specs.Seen.{seen}
 use Rattle.em_structure_tests.specs.Ready.{KeepsTree}

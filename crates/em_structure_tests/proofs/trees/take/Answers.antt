@@ -1,7 +1,7 @@
 use Rattle.std.proofs.Common.{arith}
 use Rattle.em_space.specs.Seen.{seen}
 use Rattle.em_structure_tests.proofs.Kept.{keeps_more, kept_on}
-use Rattle.em_structure_tests.proofs.Trees.{taken_keeps}
+use Rattle.em_structure_tests.proofs.TreeKeeps.{taken_keeps}
 use Rattle.em_structure_tests.proofs.trees.take.Goals as goal
 
 pub returns-in_err-count-clause-kept : goal.returns-in_err-count-clause-kept

@@ -1,5 +1,5 @@
 -- What the calls of a queue leave.
-use Rattle.std.proofs.Common.{◌≡◌, ℕ, ◌+◌, ◌*◌, ◌≤◌, ◌^◌, ◌∙◌, List, Option, length, option_to_list, false, ap, arith, refl}
+use Rattle.std.proofs.Common.{◌≡◌, ℕ, ◌+◌, ◌≤◌, ◌^◌, ◌∙◌, List, Option, length, option_to_list, false, ap, arith, refl}
 use Rattle.std.specs.Prelude.{Result, Ok, Err, IfOk, OnOk}
 use Rattle.em_record.specs.Shape.{fan_of}
 use Rattle.em_record.specs.declared.record.Record.{Record}
@@ -7,7 +7,6 @@ use Rattle.em_frames.specs.Pool.{PoolCounts, SameFrames}
 use Rattle.em_space.specs.Queue.{QueueCounts, Serves, Shares}
 use Rattle.em_space.specs.Rig.{RigState, Sound, Touches}
 use Rattle.em_space.specs.declared.fault.EmFault.{EmFault}
-use Rattle.em_space.proofs.Queues.{shares_then}
 use Rattle.em_pqueue.specs.Calls.{IsNewQueue}
 use Rattle.em_pqueue.specs.ExtQueue.{ExtQueueHasFrames, IsExtQueue, counts_of}
 use Rattle.em_pqueue.specs.QueueLaws as laws

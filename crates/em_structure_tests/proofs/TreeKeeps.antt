@@ -1,12 +1,11 @@
 -- What the calls of a tree of a map leave.
-use Rattle.std.proofs.Common.{◌≡◌, ℕ, ◌+◌, ◌*◌, ◌≤◌, ◌^◌, ◌∙◌, inl, inr, ◌∷◌, List, [], false, ap, arith}
-use Rattle.std.specs.Prelude.{Result, Ok, Err, IfOk}
+use Rattle.std.proofs.Common.{◌≡◌, ℕ, ◌+◌, ◌≤◌, ◌^◌, ◌∙◌, inl, inr, ◌∷◌, List, [], false, ap, arith}
+use Rattle.std.specs.Prelude.{Result, Ok, Err}
 use Rattle.em_record.specs.Shape.{fan_of}
 use Rattle.em_record.specs.declared.record.Record.{Record}
 use Rattle.em_settle.specs.Map.{IsMapKept, IsMapOp, map_key_of, map_step_of}
 use Rattle.em_space.specs.Rig.{RigState}
 use Rattle.em_space.specs.declared.fault.EmFault.{EmFault}
-use Rattle.em_chain.specs.Chain.{IsChain}
 use Rattle.em_chain.specs.declared.chain.Chain.{Chain}
 use Rattle.em_tree_cost.specs.Books.{TreeCounts, count_push, count_settle}
 use Rattle.em_tree.specs.Calls.{ChangesTrunk, CountsCall, FinishesTrunk, IsNewTrunk, LeavesTrunk, PushesOp, SettlesTrunk, StopsTrunk}
