@@ -8,7 +8,7 @@ ghost use Rattle.emtool.specs.Service.{IsUnused};
 use crate::run::run_service;
 use crate::status::Status;
 use crate::tests::services::{close_rig, open_rig};
-use crate::tests::{Part, failing, run_over};
+use crate::tests::{Wrong, run};
 use em_frames::{Device, MemDevice};
 use em_gen::{GenKind, GenShelf, Tally};
 use em_io::{MemSink, Printer, Shelf, Slot};
@@ -66,12 +66,10 @@ fn summary_by_list(alloc: Global) -> Result<MemSink, Fail> {
 /// What `gen` prints for a made map of 20,000 commands is what a list answers.
 #[test]
 fn a_made_map_is_answered_as_by_a_list(rt: HostRuntime) -> Result<(), Fail> {
-    let mut device = MemDevice::new(rt.alloc(), &[])?;
-    let words = ["gen", "--block=128", "--frames=64", "map", "1", "20000"];
-    let none = failing(Part::Device, &[]);
-    let (status, out, _) = run_over(&mut device, &rt, &words, b"", none)?;
+    let words = "gen --block=128 --frames=64 map 1 20000";
+    let ended = run(&rt, words, b"", b"", Wrong::Nothing, 0)?;
     let wanted = summary_by_list(rt.alloc())?;
-    assert!(rt; status == Status::Done);
-    assert_eq!(rt; out.bytes(), wanted.bytes());
+    assert!(rt; ended.status == Status::Done);
+    assert_eq!(rt; ended.out.bytes(), wanted.bytes());
     Ok(())
 }

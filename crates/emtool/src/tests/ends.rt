@@ -1,0 +1,144 @@
+//! Runs that end early, or over a device that gives other records than were written.
+use crate::status::Status;
+use crate::tests::{Wrong, field_of, run, text_of};
+use std::test::Fail;
+
+/// The words of the runs of many keys. Of the blocks, 970,752 are the transfer cost of 20,001 commands,
+/// and 256 are four for each frame.
+const LARGE: &str = "map --block=128 --frames=64 --blocks=971008 a";
+
+/// The lines `put K K` for K from 1 to 20,000, and a get of 1.
+const MANY: &str = "20000*put # #/get 1/";
+
+/// What the word of a row says.
+fn wrong_of(word: &str) -> Wrong {
+    match word {
+        "device" => Wrong::Device,
+        "shelf" => Wrong::Shelf,
+        "output" => Wrong::Output,
+        "errors" => Wrong::Errors,
+        "next" => Wrong::Next,
+        "lost" => Wrong::Lost,
+        _ => Wrong::Nothing,
+    }
+}
+
+/// Whether the run of a row ends as it says, and after so many moves, if it says some.
+fn ends_so(rt: &HostRuntime, row: &str) -> Result<bool, Fail> {
+    let alloc = rt.alloc();
+    let (words, rest) = field_of(row);
+    let (text, rest) = field_of(rest);
+    let (wrong, rest) = field_of(rest);
+    let (code, rest) = field_of(rest);
+    let (lines, rest) = field_of(rest);
+    let (message, moves) = field_of(rest);
+    let (part, number) = wrong.split_once(' ').unwrap_or((wrong, "0"));
+    let number = number.parse::<u64>()?;
+    let text = text_of(alloc, text)?;
+    let lines = text_of(alloc, lines)?;
+    let message = text_of(alloc, message)?;
+    let ended = run(rt, words, text.bytes(), b"", wrong_of(part), number)?;
+    Ok(
+        ended.status.code() == code.parse::<u8>()?
+            && ended.out.bytes() == lines.bytes()
+            && ended.err.bytes() == message.bytes()
+            && (moves.is_empty() || ended.device.kept.moves() == moves.parse::<u64>()?),
+    )
+}
+
+/// A row has the words of a run, its file, what goes wrong, the exit code, what output and error stream took, and the moves of
+/// the device.
+const ROWS: [&str; 30] = [
+    // Call 2 of the shelf gives the end of line 1, which is faulty, and call 3 would fail: nothing is read after the first
+    // fault.
+    "map a|bogus/get 1/pop/stab 1/bogus/|shelf 3|2||emtool: malformed: Unknown at 1/|",
+    "queue a|bogus/get 1/pop/stab 1/bogus/|shelf 3|2||emtool: malformed: Unknown at 1/|",
+    "stab a|bogus/get 1/pop/stab 1/bogus/|shelf 3|2||emtool: malformed: Unknown at 1/|",
+    // The message of the status, and the line of the statistics after it.
+    "map --stats a|put 5 10/get 5/put 5 11/get 5/del 5/get 5/|device 0|5||\
+     emtool: the scratch device failed/moves 0 peak 0/|",
+    "map --stats a|put 5 10/get 5/put 5 11/get 5/del 5/get 5/|shelf 0|3||\
+     emtool: an input could not be read/moves 0 peak 0/|",
+    "map --stats a|put 5 10/get 5/put 5 11/get 5/del 5/get 5/|output 0|4||\
+     emtool: the output could not be written/moves 35 peak 38/|",
+    // There is no file `b`. A failing error stream changes no status.
+    "map b||errors 0|3|||",
+    "map b||errors 1|3||emtool:|",
+    // A map of several leaves, of which a call of the device fails early or late. No other call follows it, so that as many
+    // blocks were moved as calls came before it.
+    "map --block=128 --frames=64 a|20000*put # #/get 1/|device 0|5||emtool: the scratch device failed/|0",
+    "map --block=128 --frames=64 a|20000*put # #/get 1/|device 1|5||emtool: the scratch device failed/|1",
+    "map --block=128 --frames=64 a|20000*put # #/get 1/|device 2|5||emtool: the scratch device failed/|2",
+    "map --block=128 --frames=64 a|20000*put # #/get 1/|device 5|5||emtool: the scratch device failed/|5",
+    "map --block=128 --frames=64 a|20000*put # #/get 1/|device 50|5||emtool: the scratch device failed/|50",
+    "map --block=128 --frames=64 a|20000*put # #/get 1/|device 500|5||emtool: the scratch device failed/|500",
+    // Blocks 0 and 1 are the tree's leaf and root, and the 201 commands take 2 and 3. The root is read first; then the
+    // commands, which go over into block 4, and into 2 once they were read from there; then root and leaf, and the commands
+    // again. The first block that isn't laid out as it was written is named.
+    "map --block=128 --frames=64 --blocks=100 a|200*put 1 2/get 1/|lost 0|8||emtool: scratch block 1 is damaged/|",
+    "map --block=128 --frames=64 --blocks=100 a|200*put 1 2/get 1/|lost 1|8||emtool: scratch block 1 is damaged/|",
+    "map --block=128 --frames=64 --blocks=100 a|200*put 1 2/get 1/|lost 2|8||emtool: scratch block 2 is damaged/|",
+    "map --block=128 --frames=64 --blocks=100 a|200*put 1 2/get 1/|lost 3|8||emtool: scratch block 3 is damaged/|",
+    "map --block=128 --frames=64 --blocks=100 a|200*put 1 2/get 1/|lost 4|8||emtool: scratch block 4 is damaged/|",
+    // The commands take 2, 3 and 4. In the root's place block 2 is read, which is no node: 5 moves write, and one reads.
+    // Three blocks are full with the 128th command: the leaf and the root were written.
+    "map --block=128 --frames=64 --blocks=3 a|297*put 1 2/3*get 1/|next|6||emtool: the scratch device is full at 3 blocks/|2",
+    "map --block=128 --frames=64 --blocks=100 a|297*put 1 2/3*get 1/|next|8||emtool: scratch block 1 is damaged/|6",
+    "map --block=128 --frames=64 --blocks=100 a||next|8||emtool: scratch block 1 is damaged/|3",
+    // The leaf, the root and two blocks of commands are written before the last line, and none is read.
+    "map --block=128 --frames=64 --blocks=5 a|299*put 1 2/bogus/|next|2||emtool: malformed: Unknown at 300/|4",
+    // Memory holds 1024 items. Of 1100 the tree has 588, in blocks 2 to 6, and memory 512, which are popped. Then the last
+    // of these blocks is written, and in the root's place block 2 is read: 2 moves wrote leaf and root, 5 the others, and
+    // one read. On three blocks the 1025th item finds the device full.
+    "queue --block=128 --frames=64 --blocks=3 a|1100*push 1 2/600*pop/|next|6||\
+     emtool: the scratch device is full at 3 blocks/|2",
+    "queue --block=128 --frames=64 --blocks=100 a|1100*push 1 2/600*pop/|next|8|512*1 2/|\
+     emtool: scratch block 1 is damaged/|8",
+    // The leaf and the root are written, and nothing is read.
+    "queue --block=128 --frames=64 --blocks=2 a|150*push 1 2/150*pop/|next|0|150*1 2/||2",
+    // The intervals take blocks 0, 1 and 2, and the stabs block 3. Blocks 4 and 5 are the leaf and the root of a queue's
+    // tree. In place of the stabs the leaf is read, which is no block of a list: 2 moves write intervals as they come, 2 the
+    // leaf and the root, 2 the last intervals and the stabs, and one reads. Three blocks are full with the first stab, four
+    // with the leaf, and five with the root.
+    "stab --block=128 --frames=64 --blocks=3 a|297*iv 1 2/3*stab 1/|next|6||emtool: the scratch device is full at 3 blocks/|2",
+    "stab --block=128 --frames=64 --blocks=4 a|297*iv 1 2/3*stab 1/|next|6||emtool: the scratch device is full at 4 blocks/|2",
+    "stab --block=128 --frames=64 --blocks=5 a|297*iv 1 2/3*stab 1/|next|6||emtool: the scratch device is full at 5 blocks/|3",
+    "stab --block=128 --frames=64 --blocks=100 a|297*iv 1 2/3*stab 1/|next|8||emtool: scratch block 3 is damaged/|7",
+];
+
+#[test]
+fn runs_end_as_their_rows_say(rt: HostRuntime) -> Result<(), Fail> {
+    let mut number = 0u64;
+    for row in ROWS {
+        number = number.saturating_add(1);
+        assert!(rt; ends_so(&rt, row)?, "row {number}");
+    }
+    Ok(())
+}
+
+/// No block of a map of many keys is as it was written: the first one that is read is named, and nothing is
+/// printed.
+#[test]
+fn the_first_block_that_is_read_is_damaged(rt: HostRuntime) -> Result<(), Fail> {
+    let text = text_of(rt.alloc(), MANY)?;
+    let ended = run(&rt, LARGE, text.bytes(), b"", Wrong::Lost, 0)?;
+    let block = ended.device.first.unwrap_or(u64::MAX);
+    assert!(rt; ended.status == Status::Damaged { block });
+    assert_eq!(rt; ended.out.bytes(), b"".as_slice());
+    Ok(())
+}
+
+/// A leaf has at most 4096 records at this shape, so that 20,000 keys want several, under one node. A map of
+/// one key has one leaf.
+#[test]
+fn a_map_of_many_keys_has_several_leaves(rt: HostRuntime) -> Result<(), Fail> {
+    for (field, lines, parted) in [(MANY, "1/", true), ("put 1 2/get 1/", "2/", false)] {
+        let text = text_of(rt.alloc(), field)?;
+        let lines = text_of(rt.alloc(), lines)?;
+        let ended = run(&rt, LARGE, text.bytes(), b"", Wrong::Nothing, 0)?;
+        assert!(rt; ended.status == Status::Done);
+        assert_eq!(rt; ended.out.bytes(), lines.bytes());
+        assert!(rt; ended.device.parted == parted);
+    }
+    Ok(())
+}
