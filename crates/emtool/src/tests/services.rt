@@ -1,10 +1,9 @@
-//! Drawn command files, each answered by two structures: the list that is read again for each answer, and
-//! the one that the program uses. Both end alike, and print the same.
+//! Drawn command files, each answered by the program and by a list that is read again for each answer. Both
+//! end alike, and print the same.
 ghost use Rattle.std.specs.Prelude.{◌≡◌, ◌<◌, [], IfOk, true};
-ghost use Rattle.em_io.specs.MemShelf.{stand_of};
 ghost use Rattle.em_io.specs.declared.shelf.Slot.TheVariants.{First};
 ghost use Rattle.em_frames.specs.Device.{DeviceState};
-ghost use Rattle.em_frames.specs.Pool.{IsWhole, fresh_pool};
+ghost use Rattle.em_frames.specs.Pool.{fresh_pool};
 ghost use Rattle.em_space.specs.Rig.{Goes, Opens};
 ghost use Rattle.em_space.specs.Seen.{seen};
 ghost use Rattle.emtool.specs.Run.{IsReady};
@@ -13,40 +12,15 @@ ghost use Rattle.emtool.specs.Service.{IsUnused};
 use crate::run::{run_queue, run_service, status_of};
 use crate::status::{Malform, Status};
 use crate::stop::Stop;
-use crate::tests::add_line;
+use crate::tests::{Wrong, add_line, field_of, run};
 use crate::text::TextKind;
 use em_frames::{Device, Grant, MemDevice};
-use em_io::{MemShelf, MemSink, Shelf, Slot};
-use em_map::Batch;
+use em_io::{MemShelf, MemSink, Shelf, Sink, Slot};
 use em_plain::{ScanMap, ScanQueue, ScanStab};
-use em_pqueue::ExtQueue;
 use em_record::{Failed, Shape};
-use em_segment::Stab;
 use em_space::Rig;
 use std::alloc::Global;
 use std::test::Fail;
-
-/// How a run ended, what it printed, and the blocks that it moved.
-type Ended = (Status, MemSink, u64);
-
-/// A structure that answers a file.
-#[derive(Clone, Copy)]
-enum Structure {
-    ScanMap,
-    Batch,
-    ScanQueue,
-    ExtQueue,
-    ScanStab,
-    Stab,
-}
-
-/// What a file is drawn by: its lines, how many keys there are, and how many of a hundred lines ask.
-#[derive(Clone, Copy)]
-struct Drawn {
-    lines: u64,
-    keys: u64,
-    asks: u64,
-}
 
 /// A draw below a number.
 fn draw(state: &mut u64, below: u64) -> u64
@@ -111,58 +85,25 @@ fn add_stab_line(text: &mut MemSink, state: &mut u64, keys: u64, asks: u64) -> R
     add_line(text, b"iv", &[low, near])
 }
 
-/// A drawn file of a map.
-fn drawn_map(alloc: Global, by: Drawn) -> Result<MemSink, Fail> {
+/// A drawn file of a command, of this many lines. Of a hundred, so many ask; in the second half of a queue's
+/// file the others do, so that it grows and is emptied.
+fn drawn(alloc: Global, command: &str, lines: u64, keys: u64, asks: u64) -> Result<MemSink, Fail> {
     let mut text = MemSink::new(alloc, 4096, &[])?;
-    let mut state = by.lines;
-    for _ in 0..by.lines {
-        add_map_line(&mut text, &mut state, by.keys, by.asks)?;
+    let mut state = lines;
+    let half = lines / 2;
+    for number in 0..lines {
+        match command {
+            "map" => add_map_line(&mut text, &mut state, keys, asks)?,
+            "stab" => add_stab_line(&mut text, &mut state, keys, asks)?,
+            _ if number < half => add_queue_line(&mut text, &mut state, keys, asks)?,
+            _ => add_queue_line(&mut text, &mut state, keys, 100u64.saturating_sub(asks))?,
+        }
     }
     Ok(text)
 }
 
-/// A drawn file of a queue: so many of a hundred lines ask in its first half, and then the others, so that it
-/// grows and is emptied.
-fn drawn_queue(alloc: Global, by: Drawn) -> Result<MemSink, Fail> {
-    let mut text = MemSink::new(alloc, 4096, &[])?;
-    let mut state = by.lines;
-    let half = by.lines / 2;
-    for _ in 0..half {
-        add_queue_line(&mut text, &mut state, by.keys, by.asks)?;
-    }
-    for _ in 0..half {
-        add_queue_line(
-            &mut text,
-            &mut state,
-            by.keys,
-            100u64.saturating_sub(by.asks),
-        )?;
-    }
-    Ok(text)
-}
-
-/// A drawn file of an interval list.
-fn drawn_stab(alloc: Global, by: Drawn) -> Result<MemSink, Fail> {
-    let mut text = MemSink::new(alloc, 4096, &[])?;
-    let mut state = by.lines;
-    for _ in 0..by.lines {
-        add_stab_line(&mut text, &mut state, by.keys, by.asks)?;
-    }
-    Ok(text)
-}
-
-/// A shelf whose first slot is open on this text.
-fn open_shelf(alloc: Global, text: &[u8]) -> Result<MemShelf, Fail>
-    ensures { IfOk result (λ s. ((stand_of s).slot First).ready ≡ true) }
-{
-    let mut shelf = MemShelf::new(alloc, 100, &[])?;
-    shelf.add("a", text)?;
-    shelf.open(Slot::First, "a")?;
-    Ok(shelf)
-}
-
-/// A new rig of a shape, over a device of 100,000 blocks that isn't begun yet.
-pub(super) fn open_rig<'d, D: Device>(
+/// A new rig over a device of 100,000 blocks that isn't begun yet.
+fn open_rig<'d, D: Device>(
     alloc: Global,
     shape: Shape,
     device: &'d mut D,
@@ -183,184 +124,148 @@ pub(super) fn open_rig<'d, D: Device>(
     }
 }
 
-/// Closes a rig of which all frames are back, and answers the moves that were made on it.
-pub(super) fn close_rig<D: Device>(rig: Rig<'_, D>) -> u64
-    requires { IsWhole (seen D.state rig).pool }
-{
-    let moves = rig.moves();
-    rig.close().end();
-    moves
-}
-
-/// Answers the open file by a structure, on a rig of which no block is or was in use.
-#[tactic(auto, using(crate::proofs::ListQueue::list_alone, crate::proofs::ListQueue::list_goes, crate::proofs::ListQueue::list_new, crate::proofs::ListQueue::list_serves, crate::proofs::Moves::queue_alone, crate::proofs::Moves::queue_goes, crate::proofs::Moves::queue_serves))]
-fn answer<D: Device>(
-    structure: Structure,
+/// Answers the open file of a command by a list, on a rig of which no block is or was in use.
+#[tactic(auto, using(crate::proofs::ListQueue::list_alone, crate::proofs::ListQueue::list_goes, crate::proofs::ListQueue::list_new, crate::proofs::ListQueue::list_serves))]
+fn answer<D: Device, H: Shelf, W: Sink>(
+    command: &str,
     rig: &mut Rig<'_, D>,
-    shelf: &mut MemShelf,
-    out: &mut MemSink,
+    shelf: &mut H,
+    out: &mut W,
 ) -> Status
     requires unused { IsUnused (seen D.state rig.old) }
     requires free { IsReady (seen D.state rig.old).pool }
     requires none_moved { (seen D.state rig.old).moves ≡ 0 }
-    requires ready { ((stand_of shelf.old).slot First).ready ≡ true }
+    requires ready { ((H.stand shelf.old).slot First).ready ≡ true }
     ensures goes { Goes [] (seen D.state rig.old) (seen D.state rig.new) }
 {
-    match structure {
-        Structure::ScanMap => run_service::<D, MemShelf, MemSink, ScanMap>(rig, shelf, out),
-        Structure::Batch => run_service::<D, MemShelf, MemSink, Batch>(rig, shelf, out),
-        Structure::ScanQueue => match ScanQueue::new(rig) {
+    match command {
+        "map" => run_service::<D, H, W, ScanMap>(rig, shelf, out),
+        "stab" => run_service::<D, H, W, ScanStab>(rig, shelf, out),
+        _ => match ScanQueue::new(rig) {
             Ok(queue) => run_queue(rig, queue, shelf, out),
             Err(fault) => status_of(Stop::Em(fault)),
         },
-        Structure::ExtQueue => match ExtQueue::new(rig) {
-            Ok(queue) => run_queue(rig, queue, shelf, out),
-            Err(fault) => status_of(Stop::Em(fault)),
-        },
-        Structure::ScanStab => run_service::<D, MemShelf, MemSink, ScanStab>(rig, shelf, out),
-        Structure::Stab => run_service::<D, MemShelf, MemSink, Stab>(rig, shelf, out),
     }
 }
 
-/// Answers a file by a structure, over a new device in memory.
-fn run(alloc: Global, structure: Structure, shape: Shape, text: &[u8]) -> Result<Ended, Fail> {
-    let mut out = MemSink::new(alloc, 4096, &[])?;
-    let mut shelf = open_shelf(alloc, text)?;
+/// Answers the open file of a command by a list, over a new device in memory.
+pub(super) fn by_list<H: Shelf, W: Sink>(
+    alloc: Global,
+    command: &str,
+    shelf: &mut H,
+    out: &mut W,
+) -> Result<Status, Fail>
+    requires ready { ((H.stand shelf.old).slot First).ready ≡ true }
+{
     let mut device = MemDevice::new(alloc, &[])?;
-    let mut rig = open_rig(alloc, shape, &mut device)?;
-    let status = answer(structure, &mut rig, &mut shelf, &mut out);
-    Ok((status, out, close_rig(rig)))
+    let mut rig = open_rig(alloc, Shape::new(128, 64)?, &mut device)?;
+    let status = answer(command, &mut rig, shelf, out);
+    rig.close().end();
+    Ok(status)
 }
 
-/// Whether the runs of two structures end with this status and print the same, and at least this many
-/// bytes; and the moves of the second one.
+/// Whether the program and a list answer a text alike: both end with this status and print the same. The
+/// program has the words, prints at least so many bytes, and moves at least so many blocks.
 fn alike(
-    alloc: Global,
-    both: (Structure, Structure),
-    shape: Shape,
+    rt: &HostRuntime,
+    words: &str,
     text: &[u8],
-    wanted: (Status, usize),
-) -> Result<(bool, u64), Fail> {
-    let (plain, other) = both;
-    let (status, length) = wanted;
-    let (ended, lines, _) = run(alloc, plain, shape, text)?;
-    let (found, sent, moves) = run(alloc, other, shape, text)?;
-    let same = lines.bytes() == sent.bytes() && lines.bytes().len() >= length;
-    Ok((ended == status && found == status && same, moves))
-}
-
-/// The list of the commands, and the batch.
-const MAPS: (Structure, Structure) = (Structure::ScanMap, Structure::Batch);
-
-/// The list of the items, and the heap over a tree.
-const QUEUES: (Structure, Structure) = (Structure::ScanQueue, Structure::ExtQueue);
-
-/// The list of the commands, and the one that is answered by a segment tree.
-const STABS: (Structure, Structure) = (Structure::ScanStab, Structure::Stab);
-
-/// Whether two structures answer a drawn file alike, as it is and with a faulty line at its end, at two
-/// shapes.
-fn alike_each(
-    alloc: Global,
-    both: (Structure, Structure),
-    mut text: MemSink,
-    by: Drawn,
+    status: Status,
+    bytes: usize,
+    moves: u64,
 ) -> Result<bool, Fail> {
-    let kind = Malform::Text(TextKind::Unknown);
-    let place = by.lines.saturating_add(1);
-    let first = Shape::new(128, 64)?;
-    let second = Shape::new(144, 72)?;
-    let (whole, _) = alike(alloc, both, first, text.bytes(), (Status::Done, 1))?;
-    let (other, _) = alike(alloc, both, second, text.bytes(), (Status::Done, 1))?;
+    let alloc = rt.alloc();
+    let (command, _) = words.split_once(' ').unwrap_or((words, ""));
+    let mut shelf = MemShelf::new(alloc, 100, &[])?;
+    shelf.add("a", text)?;
+    shelf.open(Slot::First, "a")?;
+    let mut out = MemSink::new(alloc, 4096, &[])?;
+    let ended = by_list(alloc, command, &mut shelf, &mut out)?;
+    let other = run(rt, words, text, b"", Wrong::Nothing, 0)?;
+    let sent = other.out.bytes();
+    Ok(
+        ended == status
+            && other.status == status
+            && out.bytes() == sent
+            && sent.len() >= bytes
+            && other.device.kept.moves() >= moves,
+    )
+}
+
+/// The number in a row up to the first bar, and what stands after it.
+fn number_of(row: &str) -> Result<(u64, &str), Fail> {
+    let (number, rest) = field_of(row);
+    Ok((number.parse::<u64>()?, rest))
+}
+
+/// Whether the drawn file of a row is answered alike, as it is and with a faulty line at its end.
+fn row_alike(rt: &HostRuntime, row: &str) -> Result<bool, Fail> {
+    let (words, rest) = field_of(row);
+    let (lines, rest) = number_of(rest)?;
+    let (keys, rest) = number_of(rest)?;
+    let (asks, rest) = number_of(rest)?;
+    let (bytes, rest) = field_of(rest);
+    let (moves, _) = number_of(rest)?;
+    let (command, _) = words.split_once(' ').unwrap_or((words, ""));
+    let bytes = bytes.parse::<usize>()?;
+    let mut text = drawn(rt.alloc(), command, lines, keys, asks)?;
+    let whole = alike(rt, words, text.bytes(), Status::Done, bytes, moves)?;
     add_line(&mut text, b"bogus", &[])?;
-    let malformed = Status::Malformed { kind, place };
-    let (faulty, _) = alike(alloc, both, first, text.bytes(), (malformed, 0))?;
-    Ok(whole && other && faulty)
+    let malformed = Status::Malformed {
+        kind: Malform::Text(TextKind::Unknown),
+        place: lines.saturating_add(1),
+    };
+    Ok(whole && alike(rt, words, text.bytes(), malformed, 0, 0)?)
 }
 
-/// Few keys and many. Nothing but the tree's root has operations before the end.
+/// A row has the words of a run, the lines of its drawn file, how many keys or points there are, how many of a hundred lines
+/// ask, and how many bytes are printed and blocks moved at least.
+const ROWS: [&str; 28] = [
+    // Few keys and many. Nothing but the tree's root has operations before the end.
+    "map --block=128 --frames=64 a|50|1|40|1|0",
+    "map --block=144 --frames=72 a|50|1|40|1|0",
+    "map --block=128 --frames=64 a|200|7|20|1|0",
+    "map --block=144 --frames=72 a|200|7|20|1|0",
+    "map --block=128 --frames=64 a|300|1000|30|1|0",
+    "map --block=144 --frames=72 a|300|1000|30|1|0",
+    "map --block=128 --frames=64 a|400|40|10|1|0",
+    "map --block=144 --frames=72 a|400|40|10|1|0",
+    // A full buffer has 2048 operations, and a leaf at most 4096 records: here a leaf is split, and its keys are put and
+    // deleted again. Each of the 71 blocks of operations is moved four times at least, 284 in all: into the root's buffer,
+    // out of it, into a leaf's, and out of that.
+    "map --block=128 --frames=64 a|9000|20000|2|100|285",
+    // Few keys and many. All items are held in memory.
+    "queue --block=128 --frames=64 a|50|1|50|1|0",
+    "queue --block=144 --frames=72 a|50|1|50|1|0",
+    "queue --block=128 --frames=64 a|200|3|40|1|0",
+    "queue --block=144 --frames=72 a|200|3|40|1|0",
+    "queue --block=128 --frames=64 a|300|1000|20|1|0",
+    "queue --block=144 --frames=72 a|300|1000|20|1|0",
+    "queue --block=128 --frames=64 a|400|40|30|1|0",
+    "queue --block=144 --frames=72 a|400|40|30|1|0",
+    // Memory holds 1024 items at the first shape, and 1296 at the second one. Of the lines more wait in the middle, so that
+    // items go to the tree and come back, while others come; also if all keys are equal.
+    "queue --block=128 --frames=64 a|2200|1|3|1000|61",
+    "queue --block=144 --frames=72 a|2900|5000|3|1000|61",
+    // Few points and many, with the first and the last one. All stabs fit into an area.
+    "stab --block=128 --frames=64 a|50|1|50|1|0",
+    "stab --block=144 --frames=72 a|50|1|50|1|0",
+    "stab --block=128 --frames=64 a|200|7|30|1|0",
+    "stab --block=144 --frames=72 a|200|7|30|1|0",
+    "stab --block=128 --frames=64 a|300|1000|60|1|0",
+    "stab --block=144 --frames=72 a|300|1000|60|1|0",
+    "stab --block=128 --frames=64 a|400|300|10|1|0",
+    "stab --block=144 --frames=72 a|400|300|10|1|0",
+    // An area has 1024 records, and there are more stabs, nearly all of other points, so that they are dealt to slabs.
+    "stab --block=128 --frames=64 a|1800|100000|70|1000|61",
+];
+
 #[test]
-fn drawn_maps_are_answered_alike(rt: HostRuntime) -> Result<(), Fail> {
-    let alloc = rt.alloc();
-    for (lines, keys, asks) in [(50, 1, 40), (200, 7, 20), (300, 1000, 30), (400, 40, 10)] {
-        let by = Drawn { lines, keys, asks };
-        let text = drawn_map(alloc, by)?;
-        assert!(rt;
-            alike_each(alloc, MAPS, text, by)?,
-            "lines {lines}, keys {keys}"
-        );
+fn drawn_files_are_answered_as_by_a_list(rt: HostRuntime) -> Result<(), Fail> {
+    let mut number = 0u64;
+    for row in ROWS {
+        number = number.saturating_add(1);
+        assert!(rt; row_alike(&rt, row)?, "row {number}");
     }
-    Ok(())
-}
-
-/// A full buffer has 2048 operations, and a leaf at most 4096 records: here a leaf is split, and its keys are
-/// put and deleted again. Each of the 71 blocks of operations is moved four times at least: into the root's
-/// buffer, out of it, into a leaf's, and out of that.
-#[test]
-fn a_drawn_map_of_several_leaves_is_answered_alike(rt: HostRuntime) -> Result<(), Fail> {
-    let alloc = rt.alloc();
-    let (lines, keys, asks) = (9_000, 20_000, 2);
-    let text = drawn_map(alloc, Drawn { lines, keys, asks })?;
-    let shape = Shape::new(128, 64)?;
-    let (same, moves) = alike(alloc, MAPS, shape, text.bytes(), (Status::Done, 100))?;
-    assert!(rt; same && moves > 4 * 71, "moves {moves}");
-    Ok(())
-}
-
-/// Few keys and many. All items are held in memory.
-#[test]
-fn drawn_queues_are_answered_alike(rt: HostRuntime) -> Result<(), Fail> {
-    let alloc = rt.alloc();
-    for (lines, keys, asks) in [(50, 1, 50), (200, 3, 40), (300, 1000, 20), (400, 40, 30)] {
-        let by = Drawn { lines, keys, asks };
-        let text = drawn_queue(alloc, by)?;
-        assert!(rt;
-            alike_each(alloc, QUEUES, text, by)?,
-            "lines {lines}, keys {keys}"
-        );
-    }
-    Ok(())
-}
-
-/// Memory holds 1024 items at the first shape, and 1296 at the second one. Of the lines more wait in the middle,
-/// so that items go to the tree and come back, while others come; also if all keys are equal.
-#[test]
-fn drawn_queues_that_spill_are_answered_alike(rt: HostRuntime) -> Result<(), Fail> {
-    let alloc = rt.alloc();
-    for (frames, lines, keys) in [(64, 2_200, 1), (72, 2_900, 5_000)] {
-        let asks = 3;
-        let text = drawn_queue(alloc, Drawn { lines, keys, asks })?;
-        let shape = Shape::new(2 * frames, frames)?;
-        let (same, moves) = alike(alloc, QUEUES, shape, text.bytes(), (Status::Done, 1000))?;
-        assert!(rt; same && moves > 60, "keys {keys}, moves {moves}");
-    }
-    Ok(())
-}
-
-/// Few points and many, with the first and the last one. All stabs fit into an area.
-#[test]
-fn drawn_interval_lists_are_answered_alike(rt: HostRuntime) -> Result<(), Fail> {
-    let alloc = rt.alloc();
-    for (lines, keys, asks) in [(50, 1, 50), (200, 7, 30), (300, 1000, 60), (400, 300, 10)] {
-        let by = Drawn { lines, keys, asks };
-        let text = drawn_stab(alloc, by)?;
-        assert!(rt;
-            alike_each(alloc, STABS, text, by)?,
-            "lines {lines}, keys {keys}"
-        );
-    }
-    Ok(())
-}
-
-/// An area has 1024 records, and there are more stabs, nearly all of other points, so that they are dealt to
-/// slabs.
-#[test]
-fn a_drawn_interval_list_of_many_stabs_is_answered_alike(rt: HostRuntime) -> Result<(), Fail> {
-    let alloc = rt.alloc();
-    let (lines, keys, asks) = (1_800, 100_000, 70);
-    let text = drawn_stab(alloc, Drawn { lines, keys, asks })?;
-    let shape = Shape::new(128, 64)?;
-    let (same, moves) = alike(alloc, STABS, shape, text.bytes(), (Status::Done, 1000))?;
-    assert!(rt; same && moves > 60, "moves {moves}");
     Ok(())
 }
