@@ -49,12 +49,6 @@ fn field_of(row: &str) -> (&str, &str) {
     row.split_once('|').unwrap_or((row, ""))
 }
 
-/// The number in a row up to the first bar, and what stands after it.
-fn number_of(row: &str) -> Result<(u64, &str), Fail> {
-    let (number, rest) = field_of(row);
-    Ok((number.parse::<u64>()?, rest))
-}
-
 /// Adds a line of a field to a text, after a newline if the text is begun. A `#` stands for the line's
 /// number, and a `%` for the byte 0x82.
 fn add_line_of(text: &mut MemSink, begun: bool, line: &str, number: u64) -> Result<(), Failed> {

@@ -1,6 +1,9 @@
 //! Runs that end early, or over a device that gives other records than were written.
 use crate::status::Status;
 use crate::tests::{Wrong, field_of, run, text_of};
+use crate::top::emtool;
+use em_frames::{Grant, MemDevice};
+use em_io::{MemShelf, MemSink};
 use std::test::Fail;
 
 /// The words of the runs of many keys. Of the blocks, 970,752 are the transfer cost of 20,001 commands,
@@ -140,5 +143,31 @@ fn a_map_of_many_keys_has_several_leaves(rt: HostRuntime) -> Result<(), Fail> {
         assert_eq!(rt; ended.out.bytes(), lines.bytes());
         assert!(rt; ended.device.parted == parted);
     }
+    Ok(())
+}
+
+/// A map over a device that tells what it holds, as those of the other runs don't.
+#[test]
+fn a_map_is_answered_over_a_device_that_tells(rt: HostRuntime) -> Result<(), Fail> {
+    let alloc = rt.alloc();
+    let mut words = Vec::new(alloc);
+    for word in ["map", "a"] {
+        words.push(String::from_str(alloc, word)?)?;
+    }
+    let mut device = MemDevice::new(alloc, &[])?;
+    let mut shelf = MemShelf::new(alloc, 3, &[])?;
+    shelf.add("a", b"put 5 10\nget 5\nget 6\n")?;
+    let mut out = MemSink::new(alloc, 3, &[])?;
+    let mut err = MemSink::new(alloc, 7, &[])?;
+    let status = emtool(
+        &words,
+        Grant::new(alloc),
+        &mut device,
+        &mut shelf,
+        &mut out,
+        &mut err,
+    );
+    assert!(rt; status == Status::Done);
+    assert_eq!(rt; out.bytes(), b"10\n-\n".as_slice());
     Ok(())
 }

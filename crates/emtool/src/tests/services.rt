@@ -12,7 +12,7 @@ ghost use Rattle.emtool.specs.Service.{IsUnused};
 use crate::run::{run_queue, run_service, status_of};
 use crate::status::{Malform, Status};
 use crate::stop::Stop;
-use crate::tests::{Wrong, add_line, field_of, number_of, run};
+use crate::tests::{Wrong, add_line, field_of, run};
 use crate::text::TextKind;
 use em_frames::{Device, Grant, MemDevice};
 use em_io::{MemShelf, MemSink, Shelf, Sink, Slot};
@@ -190,6 +190,12 @@ fn alike(
             && sent.len() >= bytes
             && other.device.kept.moves() >= moves,
     )
+}
+
+/// The number in a row up to the first bar, and what stands after it.
+fn number_of(row: &str) -> Result<(u64, &str), Fail> {
+    let (number, rest) = field_of(row);
+    Ok((number.parse::<u64>()?, rest))
 }
 
 /// Whether the drawn file of a row is answered alike, as it is and with a faulty line at its end.
