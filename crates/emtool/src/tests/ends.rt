@@ -146,17 +146,16 @@ fn a_map_of_many_keys_has_several_leaves(rt: HostRuntime) -> Result<(), Fail> {
     Ok(())
 }
 
-/// A map over a device that tells what it holds, as those of the other runs don't.
-#[test]
-fn a_map_is_answered_over_a_device_that_tells(rt: HostRuntime) -> Result<(), Fail> {
+/// How a run of a command over a device that tells what it holds ended, and what the output took.
+fn over_memory(rt: &HostRuntime, command: &str, text: &[u8]) -> Result<(Status, MemSink), Fail> {
     let alloc = rt.alloc();
     let mut words = Vec::new(alloc);
-    for word in ["map", "a"] {
+    for word in [command, "a"] {
         words.push(String::from_str(alloc, word)?)?;
     }
     let mut device = MemDevice::new(alloc, &[])?;
     let mut shelf = MemShelf::new(alloc, 3, &[])?;
-    shelf.add("a", b"put 5 10\nget 5\nget 6\n")?;
+    shelf.add("a", text)?;
     let mut out = MemSink::new(alloc, 3, &[])?;
     let mut err = MemSink::new(alloc, 7, &[])?;
     let status = emtool(
@@ -167,7 +166,23 @@ fn a_map_is_answered_over_a_device_that_tells(rt: HostRuntime) -> Result<(), Fai
         &mut out,
         &mut err,
     );
-    assert!(rt; status == Status::Done);
-    assert_eq!(rt; out.bytes(), b"10\n-\n".as_slice());
+    Ok((status, out))
+}
+
+/// The other runs go over a device that doesn't tell.
+#[test]
+fn commands_are_answered_over_a_device_that_tells(rt: HostRuntime) -> Result<(), Fail> {
+    let rows = [
+        ("map", "put 5 10/get 5/get 6/", "10/-/"),
+        ("queue", "push 4 1/pop/pop/", "4 1/-/"),
+        ("stab", "iv 0 5/stab 5/stab 6/", "0/-/"),
+    ];
+    for (command, field, lines) in rows {
+        let text = text_of(rt.alloc(), field)?;
+        let lines = text_of(rt.alloc(), lines)?;
+        let (status, out) = over_memory(&rt, command, text.bytes())?;
+        assert!(rt; status == Status::Done);
+        assert_eq!(rt; out.bytes(), lines.bytes());
+    }
     Ok(())
 }
