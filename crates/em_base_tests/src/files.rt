@@ -149,7 +149,12 @@ fn a_missing_folder_a_link_and_a_folder_are_refused(rt: HostRuntime) -> Result<(
     symlink(&rt, "kept", "links/link")?;
     symlink(&rt, "nowhere", "links/dangling")?;
     for path in ["missing/blocks", "links/link", "links/dangling", "links"] {
-        assert_eq!(rt; begun(&rt, path).err(), Some(BeginFault::Failed));
+        let mut device = FileDevice::new(&rt, rt.alloc(), path);
+        assert_eq!(rt; device.begin(128, 4), Err(BeginFault::Failed));
+        assert_eq!(rt;
+            (device.is_begun(), device.moves(), device.faults()),
+            (false, 0, 1)
+        );
     }
     assert_eq!(rt; fs::metadata(&rt, "links/kept")?.len(), 4);
     assert!(rt; !fs::exists(&rt, "links/nowhere")?);
