@@ -174,11 +174,12 @@ fn each_call_of_a_node_that_fails_is_a_fault(rt: HostRuntime) -> Result<(), Fail
 
 /// Each device of fewer blocks than a run has in use at once is full, with all of them in use.
 ///
-/// - Rows 0, 1, 3 and 4: a root and a leaf have a block each. Beside them at least the list of the operations that wait has
-///   2 blocks of 127 for 200 before they are settled, or 3 for 300; and 5 for the 512 items that the queue's heap of 1024,
-///   when it is full, gives to the tree. At most six lists have each as many records as were pushed: two of the root's
-///   operations, that of the leaf's, its records before and after a load, and the answers. That is 3 blocks for 300
-///   records, and row 1 has no more between its takings; and 5 for 512, as only once the heap is full.
+/// - Rows 0, 1, 3 and 4: a root and a leaf have a block each. Beside them at least the operations that wait have a list:
+///   2 blocks of 127 for the 200 before all are settled, 3 blocks for 300, and 5 for the 512 items that a full heap of
+///   1024 gives to the tree of the queue. At most there are six lists at once: the root's operations and those that were
+///   taken out of its buffer, the leaf's operations, its records before and after a load, and the answers. Each has as
+///   many records at most as the tree got since it was empty: 300, as row 1 takes all of them out, or 512, as the heap has
+///   room for the other items.
 /// - Row 5: at the second pop the intervals, the points that are in order, those that are left, and those that are left
 ///   without the least one have a block each: 4 at once.
 /// - Row 6: the four strips have 3, 3, 3 and 2 blocks of points. Beside them the list of the two strips in the middle and
