@@ -6,7 +6,7 @@ use crate::item_scripts::{pushes, with_last};
 use crate::map_scripts::{add_rising, drawn, with_calls};
 use crate::queues::POP;
 use crate::runs::{NO_CALL, Structure, Told, run_failing};
-use crate::stab_scripts::{interval, one_over_points, stab};
+use crate::stab_scripts::{one_over_points, worked};
 use crate::trees::{SETTLE, TAKE};
 use em_record::Record;
 use em_space::EmFault;
@@ -107,24 +107,6 @@ fn row(alloc: Global, number: u64) -> Result<(Structure, Vec<Record>), Fail> {
     })
 }
 
-/// Five stabs and three intervals, of which four pairs come.
-fn worked(alloc: Global) -> Result<Vec<Record>, Fail> {
-    let mut calls = Vec::new(alloc);
-    for call in [
-        stab(5),
-        interval(5, 5),
-        interval(7, u64::MAX),
-        stab(5),
-        stab(6),
-        stab(u64::MAX),
-        interval(0, 5),
-        stab(5),
-    ] {
-        calls.push(call)?;
-    }
-    Ok(calls)
-}
-
 /// A row's number, the least and the most moves of its run, and the first of the 160 calls that fail, or 0 for its last
 /// ones. The call 0 begins the device, so that the moves are all others.
 type Failing = (u64, u64, u64, u64);
@@ -192,6 +174,12 @@ fn each_call_of_a_node_that_fails_is_a_fault(rt: HostRuntime) -> Result<(), Fail
 
 /// Each device of fewer blocks than a run has in use at once is full, with all of them in use.
 ///
+/// - Rows 0, 1, 3 and 4: a root and a leaf have a block each. Beside them at least the operations that wait have a list:
+///   2 blocks of 127 for the 200 before all are settled, 3 blocks for 300, and 5 for the 512 items that a full heap of
+///   1024 gives to the tree of the queue. At most there are six lists at once: the root's operations and those that were
+///   taken out of its buffer, the leaf's operations, its records before and after a load, and the answers. Each has as
+///   many records at most as the tree got since it was empty: 300, as row 1 takes all of them out, or 512, as the heap has
+///   room for the other items.
 /// - Row 5: at the second pop the intervals, the points that are in order, those that are left, and those that are left
 ///   without the least one have a block each: 4 at once.
 /// - Row 6: the four strips have 3, 3, 3 and 2 blocks of points. Beside them the list of the two strips in the middle and
@@ -200,10 +188,10 @@ fn each_call_of_a_node_that_fails_is_a_fault(rt: HostRuntime) -> Result<(), Fail
 #[test]
 fn a_device_of_too_few_blocks_is_full(rt: HostRuntime) -> Result<(), Fail> {
     for (number, least, most) in [
-        (0, 3, 12),
-        (1, 3, 12),
-        (3, 3, 12),
-        (4, 3, 30),
+        (0, 2 + 2, 2 + 6 * 3),
+        (1, 2 + 3, 2 + 6 * 3),
+        (3, 2 + 3, 2 + 6 * 3),
+        (4, 2 + 5, 2 + 6 * 5),
         (5, 4, 4),
         (6, 19, 19),
     ] {

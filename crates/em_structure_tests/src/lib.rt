@@ -12,6 +12,8 @@ mod map_answers;
 #[cfg(test)]
 mod map_scripts;
 #[cfg(test)]
+mod models;
+#[cfg(test)]
 mod plain_map;
 #[cfg(test)]
 mod plain_queue;

@@ -10,12 +10,14 @@ use std::test::Fail;
 /// The keys of the runs are below this number.
 const KEYS: usize = 20_000;
 
-/// The values of a map by their keys, the answers so far, and how many of the records that were found are gone through.
+/// The values of a map by their keys, the answers so far, how many of the records that were found are gone through, and
+/// whether nothing was given since the map was new or all was taken out.
 #[derive(Drop)]
 struct Plain {
     values: Vec<Option<u64>>,
     answers: Vec<Record>,
     at: usize,
+    fresh: bool,
     /// The records that were taken.
     taken: u64,
 }
@@ -27,12 +29,14 @@ impl Plain {
             values: vec![in alloc; None; KEYS]?,
             answers: Vec::new(alloc),
             at: 0,
+            fresh: true,
             taken: 0,
         })
     }
 
     /// A put, a del or a get.
     fn gives(&mut self, op: Record) -> Result<(), AllocError> {
+        self.fresh = false;
         let Some(place) = self.values.get_mut(op.a as usize) else {
             return Ok(());
         };
@@ -81,13 +85,15 @@ impl Plain {
                 }
             }
         }
+        self.fresh = true;
         let blocks = self.answers.len().div_ceil(payload) as u64;
         told == record(count, blocks.saturating_add(2), 0, 0)
     }
 }
 
 /// Whether a tree or a batch answered its calls as a plain map does: the records that were taken, with an area of so
-/// many, and each answer once. A block has `payload` of them. Answers how many records were taken, or None if it didn't.
+/// many, whether it is fresh, and each answer once. A block has `payload` of them. Answers how many records were taken, or
+/// None if it didn't.
 pub fn agrees(
     alloc: Global,
     calls: &[Record],
@@ -107,9 +113,14 @@ pub fn agrees(
             plain.gives(*call)?;
         }
     }
+    let fresh = found_at(found, plain.at).b == u64::from(plain.fresh);
     let answers = answers_after(alloc, found, plain.at.saturating_add(3))?;
     let same = answers.as_slice() == plain.answers.as_slice();
-    Ok(if same { Some(plain.taken) } else { None })
+    Ok(if fresh && same {
+        Some(plain.taken)
+    } else {
+        None
+    })
 }
 
 /// The records that were found after this many, in order.

@@ -2,7 +2,7 @@
 
 use crate::map_scripts::record;
 use crate::runs::{Structure, run};
-use crate::stab_scripts::{drawn, interval, one_over_points, pair, pairs_of, stab};
+use crate::stab_scripts::{drawn, interval, one_over_points, pair, pairs_of, stab, worked};
 use em_record::Record;
 use std::alloc::{AllocError, Global};
 use std::test::Fail;
@@ -26,13 +26,18 @@ fn blocks_of(alloc: Global, calls: &[Record], pairs: &[Record]) -> Result<Option
 fn each_stab_answers_the_earlier_intervals_that_hold_its_point(
     rt: HostRuntime,
 ) -> Result<(), Fail> {
-    let rows: [(&[Record], &[Record]); 5] = [
+    let worked = worked(rt.alloc())?;
+    let rows: [(&[Record], &[Record]); 6] = [
         (&[], &[]),
         (&[stab(5)], &[]),
         (&[interval(0, 9)], &[]),
         (
             &[interval(0, TOP), stab(TOP), stab(0)],
             &[pair(0, 0), pair(1, 0)],
+        ),
+        (
+            worked.as_slice(),
+            &[pair(1, 0), pair(3, 1), pair(4, 0), pair(4, 2)],
         ),
         (
             &[

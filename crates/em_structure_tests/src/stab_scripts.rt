@@ -20,6 +20,25 @@ pub fn pair(stab: u64, interval: u64) -> Record {
     record(stab, interval, 0, 0)
 }
 
+/// Five stabs and three intervals, of which four pairs come: the stabs 1 and 4 are at 5, which the interval 0 holds, and
+/// the stab 4 comes after the interval 2, which holds it too; the stab 3 is at an end of the interval 1.
+pub fn worked(alloc: Global) -> Result<Vec<Record>, AllocError> {
+    let mut calls = Vec::new(alloc);
+    for call in [
+        stab(5),
+        interval(5, 5),
+        interval(7, u64::MAX),
+        stab(5),
+        stab(6),
+        stab(u64::MAX),
+        interval(0, 5),
+        stab(5),
+    ] {
+        calls.push(call)?;
+    }
+    Ok(calls)
+}
+
 /// An interval, and then a stab at each point below a count.
 pub fn one_over_points(
     alloc: Global,

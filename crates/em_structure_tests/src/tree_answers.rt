@@ -13,25 +13,32 @@ use std::test::Fail;
 const SMALL: (u64, u64) = (128, 64);
 
 /// Trees of three small shapes: each of them is settled twice and finished, another one takes records out after each
-/// 4000 operations, and one takes out at the end all that is left, which is more than a leaf has.
+/// 16,000 operations and twice at the end, and one takes out at the end all that is left. No block is in use after the
+/// answers were read.
 ///
-/// 16,000 operations fill 125 blocks of 128 or 129 records, or 112 of 144, which is two levels at a fan-out of 16 or 18.
-/// So the share of the first tree is at most (160 * 126 + 64 * 3 * 126) * 3 moves: two calls of `settle_all`, and
-/// `finish`. No block is in use after the answers were read.
+/// - 16,000 operations fill 125 blocks of 128 or 129 records, or 112 of 144, which is two levels at a fan-out of 16 or 18.
+///   So the share of the first tree is at most (160 * 126 + 64 * 3 * 126) * 3 moves: two calls of `settle_all`, and
+///   `finish`.
+/// - A leaf has at most 4096, 4128 and 5184 records. A program of its own, which has only the draw and a set of keys,
+///   counts 5984 keys that have a value after 16,000 operations, and 9338 after 32,000 if none are taken out. Before a
+///   take takes records out, no operation waits over the first leaf: a single leaf would have all of them, so there are
+///   two at least. So it is at the other three takes, as at most 1296 records are taken by each: 9338 - 3 * 1296 = 5450.
+///   Each takes more than half an area, so more than 512 records.
+/// - Twenty takes of more than 512 records each take all of the 5984.
 #[test]
 fn drawn_calls_are_answered_as_by_a_plain_map(rt: HostRuntime) -> Result<(), Fail> {
     let rows = [
-        (7000, SETTLE, 0, 0, (160 * 126 + 64 * 3 * 126) * 3),
-        (4000, TAKE, 2, 2001, u64::MAX),
-        (9000, SETTLE, 20, 4097, u64::MAX),
+        (16_000, 7000, SETTLE, 0, 0, (160 * 126 + 64 * 3 * 126) * 3),
+        (32_000, 16_000, TAKE, 2, 4 * 513, u64::MAX),
+        (16_000, 9000, SETTLE, 20, 5984, u64::MAX),
     ];
     for (block, frames, payload, area) in [
         (128, 64, 127, 1024),
         (129, 64, 128, 1032),
         (144, 72, 143, 1296),
     ] {
-        for (every, call, takes, least, most) in rows {
-            let ops = drawn(rt.alloc(), 16_000, 20_000)?;
+        for (count, every, call, takes, least, most) in rows {
+            let ops = drawn(rt.alloc(), count, 20_000)?;
             let calls = with_calls(rt.alloc(), &ops, every, call, TAKE, takes)?;
             let mut found = Vec::new(rt.alloc());
             let cost = run(
@@ -53,7 +60,7 @@ fn drawn_calls_are_answered_as_by_a_plain_map(rt: HostRuntime) -> Result<(), Fai
 }
 
 /// A row: the puts of rising keys, whether all are settled at the end, the levels of nodes, the blocks in use, and the
-/// least and the most moves.
+/// least and the most moves. A tree is fresh if it got no put: none is taken out.
 ///
 /// - Two blocks are those of the root and the leaf, with a move for each. The list of the operations holds a block of
 ///   each 127, and a block is stored when the next one begins.
@@ -111,7 +118,11 @@ fn puts_of_rising_keys_hold_their_blocks(rt: HostRuntime) -> Result<(), Fail> {
         )?;
         let rig = found_at(&found, 1);
         let (blocks, moves) = (rig.a, rig.b);
-        assert_eq!(rt; found_at(&found, 0).a, levels, "{count} puts");
+        assert_eq!(rt;
+            found_at(&found, 0),
+            record(levels, u64::from(count == 0), 0, 0),
+            "{count} puts"
+        );
         assert!(rt;
             used == 0 || blocks == used,
             "{count} puts, {blocks} blocks"
