@@ -47,14 +47,25 @@ pub fn full() -> [Row; 32] {
     rows
 }
 
-/// Writes a node of this level with these entries, of which there are 32 at most.
+/// The entries of a full node, and one more: from 0, 10 and so on up to 320 on. Entry i leads to block i, or to the rest
+/// of i by this number of blocks, and nothing is in its buffer.
+pub fn numbered(blocks: u64) -> [Row; 33] {
+    let mut rows = [(0, 0, [0; 5]); 33];
+    for number in 0..33 {
+        rows[number].0 = 10 * number as u64;
+        rows[number].1 = number as u64 % blocks.max(1);
+    }
+    rows
+}
+
+/// Writes a node of this level with these entries, of which there are 33 at most.
 pub fn write_node(frame: &mut Frame, level: u64, rows: &[Row])
     requires { length frame.old ≡ 128 }
     ensures { length frame.new ≡ 128 }
 {
     frame.records_mut().fill(Record::ZERO);
     frame.records_mut()[0] = record(level, rows.len() as u64, 2, 0);
-    for number in 0..rows.len().min(32) {
+    for number in 0..rows.len().min(33) {
         let (low, child, [head, skip, tail, records, blocks]) = rows[number];
         frame.records_mut()[2 + 3 * number].a = low;
         frame.records_mut()[3 + 3 * number] = record(child.saturating_add(1), head, skip, tail);

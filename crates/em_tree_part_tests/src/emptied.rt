@@ -41,7 +41,8 @@ fn five() -> [Record; 5] {
     ]
 }
 
-/// Stores a chain of some records, and a node of level 1 with two children at most, from 5 and from 101 on.
+/// Stores a chain of some records, and a node of level 1 with two children at most, from 5 and from 101 on. If three
+/// are asked for, the block has the level 64, and is no node.
 #[tactic(auto, using(crate::proofs::Ready::kept, crate::proofs::Ready::can_empty))]
 fn store_both<D: Device>(
     rig: &mut Rig<'_, D>,
@@ -55,7 +56,8 @@ fn store_both<D: Device>(
 {
     let rows = [(5, 0, [0; 5]), (101, 0, [0; 5])];
     let chain = write(rig, records)?;
-    let node = store_node(rig, 1, &rows[..(children as usize).min(2)])?;
+    let level = if children == 3 { 64 } else { 1 };
+    let node = store_node(rig, level, &rows[..(children as usize).min(2)])?;
     Ok((node, chain))
 }
 
@@ -112,7 +114,8 @@ pub fn emptied<D: Device>(rig: &mut Rig<'_, D>, children: u64, count: u64, at: u
 ///
 /// With 19 blocks the first record of the second child is refused: 18 moves before, and then the node and the
 /// chain's first block were loaded; four frames are out, and no block was freed. With call 19 failing, the node
-/// isn't loaded. A node with no child, in block 17, is none to empty into.
+/// isn't loaded. A node with no child, in block 17, is none to empty into, and a block that is no node isn't either:
+/// 18 moves before, and the load, with the node's frame out.
 const EMPTYINGS: &str = "\
 100 none 2 2048 1|ok none 1|19 20 90 5
 100 none 1 2048 0|ok 0 1|18 19 105 4
@@ -120,6 +123,7 @@ const EMPTYINGS: &str = "\
 19 none 2 2048 1|full 19|19 19 20 4
 100 19 2 2048 1|fault|18 18 19 1
 100 none 0 2048 0|damaged 17|18 18 19 1
+100 none 3 2048 0|damaged 17|18 18 19 1
 ";
 
 #[test]

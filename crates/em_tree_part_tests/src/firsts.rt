@@ -17,18 +17,22 @@ use em_space::{EmFault, Rig};
 use em_tree_load::{FirstLeaf, first_leaf, remove_first, take_leaf};
 use std::test::Fail;
 
+/// The records of the first leaf of the three.
+fn three() -> [Record; 3] {
+    [
+        record(5, 0, 0, 50),
+        record(7, 0, 0, 70),
+        record(9, 0, 0, 90),
+    ]
+}
+
 /// Stores the three leaves, and answers their blocks.
 #[tactic(auto, using(crate::proofs::Ready::kept))]
 fn store_leaves<D: Device>(rig: &mut Rig<'_, D>) -> Result<(u64, u64, u64), EmFault>
     requires ready { IsReady (seen D.state rig.old) }
     ensures keeps { Keeps (seen D.state rig.old) (seen D.state rig.new) }
 {
-    let records = [
-        record(5, 0, 0, 50),
-        record(7, 0, 0, 70),
-        record(9, 0, 0, 90),
-    ];
-    let first = store_leaf(rig, &records)?;
+    let first = store_leaf(rig, &three())?;
     let second = store_leaf(rig, &[record(700, 0, 0, 1)])?;
     let third = store_leaf(rig, &[record(900, 0, 0, 2)])?;
     Ok((first, second, third))
@@ -83,14 +87,16 @@ fn take_first<D: Device>(
     }
 }
 
-/// Takes records of the first leaf of a tree in an area of its own. Answers how many, and the last one.
+/// Takes records of the first leaf of a tree in an area of its own. Answers how many, and whether the area has these
+/// records from its place 1 on: 1 or 0.
 #[tactic(auto, using(crate::proofs::Ready::kept))]
 fn take_own<D: Device>(
     rig: &mut Rig<'_, D>,
     root: u64,
     level: u64,
     most: usize,
-) -> Result<(u64, Record), EmFault>
+    wanted: &[Record],
+) -> Result<(u64, u64), EmFault>
     requires ready { IsReady (seen D.state rig.old) }
     requires below { root < (seen D.state rig.old).blocks }
     requires room { most < 1024 }
@@ -98,20 +104,13 @@ fn take_own<D: Device>(
 {
     let mut area = rig.lend_area();
     let taken = take_first(rig, root, level, &mut area, most);
-    let count = match taken {
-        Ok(count) => count,
-        Err(_) => 0,
-    };
-    let last = match area.records().get(count) {
-        Some(record) => *record,
-        None => Record::ZERO,
-    };
+    let same = area.records()[1..].starts_with(wanted);
     rig.give_area(area);
-    Ok((taken? as u64, last))
+    Ok((taken? as u64, u64::from(same)))
 }
 
-/// Takes the first leaf of the tree of three out. Answers how many records were taken, and two words of the last
-/// one; of the root the number of entries, and the child of the first one; and of block 7 the number of entries,
+/// Takes the first leaf of the tree of three out. Answers how many records were taken, and whether they are those of the
+/// leaf; of the root the number of entries, and the child of the first one; and of block 7 the number of entries,
 /// and the low key and the child of the first one.
 #[tactic(auto, using(crate::proofs::Ready::kept))]
 pub fn taken_first<D: Device>(rig: &mut Rig<'_, D>) -> Answer
@@ -120,10 +119,28 @@ pub fn taken_first<D: Device>(rig: &mut Rig<'_, D>) -> Answer
 {
     let (first, second, third) = store_leaves(rig)?;
     let root = store_nodes(rig, first, second, third)?;
-    let (taken, last) = take_own(rig, root, 2, 3)?;
+    let (taken, same) = take_own(rig, root, 2, 3, &three())?;
     let (_, above, (_, upper, _)) = entry_in(rig, root, 0)?;
     let (_, count, (low, child, _)) = entry_in(rig, 7, 0)?;
-    Ok([taken, last.a, last.d, above, upper, count, low, child])
+    Ok([taken, same, above, upper, count, low, child, 0])
+}
+
+/// 200 records.
+fn long() -> [Record; 200] {
+    let mut records = [Record::ZERO; 200];
+    for number in 0..200 {
+        records[number].a = number as u64;
+    }
+    records
+}
+
+/// The first 127 of them.
+fn front() -> [Record; 127] {
+    let mut records = [Record::ZERO; 127];
+    for number in 0..127 {
+        records[number].a = number as u64;
+    }
+    records
 }
 
 /// Stores a leaf of 200 records alone under a node, and answers the blocks of both.
@@ -133,37 +150,33 @@ fn store_long<D: Device>(rig: &mut Rig<'_, D>) -> Result<(u64, u64), EmFault>
     ensures keeps { Keeps (seen D.state rig.old) (seen D.state rig.new) }
     ensures below { IfOk result (λ made. made.1 < (seen D.state rig.old).blocks) }
 {
-    let mut records = [Record::ZERO; 200];
-    for number in 0..200 {
-        records[number].a = number as u64;
-    }
-    let leaf = store_leaf(rig, &records)?;
+    let leaf = store_leaf(rig, &long())?;
     let root = store_node(rig, 1, &[(0, leaf, [0; 5])])?;
     Ok((leaf, root))
 }
 
-/// Takes at most 150 records of a leaf of 200. Answers how many were taken, and two words of the last one; and
-/// whether the leaf has the others: 73, from the second block of its list on.
+/// Takes at most 150 records of a leaf of 200. Answers how many were taken, and whether they are the first 127 of the
+/// leaf; and whether the leaf has the others: 73, from the second block of its list on.
 #[tactic(auto, using(crate::proofs::Ready::kept))]
 pub fn cut<D: Device>(rig: &mut Rig<'_, D>) -> Answer
     requires ready { IsReady (seen D.state rig.old) }
     ensures keeps { Keeps (seen D.state rig.old) (seen D.state rig.new) }
 {
     let (leaf, root) = store_long(rig)?;
-    let (taken, last) = take_own(rig, root, 1, 150)?;
+    let (taken, same) = take_own(rig, root, 1, 150, &front())?;
     let left = begins_with(rig, leaf, &[record(0, 1, 1, 0), record(2, 0, 2, 73)])?;
-    Ok([taken, last.a, last.d, left, 0, 0, 0, 0])
+    Ok([taken, same, left, 0, 0, 0, 0, 0])
 }
 
 /// 9 moves store the tree. 3 find the leaf: one for each node and one for the leaf's block. Its list is loaded and
 /// released, and its block stored. The root is loaded and stored, the node below its first entry loaded and
 /// released, and the leaf's block released; then the other node is loaded and stored, since it begins with the
 /// least key now. 2 moves look at both. Of 9 blocks 3 were released.
-const WHOLE: &str = "20 none|ok 3 9 90 1 7 2 0 3|6 9 24 10";
+const WHOLE: &str = "20 none|ok 3 1 1 7 2 0 3|6 9 24 10";
 
 /// 127 records fill a block. 4 moves store the list of two blocks, the leaf's block and the node. 2 find the leaf,
 /// its first block is loaded and released, and the leaf's block stored; 1 looks at it.
-const PART: &str = "20 none|ok 127 126 0 1|3 4 10 10";
+const PART: &str = "20 none|ok 127 1 1|3 4 10 10";
 
 #[test]
 fn a_first_leaf_is_taken_out_with_its_node(rt: HostRuntime) -> Result<(), Fail> {

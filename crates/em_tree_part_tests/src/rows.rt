@@ -6,7 +6,7 @@ ghost use Rattle.std.specs.Prelude.{◌≡◌};
 
 use crate::calls::{Call, called};
 use em_devices::{Quiet, ended, opened};
-use em_record::Record;
+use em_record::{Failed, Record};
 use em_space::EmFault;
 use std::alloc::Global;
 use std::test::Fail;
@@ -52,17 +52,21 @@ pub fn numbers(text: &str) -> Result<Numbers, Fail> {
     Ok(numbers)
 }
 
-/// The answer that a text stands for.
+/// The answer that a text stands for. A word that is none of these is a failure of the test.
 fn answer_of(text: &str) -> Result<Answer, Fail> {
     let Some((kind, rest)) = text.split_once(' ') else {
-        return Ok(Err(EmFault::DeviceFault));
+        return match text {
+            "fault" => Ok(Err(EmFault::DeviceFault)),
+            _ => Err(Fail::from(Failed)),
+        };
     };
     let numbers = numbers(rest)?;
     let [first, ..] = numbers;
     match kind {
         "ok" => Ok(Ok(numbers)),
         "full" => Ok(Err(EmFault::Full { used: first })),
-        _ => Ok(Err(EmFault::Damaged { block: first })),
+        "damaged" => Ok(Err(EmFault::Damaged { block: first })),
+        _ => Err(Fail::from(Failed)),
     }
 }
 

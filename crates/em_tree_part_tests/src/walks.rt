@@ -2,7 +2,7 @@
 ghost use Rattle.em_space.specs.Seen.{seen};
 ghost use Rattle.em_tree_part_tests.specs.Ready.{IsReady, Keeps};
 
-use crate::blocks::{FIRST, entry_in, full, key, set_up, store_node};
+use crate::blocks::{FIRST, entry_in, key, numbered, set_up, store_node};
 use crate::calls::Call;
 use crate::rows::{Answer, NONE, first_wrong_row, word_of};
 use em_frames::Device;
@@ -78,23 +78,27 @@ pub fn taken<D: Device>(rig: &mut Rig<'_, D>, level: u64, at: u64) -> Answer
     Ok([child, buffer.len(), count, low, link, left, 0, 0])
 }
 
-/// Puts an entry with this low key in after a place of a node that has as many entries of a full one. Answers
-/// the number of entries then, and the low key, the child and the records of the next place.
+/// Puts an entry with this low key, which leads to the last block, in after a place of a node that has as many entries of
+/// a full one. Answers the number of entries then, and the low key, the child and the records of the next place; and
+/// the low key and the child of the entry after it, or of itself if it is the last one.
 #[tactic(auto, using(crate::proofs::Ready::kept, crate::proofs::Ready::can_add))]
 pub fn added<D: Device>(rig: &mut Rig<'_, D>, entries: u64, at: u64, low: u64) -> Answer
     requires ready { IsReady (seen D.state rig.old) }
     ensures keeps { Keeps (seen D.state rig.old) (seen D.state rig.new) }
 {
-    let node = store_node(rig, 1, &full()[..(entries as usize).min(32)])?;
+    let blocks = rig.blocks();
+    let node = store_node(rig, 1, &numbered(blocks)[..(entries as usize).min(32)])?;
     let entry = Entry {
         low: key(low),
-        child: 1,
+        child: blocks,
         buffer: [0, 0, 0, 4, 0],
     };
     add_entry(rig, node, 1, at as usize, entry)?;
     let next = (at as usize).saturating_add(1);
     let (_, count, (low, child, [_, _, _, records, _])) = entry_in(rig, node, next)?;
-    Ok([count, low, child, records, 0, 0, 0, 0])
+    let last = (count as usize).saturating_sub(1);
+    let (_, _, (above, other, _)) = entry_in(rig, node, next.saturating_add(1).min(last))?;
+    Ok([count, low, child, records, above, other, 0, 0])
 }
 
 /// 3 moves store the nodes. The root is reached by none more; one level down it is loaded, and two levels down a
@@ -162,20 +166,23 @@ fn a_buffer_comes_out(rt: HostRuntime) -> Result<(), Fail> {
     Ok(())
 }
 
-/// 1 move stores the node, 2 put the entry in, and 1 reads the node. Three entries have the low keys 0, 10 and
-/// 20: after the first place those from 1 to 9 have room. There is no fourth place. A node of 31 entries has
-/// room for one, and one of 32 has none.
+/// 1 move stores the node, 2 put the entry in, and 2 read two entries. Three entries have the low keys 0, 10 and
+/// 20, and lead to blocks 0, 1 and 2; the new one leads to block 19 of 20, or 39 of 40. After the first place the low
+/// keys from 1 to 9 have room. There is no fourth place. A node of 31 entries has room for one, and one of 32 has none.
 const ADDINGS: &str = "\
-20 none 3 0 5|ok 4 5 0 4|1 1 4 1
-20 none 3 2 21|ok 4 21 0 4|1 1 4 1
+20 none 3 0 5|ok 4 5 19 4 10 1|1 1 5 1
+20 none 3 1 11|ok 4 11 19 4 20 2|1 1 5 1
+20 none 3 2 21|ok 4 21 19 4 21 19|1 1 5 1
 20 none 3 0 0|damaged 0|1 1 2 1
 20 none 3 0 10|damaged 0|1 1 2 1
 20 none 3 1 10|damaged 0|1 1 2 1
 20 none 3 1 20|damaged 0|1 1 2 1
 20 none 3 2 20|damaged 0|1 1 2 1
 20 none 3 3 70|damaged 0|1 1 2 1
-20 none 31 30 305|ok 32 305 0 4|1 1 4 1
-20 none 32 31 315|damaged 0|1 1 2 1
+40 none 31 15 155|ok 32 155 39 4 160 16|1 1 5 1
+40 none 31 29 295|ok 32 295 39 4 300 30|1 1 5 1
+40 none 31 30 305|ok 32 305 39 4 305 39|1 1 5 1
+40 none 32 31 315|damaged 0|1 1 2 1
 20 2 3 0 5|fault|1 1 2 1
 20 3 3 0 5|fault|1 1 3 1
 ";
