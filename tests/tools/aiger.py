@@ -2,7 +2,7 @@
 """Evaluates a circuit on a stimulus as `emtool eval` must, by docs/FORMATS.md and in another way than the program: the
 whole circuit stands in memory, and the value of a literal is asked of its gate, which asks its operands.
 
-tests/tools/aiger.py CIRCUIT STIMULUS    prints what `emtool eval CIRCUIT STIMULUS` must print
+tests/tools/aiger.py [--uninit=N] CIRCUIT STIMULUS    prints what `emtool eval` with these words must print
 """
 import sys
 
@@ -22,11 +22,13 @@ class Fault(Exception):
 
 
 class Circuit:
-    """Header numbers, input literals, latches (current, next), outputs, and gates (lhs, rhs0, rhs1)."""
+    """Header numbers, input literals, latches (current, next, reset), columns, and gates (lhs, rhs0, rhs1). The header
+    numbers are the first seven: the last two of them count the bad literals and the constraints. The columns are the
+    outputs, then the bad literals, then the constraints."""
 
     def __init__(self, header):
         self.header = header
-        self.inputs, self.latches, self.outputs, self.gates = [], [], [], []
+        self.inputs, self.latches, self.columns, self.gates = [], [], [], []
 
     def defined(self):
         """The variables of all definitions, one for each."""
@@ -35,7 +37,7 @@ class Circuit:
 
     def used(self):
         """The variables of all literals that are used."""
-        literals = [it[1] for it in self.latches] + self.outputs
+        literals = [it[1] for it in self.latches] + self.columns
         literals += [operand for it in self.gates for operand in it[1:]]
         return [it // 2 for it in literals]
 
@@ -43,8 +45,8 @@ class Circuit:
 class Text:
     """A text that is read item by item, and the offset of the next byte."""
 
-    def __init__(self, data):
-        self.data, self.at = data, 0
+    def __init__(self, data, uninit=None):
+        self.data, self.at, self.uninit = data, 0, uninit
 
     def ended(self):
         return self.at == len(self.data)
@@ -60,6 +62,14 @@ class Text:
         if self.byte() != wanted:
             raise Fault(kind, self.at)
         self.at += 1
+
+    def goes_on(self):
+        """Whether another number follows on the line. Passes the space before it, or else the line end."""
+        if not self.ended() and self.byte() == SPACE:
+            self.at += 1
+            return True
+        self.line_end()
+        return False
 
     def line_end(self, at_space="BadSeparator"):
         """A newline, or the text's end."""
@@ -96,6 +106,18 @@ class Text:
             raise Fault("OddDefinition", place)
         return value
 
+    def reset(self, own):
+        """The reset of the latch with this literal, and the end of its line."""
+        if not self.goes_on():
+            return 0
+        place, value = self.number()
+        if value not in (0, 1, own):
+            raise Fault("BadReset", place)
+        if value == own and self.uninit is None:
+            raise Fault("Uninit", place)
+        self.line_end("Extension")
+        return self.uninit if value == own else value
+
     def delta(self, least, most):
         """A delta of a gate in the binary form."""
         first, value = self.at, 0
@@ -113,7 +135,7 @@ class Text:
 
 
 def read_header(text):
-    """Whether the form is the binary one, and the five numbers."""
+    """Whether the form is the binary one, and the numbers but the last two, of justice and fairness, which are 0."""
     magic = text.data[:3]
     if magic not in (b"aag", b"aig"):
         raise Fault("BadMagic", 0)
@@ -126,24 +148,40 @@ def read_header(text):
     defined = inputs + latches + gates
     if variables < defined or (magic == b"aig" and variables != defined):
         raise Fault("BadCounts", 4)
-    text.line_end("Extension")
-    return magic == b"aig", numbers
+    bads_and_constraints = [0, 0]
+    for section, refused in enumerate((None, None, "Justice", "Fairness")):
+        if not text.goes_on():
+            break
+        place = text.at
+        count = text.below(GREATEST + 1, "TooLarge")
+        if refused is None:
+            bads_and_constraints[section] = count
+        elif count:
+            raise Fault(refused, place)
+    else:
+        text.line_end("Extension")
+    return magic == b"aig", numbers + bads_and_constraints
+
+
+def read_columns(text, circuit):
+    """The outputs, bad literals and constraints."""
+    greatest, _, _, outputs, _, bads, constraints = circuit.header
+    for _ in range(outputs + bads + constraints):
+        circuit.columns.append(text.used(greatest))
+        text.line_end()
 
 
 def read_ascii(text, circuit):
     """The sections of the ASCII form."""
-    greatest, inputs, latches, outputs, gates = circuit.header
+    greatest, inputs, latches, _, gates = circuit.header[:5]
     for _ in range(inputs):
         circuit.inputs.append(text.defining(greatest))
         text.line_end()
     for _ in range(latches):
         current = text.defining(greatest)
         text.one(SPACE)
-        circuit.latches.append((current, text.used(greatest)))
-        text.line_end("Extension")
-    for _ in range(outputs):
-        circuit.outputs.append(text.used(greatest))
-        text.line_end()
+        circuit.latches.append((current, text.used(greatest), text.reset(current)))
+    read_columns(text, circuit)
     for _ in range(gates):
         left = text.defining(greatest)
         text.one(SPACE)
@@ -155,13 +193,11 @@ def read_ascii(text, circuit):
 
 def read_binary(text, circuit):
     """The sections of the binary form."""
-    greatest, inputs, latches, outputs, gates = circuit.header
+    greatest, inputs, latches, _, gates = circuit.header[:5]
     for it in range(latches):
-        circuit.latches.append((2 * (inputs + 1 + it), text.used(greatest)))
-        text.line_end("Extension")
-    for _ in range(outputs):
-        circuit.outputs.append(text.used(greatest))
-        text.line_end()
+        current = 2 * (inputs + 1 + it)
+        circuit.latches.append((current, text.used(greatest), text.reset(current)))
+    read_columns(text, circuit)
     for it in range(gates):
         left = 2 * (inputs + latches + 1 + it)
         first = left - text.delta(1, left)
@@ -171,8 +207,8 @@ def read_binary(text, circuit):
 
 def read_tail(text, circuit):
     """Symbols, and a comment."""
-    _, inputs, latches, outputs, _ = circuit.header
-    counts = {ord("i"): inputs, ord("l"): latches, ord("o"): outputs}
+    _, inputs, latches, outputs, _, bads, _ = circuit.header
+    counts = {ord("i"): inputs, ord("l"): latches, ord("o"): outputs, ord("b"): bads}
     while not text.ended() and text.byte() != ord("c"):
         if text.byte() not in counts:
             raise Fault("Extra", text.at)
@@ -185,9 +221,9 @@ def read_tail(text, circuit):
         text.line_end()
 
 
-def circuit_of(data):
+def circuit_of(data, uninit=None):
     """The circuit that a text spells, or the fault of its first item that fails."""
-    text = Text(data)
+    text = Text(data, uninit)
     binary, header = read_header(text)
     circuit = Circuit(header)
     (read_binary if binary else read_ascii)(text, circuit)
@@ -223,12 +259,12 @@ def check(circuit):
 
 
 class Evaluator:
-    """A circuit without a fault, and the bits of its latches, at first 0."""
+    """A circuit without a fault, and the bits of its latches, at first their resets."""
 
     def __init__(self, circuit):
         self.circuit = circuit
         self.gates = {left: (first, second) for left, first, second in circuit.gates}
-        self.state = [0] * len(circuit.latches)
+        self.state = [it[2] for it in circuit.latches]
 
     def value(self, literal, known):
         """The value of a literal in a step. The values of plain literals that were found stand in `known`."""
@@ -239,13 +275,13 @@ class Evaluator:
         return known[plain] ^ (literal & 1)
 
     def step(self, bits):
-        """The outputs of one step. All latches change at its end."""
+        """The columns of one step. All latches change at its end."""
         known = {0: 0}
         known.update(zip(self.circuit.inputs, bits))
         known.update((it[0], bit) for it, bit in zip(self.circuit.latches, self.state))
-        outputs = [self.value(it, known) for it in self.circuit.outputs]
+        columns = [self.value(it, known) for it in self.circuit.columns]
         self.state = [self.value(it[1], known) for it in self.circuit.latches]
-        return outputs
+        return columns
 
 
 def steps_of(inputs, data):
@@ -265,13 +301,13 @@ def steps_of(inputs, data):
     return steps, None
 
 
-def answer(circuit_text, stimulus_text):
+def answer(circuit_text, stimulus_text, uninit=None):
     """The output, the message and the exit code of an evaluation. A text that isn't there is None."""
     unread = "emtool: an input could not be read\n"
     if circuit_text is None:
         return "", unread, 3
     try:
-        circuit = circuit_of(circuit_text)
+        circuit = circuit_of(circuit_text, uninit)
         check(circuit)
     except Fault as it:
         return "", f"emtool: malformed: {it.kind} at {it.place}\n", 2
@@ -294,10 +330,14 @@ def bytes_of(name):
 
 
 def main(words):
+    uninit = None
+    if words and words[0] in ("--uninit=0", "--uninit=1"):
+        uninit = int(words[0][-1])
+        words = words[1:]
     if len(words) != 2:
         print(__doc__, file=sys.stderr)
         return 1
-    output, message, code = answer(bytes_of(words[0]), bytes_of(words[1]))
+    output, message, code = answer(bytes_of(words[0]), bytes_of(words[1]), uninit)
     sys.stdout.write(output)
     sys.stderr.write(message)
     return code

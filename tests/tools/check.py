@@ -20,18 +20,30 @@ import circuits
 import made
 
 # what the evaluator can answer: it has no blocks, and writes where it is told
-COMMAND = re.compile(r"emtool eval(?: --(?:stats|block=\d+|frames=\d+))* ([a-z]+) ([a-z]+)")
+COMMAND = re.compile(r"emtool eval(?: --(?:stats|block=\d+|frames=\d+|uninit=([01])))* ([a-z]+) ([a-z]+)")
 STATISTICS = re.compile(rb"moves \d+ peak \d+\n\Z")
 FORMS = re.compile(r"(.*), in (ASCII|binary)")
 
 
+def given(row):
+    """The circuit, the stimulus and the value of `--uninit` that a row's command names, or None if the evaluator can't
+    run it."""
+    found = COMMAND.fullmatch(row.command)
+    return found and (row.files.get(found[2]), row.files.get(found[3]), found[1] and int(found[1]))
+
+
 def answered(row):
     """What a row's circuit and stimulus are answered by, or None if the evaluator can't run its command."""
-    found = COMMAND.fullmatch(row.command)
-    if not found:
+    if not given(row):
         return None
-    output, message, code = aiger.answer(row.files.get(found[1]), row.files.get(found[2]))
+    output, message, code = aiger.answer(*given(row))
     return output.encode(), message.encode(), code
+
+
+def spelled(row):
+    """The circuit that a row spells."""
+    circuit, _, uninit = given(row)
+    return vars(aiger.circuit_of(circuit, uninit))
 
 
 def check_rows(rows):
@@ -60,8 +72,7 @@ def check_forms(rows):
             continue
         both += 1
         first, second = forms["ASCII"], forms["binary"]
-        spelled = [vars(aiger.circuit_of(it.files["c"])) for it in (first, second)]
-        if spelled[0] != spelled[1]:
+        if spelled(first) != spelled(second):
             wrong.append(f"{second.place}: {title}: the two forms spell other circuits")
         if (first.files["s"], first.output) != (second.files["s"], second.output):
             wrong.append(f"{second.place}: {title}: the two forms have other stimuli or outputs")

@@ -1,5 +1,5 @@
 #!/usr/bin/env python3
-"""Makes the rows of circuits that a tool could have written: the networks of networks.py as texts, with the outputs
+"""Makes the rows of circuits that a tool could have written: the networks of networks.py as texts, with the columns
 that plain arithmetic and the evaluator of aiger.py both give.
 
 tests/tools/circuits.py    writes tests/rows/circuits.rows and tests/rows/any-order.rows
@@ -36,11 +36,19 @@ class Lines:
         self.greatest = len(made.input_names) + len(made.latch_names) + len(made.gates)
         self.inputs = [[2 * it + 2] for it in range(len(made.input_names))]
         self.latches = [[first + 2 * it, made.next[name]] for it, name in enumerate(made.latch_names)]
-        self.outputs = [[it[1]] for it in made.outputs]
+        for line, name in zip(self.latches, made.latch_names):
+            if name in made.resets:
+                line.append(made.resets[name])
+        self.outputs, self.bads, self.constraints = (
+            [[it[1]] for it in named] for named in (made.outputs, made.bads, made.constraints)
+        )
         self.gates = [list(it) for it in made.gates]
 
+    def columns(self):
+        return self.outputs, self.bads, self.constraints
+
     def sections(self):
-        return self.inputs, self.latches, self.outputs, self.gates
+        return self.inputs, self.latches, *self.columns(), self.gates
 
     def renamed(self, variables):
         """The same circuit with variable v as variables[v]."""
@@ -56,7 +64,12 @@ class Lines:
 
 
 def header(magic, lines):
-    return f"{magic} {lines.greatest} " + " ".join(str(len(it)) for it in lines.sections())
+    """The header's line. Its further numbers end with the last one that isn't 0."""
+    sections = lines.inputs, lines.latches, lines.outputs, lines.gates, lines.bads, lines.constraints
+    counts = [len(it) for it in sections]
+    while len(counts) > 4 and counts[-1] == 0:
+        counts.pop()
+    return f"{magic} {lines.greatest} " + " ".join(map(str, counts))
 
 
 def packed(items, join, end):
@@ -92,14 +105,15 @@ def ascii_text(lines):
 
 def binary_text(lines):
     """Rows' lines of a circuit in the binary form."""
-    rest = [[it[1]] for it in lines.latches], lines.outputs
+    rest = [it[1:] for it in lines.latches], *lines.columns()
     deltas = [spelled(left - one) + spelled(one - other) for left, one, other in lines.gates]
     return [f"c | {header('aig', lines)}"] + lines_of(rest) + packed(deltas, "", "\\")
 
 
 def tail(made, comment):
-    """Rows' lines of the symbols of a network, and a comment."""
-    named = ("i", made.input_names), ("l", made.latch_names), ("o", [it[0] for it in made.outputs])
+    """Rows' lines of the symbols of a network, and a comment. A constraint's name begins the comment."""
+    columns = zip("obc", ([it[0] for it in named] for named in (made.outputs, made.bads, made.constraints)))
+    named = ("i", made.input_names), ("l", made.latch_names), *columns
     found = [[f"{kind}{place} {name}" for place, name in enumerate(it)] for kind, it in named]
     return [it for one in found for it in packed(one, r"\n", "")] + ["c | c", f"c | {comment}"]
 
@@ -127,16 +141,17 @@ def text_of(lines):
     return found
 
 
-def row(title, circuit, steps, answers):
+def row(title, circuit, uninit, steps, answers):
     """A row, after a look whether the evaluator gives these answers."""
     stimulus = ["".join(map(str, it)) for it in steps]
     outputs = ["".join(map(str, it)) for it in answers]
-    got = aiger.answer(text_of(circuit), "".join(it + "\n" for it in stimulus).encode())
+    got = aiger.answer(text_of(circuit), "".join(it + "\n" for it in stimulus).encode(), uninit)
     if got != ("".join(it + "\n" for it in outputs), "", 0):
         sys.exit(f"{title}: plain arithmetic says other outputs than the evaluator")
     # a file of empty lines: the first newline ends the row's line
     shown = ["s | " + r"\n" * len(steps) + "\\"] if not steps[0] else [f"s | {it}" for it in stimulus]
-    return [title, "$ emtool eval --block=128 --frames=64 c s", *circuit, *shown, *[f"> {it}" for it in outputs]]
+    options = "--block=128 --frames=64" + (f" --uninit={uninit}" if uninit is not None else "")
+    return [title, f"$ emtool eval {options} c s", *circuit, *shown, *[f"> {it}" for it in outputs]]
 
 
 def tables():
@@ -159,7 +174,8 @@ def tables():
             del rows["its lines in another order"]
         for style, circuit in rows.items():
             table = ANY if style == "its gates in any order" else RISING
-            found[table].append("".join(it + "\n" for it in row(f"{title}, {style}", circuit, steps, answers)))
+            made_row = row(f"{title}, {style}", circuit, made.uninit, steps, answers)
+            found[table].append("".join(it + "\n" for it in made_row))
     return {name: "\n".join(it) for name, it in found.items()}
 
 

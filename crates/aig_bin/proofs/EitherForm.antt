@@ -6,7 +6,7 @@ use Rattle.em_space.specs.Rig.{RigState}
 use Rattle.aig_defs.specs.declared.form.Form.{Form}
 use Rattle.aig_defs.specs.Begun.{counts_after, size_read, text_size}
 use Rattle.aig_defs.specs.Items.{Reading, Reads, and_then}
-use Rattle.aig_defs.specs.Order.{after_magic, ascii_magic, is_ascii, magic}
+use Rattle.aig_defs.specs.Order.{after_magic, ascii_magic, is_ascii, magic, uninit_of}
 use Rattle.aig_defs.specs.TextFault.{either_text}
 use Rattle.aig_defs.proofs.Laws.{magic_of}
 use Rattle.aig_defs.proofs.Ranges.{spelled_is}
@@ -35,18 +35,18 @@ module _ (form : Form) {tells : Bool} {a b : Source} (none : a.feed.place ≡ 0)
     (is : ascii ≡ is_ascii form) (names : ReadsItem {A = Bool} tells ascii_magic a b (Ok ascii))
   where
     -- the magic stands at the text's first byte,
-    magic_first : IsTrue tells → magic 0 (left a) ≡ Reads form b.feed.place (left b)
+    magic_first : IsTrue tells → magic (uninit_of form) 0 (left a) ≡ Reads form b.feed.place (left b)
     magic_first z = magic_of form (left a) b.feed.place (left b)
         (ap (λ (k : ℕ). ascii_magic k (left a)) (sym none) ∙ names.gives z
         ∙ ap (λ (k : Bool). Reads k b.feed.place (left b)) is)
 
     -- what the text spells after it,
-    text_after : IsTrue tells → either_text 0 (left a) ≡ after_magic form b.feed.place (left b)
+    text_after : IsTrue tells → either_text (uninit_of form) 0 (left a) ≡ after_magic form b.feed.place (left b)
     text_after z = ap (λ (r : Reading Form). and_then r after_magic) (magic_first z)
 
     -- and the size of what was read too
     size_after : IsTrue tells → (given : ℕ)
-        → text_size given (left a) ≡ size_given form b (min given (length (left a)))
+        → text_size (uninit_of form) given (left a) ≡ size_given form b (min given (length (left a)))
     size_after z given = ap (λ (r : Reading Form).
         counts_after r (λ f. size_read f (min given (length (left a))))) (magic_first z)
 
@@ -62,11 +62,11 @@ module _ (form : Form) {tells : Bool} {a b : Source} (none : a.feed.place ≡ 0)
 
       -- the answer is that of the whole text
       gives_either : IsTrue tells → (r : Result Parts AigStop) → IfOk r (GivesParts s t)
-          → GivesCircuit form b d t r → OnOk r (left d ≡ []) → GivesEither (left a) d t r
+          → GivesCircuit form b d t r → OnOk r (left d ≡ []) → GivesEither (uninit_of form) (left a) d t r
       gives_either z (Ok p) parts g end =
-          let reads : either_text 0 (left a) ≡ Reads g.circuit d.feed.place [] =
+          let reads : either_text (uninit_of form) 0 (left a) ≡ Reads g.circuit d.feed.place [] =
           text_after z ∙ g.reads ∙ ap (λ (x : List ℕ). Reads g.circuit d.feed.place x) end in
-          let in_form = either_spells (left a) g.circuit d.feed.place [] reads in
+          let in_form = either_spells (uninit_of form) (left a) g.circuit d.feed.place [] reads in
           record {
             circuit = g.circuit;
             reads = reads;
@@ -74,10 +74,11 @@ module _ (form : Form) {tells : Bool} {a b : Source} (none : a.feed.place ≡ 0)
             header = g.header;
             are = λ told. record {
               header = g.header;
-              is = spelled_is in_form.form (left a) g.circuit in_form.spelled;
+              is = spelled_is (uninit_of form) in_form.form (left a) g.circuit in_form.spelled;
               defs = g.defs told;
               gates = g.gates told;
               uses = g.uses told;
+              resets = g.resets told;
             };
             size = λ given far. size_after z given
                 ∙ size_whole form b d s t p parts g (min given (length (left a)))
@@ -86,7 +87,7 @@ module _ (form : Form) {tells : Bool} {a b : Source} (none : a.feed.place ≡ 0)
       gives_either z (Err e) parts g end = subst (StopsAs e) (sym (text_after z)) g
 
       -- A circuit was read from its first byte.
-      pub either_read : ReadsEither tells a d s t result
+      pub either_read : ReadsEither tells (uninit_of form) a d s t result
       either_read = record {
         goes = h.goes;
         parts = h.parts;

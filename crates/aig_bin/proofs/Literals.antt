@@ -1,5 +1,5 @@
 -- The literals of rows without them in the text, and of operands by their deltas.
-use Rattle.std.proofs.Common.{◌≡◌, ◌+◌, ◌-◌, ◌*◌, ◌<◌, ◌≤◌, ℕ, None, arith}
+use Rattle.std.proofs.Common.{◌≡◌, ◌+◌, ◌-◌, ◌*◌, ◌<◌, ◌≤◌, ℕ, Bool, None, arith}
 use Rattle.aig_defs.specs.declared.circuit.Header.{Header}
 use Rattle.aig_defs.specs.declared.form.Limit.TheVariants.{Used}
 use Rattle.aig_defs.specs.Circuit.{IsDefining, IsGate, IsHeader, IsLatch}
@@ -10,10 +10,10 @@ numbered_defines : (h : Header) (v : ℕ) → 1 ≤ v → v ≤ h.max → IsDefi
 numbered_defines h v some most =
     record { low = omega arith; high = omega arith; even = omega arith }
 
-pub latch_is : (h : Header) (j next : ℕ) → IsHeader h → j < h.latches
+pub latch_is : (h : Header) (j next : ℕ) (reset : Bool) → IsHeader h → j < h.latches
     → number_fault (Used h.max) next ≡ None
-    → IsLatch h (record { current = 2 * (h.inputs + 1 + j); next = next })
-latch_is h j next is low ok = record {
+    → IsLatch h (record { current = 2 * (h.inputs + 1 + j); next = next; reset = reset })
+latch_is h j next reset is low ok = record {
   current = numbered_defines h (h.inputs + 1 + j) (omega arith) (omega (arith, is.enough, low));
   next = used_within h next ok;
 }

@@ -1,5 +1,5 @@
 //! The reader of both forms, from a text's first byte.
-ghost use Rattle.std.specs.Prelude.{◌≡◌, ◌<◌, true};
+ghost use Rattle.std.specs.Prelude.{◌≡◌, ◌<◌, ◌≤◌, true, IfSome};
 ghost use Rattle.em_space.specs.Rig.{Sound};
 ghost use Rattle.em_space.specs.Seen.{seen};
 ghost use Rattle.aig_text.specs.Source.{source};
@@ -11,7 +11,7 @@ use em_frames::Device;
 use em_io::{Feed, Shelf};
 use em_space::Rig;
 
-/// Reads a circuit from its first byte, in the form that its magic names, into three chains of
+/// Reads a circuit from its first byte, in the form that its magic names, into four chains of
 /// records.
 ///
 /// The slot was opened with Ok, and the feed is new. Six single frames are free. After Ok the text is
@@ -22,22 +22,24 @@ use em_space::Rig;
 ///
 /// What the text is, and the moves and blocks, are promised over a shelf that tells its texts, and
 /// what the chains hold over a device that tells. The numbers are those of `read_binary`, with E by
-/// the form that was read.
+/// the form that was read. `uninit` is as at `read_ascii`.
 pub fn read_either<D: Device, H: Shelf>(
     rig: &mut Rig<'_, D>,
     feed: &mut Feed,
     shelf: &mut H,
+    uninit: Option<u64>,
 ) -> Result<Parts, AigStop>
     requires sound { Sound (seen D.state rig.old) }
     requires ready { ((H.stand shelf.old).slot feed.old.slot).ready ≡ true }
     requires none { feed.old.place ≡ 0 }
+    requires uninit { IfSome uninit (λ value. value ≤ 1) }
     requires free { 5 < (seen D.state rig.old).pool.free }
-    ensures reads { ReadsEither H.tells (source H.Shelf feed.old shelf.old)
+    ensures reads { ReadsEither H.tells uninit (source H.Shelf feed.old shelf.old)
         (source H.Shelf feed.new shelf.new) (seen D.state rig.old) (seen D.state rig.new) result }
 {
     if read_magic(feed, shelf)? {
-        read_ascii(rig, feed, shelf)
+        read_ascii(rig, feed, shelf, uninit)
     } else {
-        read_binary(rig, feed, shelf)
+        read_binary(rig, feed, shelf, uninit)
     }
 }

@@ -1,5 +1,5 @@
 //! Reads circuits of the AIGER format in its binary form, by the reader of `aig_text`: a text becomes
-//! three chains of records, or the text's first fault is found, unless the shelf or the rig gives up
+//! four chains of records, or the text's first fault is found, unless the shelf or the rig gives up
 //! first. `read_either` reads a text of either form.
 #![tactic(auto)]
 

@@ -7,30 +7,33 @@ ghost use Rattle.aig_text.specs.Source.{CanRead, source};
 
 use crate::delta::delta;
 use aig_defs::{Gate, Header, Latch, Limit};
-use aig_text::{AigStop, last_end, number};
+use aig_text::{AigStop, latch_end, number};
 use em_io::{Feed, Shelf};
 
-/// The line of a latch, of which `before` stand before it: its next literal.
+/// The line of a latch, of which `before` stand before it: its next literal, and its reset.
 #[tactic(auto, using(aig_text::proofs::Steadies::steadies))]
 pub(crate) fn next_line<H: Shelf>(
     feed: &mut Feed,
     shelf: &mut H,
     header: &Header,
     before: u64,
+    uninit: Option<u64>,
 ) -> Result<Latch, AigStop>
     requires open { CanRead (source H.Shelf feed.old shelf.old) }
     requires header { IsHeader header.now }
     requires before { before < header.now.latches }
-    ensures reads { ReadsItem H.tells (next_line header.now before)
+    ensures reads { ReadsItem H.tells (next_line uninit header.now before)
         (source H.Shelf feed.old shelf.old) (source H.Shelf feed.new shelf.new) result }
     ensures is { IfOk result (λ latch. IsLatch header.now latch) }
     ensures forward { OnOk result (feed.old.place < feed.new.place) }
 {
+    let current = 2 * (header.inputs + 1 + before);
     let next = number(feed, shelf, Limit::Used(header.max))?;
-    last_end(feed, shelf)?;
+    let reset = latch_end(feed, shelf, uninit, current)?;
     Ok(Latch {
-        current: 2 * (header.inputs + 1 + before),
+        current,
         next,
+        reset,
     })
 }
 

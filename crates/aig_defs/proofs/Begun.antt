@@ -1,11 +1,11 @@
 -- The size of what was read: at most that of the header, that of the circuit if a text that spells
 -- it was given whole, and no less if more was given.
-use Rattle.std.proofs.Common.{◌≡◌, ◌+◌, ◌*◌, ◌<◌, ◌≤◌, Bool, true, false, cond, leb, ltb, List, [], ℕ, zero, suc, min, ap, ◌∙◌, refl, arith, length}
+use Rattle.std.proofs.Common.{◌≡◌, ◌+◌, ◌*◌, ◌<◌, ◌≤◌, Bool, true, false, cond, leb, ltb, Option, List, [], ℕ, zero, suc, min, ap, ◌∙◌, refl, arith, length}
 use Rattle.std.proofs.lemmas.Bool.{lt-ltb, ltb-true, le-leb, leb-true}
 use Rattle.aig_defs.specs.declared.circuit.Header.{Header}
 use Rattle.aig_defs.specs.declared.form.Form.{Form}
 use Rattle.aig_defs.specs.declared.form.Form.TheVariants.{Ascii, Binary}
-use Rattle.aig_defs.specs.Circuit.{Circuit}
+use Rattle.aig_defs.specs.Circuit.{Circuit, columns}
 use Rattle.aig_defs.specs.Items.{Reading, Reads, Fails, Item, times}
 use Rattle.aig_defs.specs.Order.{magic, header_line, input_row, latch_row, output_row, gate_row, sections, Spells}
 use Rattle.aig_defs.specs.Begun.{counts_after, items_begun, section_size, inputs_size, sections_size, size_read, text_size, circuit_size}
@@ -45,17 +45,17 @@ gates_size form given h = section_size given 2 h.gates (gate_row form h) (λ p x
 
 abbrev outputs_size : Form → ℕ → Header → ℕ → List ℕ → ℕ
 outputs_size form given h =
-    section_size given 1 h.outputs (output_row h) (gates_size form given h)
+    section_size given 1 (columns h) (output_row h) (gates_size form given h)
 
 abbrev later_size : Form → ℕ → Header → ℕ → List ℕ → ℕ
 later_size form given h =
     section_size given 2 h.latches (latch_row form h) (outputs_size form given h)
 
 later_most : (form : Form) (given : ℕ) (h : Header) (p : ℕ) (x : List ℕ)
-    → later_size form given h p x ≤ 2 * h.latches + (1 * h.outputs + (2 * h.gates + 0))
+    → later_size form given h p x ≤ 2 * h.latches + (1 * columns h + (2 * h.gates + 0))
 later_most form given h =
-    section_most given 2 h.latches (latch_row form h) _ (1 * h.outputs + (2 * h.gates + 0))
-    (section_most given 1 h.outputs (output_row h) _ (2 * h.gates + 0)
+    section_most given 2 h.latches (latch_row form h) _ (1 * columns h + (2 * h.gates + 0))
+    (section_most given 1 (columns h) (output_row h) _ (2 * h.gates + 0)
     (section_most given 2 h.gates (gate_row form h) (λ p x. 0) 0 (λ p x. omega arith)))
 
 given_most : (test : Bool) (n : ℕ) → cond test n 0 ≤ n
@@ -64,12 +64,12 @@ given_most false n = omega arith
 
 pub sections_most : (form : Form) (given : ℕ) (h : Header) (p : ℕ) (x : List ℕ)
     → sections_size form given h p x ≤ circuit_size h
-sections_most Ascii given h p x =
-    let inputs = section_most given 1 h.inputs (input_row Ascii h) (later_size Ascii given h)
-    (2 * h.latches + (1 * h.outputs + (2 * h.gates + 0))) (later_most Ascii given h) p x in
+sections_most (Ascii u) given h p x =
+    let inputs = section_most given 1 h.inputs (input_row (Ascii u) h) (later_size (Ascii u) given h)
+    (2 * h.latches + (1 * columns h + (2 * h.gates + 0))) (later_most (Ascii u) given h) p x in
     omega (arith, inputs)
-sections_most Binary given h p x =
-    omega (arith, later_most Binary given h p x, given_most (leb p given) h.inputs)
+sections_most (Binary u) given h p x =
+    omega (arith, later_most (Binary u) given h p x, given_most (leb p given) h.inputs)
 
 -- an item that was begun and read, and those after it
 pub begun_then : {A : Type 0} (given n i : ℕ) (item : ℕ → Item A) (p q : ℕ) (x y : List ℕ) (a : A)
@@ -108,12 +108,12 @@ section_all given weight n item after f p x values q y e low =
     ∙ ap (λ r. weight * n + counts_after r (λ _. after)) e
 
 -- the inputs of the binary form take no byte
-free_inputs : (h : Header) (n i p : ℕ) (x : List ℕ) (values : List ℕ) (q : ℕ) (y : List ℕ)
-    → times n i (input_row Binary h) p x ≡ Reads values q y → (p ≡ q) × (x ≡ y)
-free_inputs h zero i p x values q y e = (cc, cc)
-free_inputs h (suc n) i p x values q y e =
-    let t = through (times n (i + 1) (input_row Binary h) p x) _ values q y e in
-    let rest = free_inputs h n (i + 1) p x t.value t.place t.left t.first in
+free_inputs : (u : Option ℕ) (h : Header) (n i p : ℕ) (x : List ℕ) (values : List ℕ) (q : ℕ) (y : List ℕ)
+    → times n i (input_row (Binary u) h) p x ≡ Reads values q y → (p ≡ q) × (x ≡ y)
+free_inputs u h zero i p x values q y e = (cc, cc)
+free_inputs u h (suc n) i p x values q y e =
+    let t = through (times n (i + 1) (input_row (Binary u) h) p x) _ values q y e in
+    let rest = free_inputs u h n (i + 1) p x t.value t.place t.left t.first in
     let place : t.place ≡ q = cc (t.after) in
     let left : t.left ≡ y = cc (t.after) in
     (rest.0 ∙ place, rest.1 ∙ left)
@@ -122,11 +122,11 @@ inputs_all : (form : Form) (given : ℕ) (h : Header) (after : ℕ → List ℕ 
     (p : ℕ) (x : List ℕ) (values : List ℕ) (q : ℕ) (y : List ℕ)
     → times h.inputs 0 (input_row form h) p x ≡ Reads values q y → q ≤ given
     → inputs_size form given h after p x ≡ h.inputs + after q y
-inputs_all Ascii given h after p x values q y e low =
-    section_all given 1 h.inputs (input_row Ascii h) after (ascii_input_takes h) p x values q y e
+inputs_all (Ascii u) given h after p x values q y e low =
+    section_all given 1 h.inputs (input_row (Ascii u) h) after (ascii_input_takes u h) p x values q y e
     low ∙ omega arith
-inputs_all Binary given h after p x values q y e low =
-    let still = free_inputs h h.inputs 0 p x values q y e in
+inputs_all (Binary u) given h after p x values q y e low =
+    let still = free_inputs u h h.inputs 0 p x values q y e in
     ap (λ p. cond (leb p given) h.inputs 0 + after p x) still.0
     ∙ ap (λ x. cond (leb q given) h.inputs 0 + after q x) still.1
     ∙ ap (λ test. cond test h.inputs 0 + after q y) (le-leb q given low)
@@ -138,8 +138,8 @@ pub sections_all : (form : Form) (given : ℕ) (h : Header) (p : ℕ) (x : List 
 sections_all form given h p x c q y r low =
     let latches = latches_take form h r.after_inputs r.left_inputs c.latches r.after_latches
     r.left_latches r.latches in
-    let outputs = outputs_take h r.after_latches r.left_latches c.outputs r.after_outputs
-    r.left_outputs r.outputs in
+    let outputs = outputs_take h r.after_latches r.left_latches c.columns r.after_outputs
+    r.left_outputs r.columns in
     let gates = gates_take form h r.after_outputs r.left_outputs c.gates r.after_gates
     r.left_gates r.gates in
     let end = tail_takes h r.after_gates r.left_gates tt q y r.tail in
@@ -149,9 +149,9 @@ sections_all form given h p x c q y r low =
     let one : r.after_inputs ≤ given = omega (arith, latches.place, two) in
     let of_gates = section_all given 2 h.gates (gate_row form h) (λ p x. 0) (gate_row_takes form h)
     r.after_outputs r.left_outputs c.gates r.after_gates r.left_gates r.gates four in
-    let of_outputs = section_all given 1 h.outputs (output_row h) (gates_size form given h)
-    (output_row_takes h) r.after_latches r.left_latches c.outputs r.after_outputs r.left_outputs
-    r.outputs three in
+    let of_outputs = section_all given 1 (columns h) (output_row h) (gates_size form given h)
+    (output_row_takes h) r.after_latches r.left_latches c.columns r.after_outputs r.left_outputs
+    r.columns three in
     let of_latches = section_all given 2 h.latches (latch_row form h) (outputs_size form given h)
     (latch_row_takes form h) r.after_inputs r.left_inputs c.latches r.after_latches r.left_latches
     r.latches two in
@@ -195,18 +195,18 @@ later_rises : (form : Form) (given more : ℕ) (h : Header) → given ≤ more �
     → later_size form given h p x ≤ later_size form more h p x
 later_rises form given more h low =
     section_rises given more 2 h.latches (latch_row form h) _ _ low
-    (section_rises given more 1 h.outputs (output_row h) _ _ low
+    (section_rises given more 1 (columns h) (output_row h) _ _ low
     (section_rises given more 2 h.gates (gate_row form h) _ _ low (λ p x. omega arith)))
 
 sections_rise : (form : Form) (given more : ℕ) (h : Header) → given ≤ more → (p : ℕ) (x : List ℕ)
     → sections_size form given h p x ≤ sections_size form more h p x
-sections_rise Ascii given more h low p x =
-    section_rises given more 1 h.inputs (input_row Ascii h) _ _ low
-    (later_rises Ascii given more h low) p x
-sections_rise Binary given more h low p x =
+sections_rise (Ascii u) given more h low p x =
+    section_rises given more 1 h.inputs (input_row (Ascii u) h) _ _ low
+    (later_rises (Ascii u) given more h low) p x
+sections_rise (Binary u) given more h low p x =
     let inputs = test_rises (leb p given) (leb p more) h.inputs h.inputs
     (λ t. le-leb p more (omega (arith, leb-true p given t))) (omega arith) in
-    omega (arith, inputs, later_rises Binary given more h low p x)
+    omega (arith, inputs, later_rises (Binary u) given more h low p x)
 
 pub size_rises : (form : Form) (given more : ℕ) → given ≤ more → (p : ℕ) (x : List ℕ)
     → size_read form given p x ≤ size_read form more p x
@@ -215,26 +215,26 @@ size_rises form given more low p x =
     (λ h. sections_rise form given more h low)
 
 -- More bytes than the text has change nothing.
-pub text_size_whole : (given : ℕ) (x : List ℕ) → length x ≤ given
-    → text_size given x ≡ text_size (length x) x
-text_size_whole given x low =
+pub text_size_whole : (u : Option ℕ) (given : ℕ) (x : List ℕ) → length x ≤ given
+    → text_size u given x ≡ text_size u (length x) x
+text_size_whole u given x low =
     let same : min given (length x) ≡ min (length x) (length x) = omega (arith, low) in
-    ap (λ k. counts_after (magic 0 x) (λ form. size_read form k)) same
+    ap (λ k. counts_after (magic u 0 x) (λ form. size_read form k)) same
 
-pub text_size_rises : (given more : ℕ) (x : List ℕ) → given ≤ more
-    → text_size given x ≤ text_size more x
-text_size_rises given more x low =
+pub text_size_rises : (u : Option ℕ) (given more : ℕ) (x : List ℕ) → given ≤ more
+    → text_size u given x ≤ text_size u more x
+text_size_rises u given more x low =
     let least : min given (length x) ≤ min more (length x) = omega (arith, low) in
-    after_rises (magic 0 x) (λ form. size_read form (min given (length x)))
+    after_rises (magic u 0 x) (λ form. size_read form (min given (length x)))
     (λ form. size_read form (min more (length x)))
     (λ form p y. size_rises form (min given (length x)) (min more (length x)) least p y)
 
 -- A text that spells a circuit has the circuit's size, once all of it was given.
-pub spelled_size : (form : Form) (x : List ℕ) (c : Circuit) (given : ℕ) → Spells form x c
-    → length x ≤ given
-    → text_size given x ≡ circuit_size c.header
-spelled_size form x c given s low =
-    let t = text_reads x form c (length x) [] s.reads in
+pub spelled_size : (u : Option ℕ) (form : Form) (x : List ℕ) (c : Circuit) (given : ℕ)
+    → Spells u form x c → length x ≤ given
+    → text_size u given x ≡ circuit_size c.header
+spelled_size u form x c given s low =
+    let t = text_reads u x form c (length x) [] s.reads in
     let h = through (header_line form t.place t.left) (sections form) c (length x) [] t.circuit in
     let r = sections_read form h.value h.place h.left c (length x) [] h.after in
     let all : length x ≤ min given (length x) = omega (arith, low) in
@@ -251,10 +251,10 @@ size_most form given p x h q y e =
     omega (arith, same, sections_most form given h q y)
 
 -- The same of a whole text: its magic and its header were read.
-pub text_size_most : (given : ℕ) (x : List ℕ) (form : Form) (p : ℕ) (y : List ℕ) (h : Header)
+pub text_size_most : (u : Option ℕ) (given : ℕ) (x : List ℕ) (form : Form) (p : ℕ) (y : List ℕ) (h : Header)
     (q : ℕ) (z : List ℕ)
-    → magic 0 x ≡ Reads form p y → header_line form p y ≡ Reads h q z
-    → text_size given x ≤ circuit_size h
-text_size_most given x form p y h q z m e =
+    → magic u 0 x ≡ Reads form p y → header_line form p y ≡ Reads h q z
+    → text_size u given x ≤ circuit_size h
+text_size_most u given x form p y h q z m e =
     let same = ap (λ r. counts_after r (λ form. size_read form (min given (length x)))) m in
     omega (arith, same, size_most form (min given (length x)) p y h q z e)

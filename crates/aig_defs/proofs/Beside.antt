@@ -135,23 +135,23 @@ output_words j (l ∷ ls) = ap (λ vs. l / 2 ∷ vs) (output_words (j + 1) ls)
 
 edge_words : (c : Circuit)
     → words (edges_in_text c)
-    ≡ variables (right_sides c.gates) ++ (variables (nexts c.latches) ++ variables c.outputs)
+    ≡ variables (right_sides c.gates) ++ (variables (nexts c.latches) ++ variables c.columns)
 edge_words c =
     let gs = flat_map operand_edges c.gates in
     let ns = numbered next_edge 0 c.latches in
-    let os = numbered output_edge 0 c.outputs in
+    let os = numbered output_edge 0 c.columns in
     let word = λ (r : Record). r.a in
     map-append word gs (ns ++ os)
     ∙ ap (λ t. t ++ words (ns ++ os)) (gate_words c.gates)
     ∙ ap (λ t. variables (right_sides c.gates) ++ t) (map-append word ns os
     ∙ ap (λ t. t ++ words os) (next_words 0 c.latches)
-    ∙ ap (λ t. variables (nexts c.latches) ++ t) (output_words 0 c.outputs))
+    ∙ ap (λ t. variables (nexts c.latches) ++ t) (output_words 0 c.columns))
 
 pub used_edge : (c : Circuit) (v : ℕ) → has (uses c) v ≡ true
     → has (words (graph_edges c)) v ≡ true
 used_edge c v h =
     let ns = variables (nexts c.latches) in
-    let os = variables c.outputs in
+    let os = variables c.columns in
     let rs = variables (right_sides c.gates) in
     let there : has (rs ++ (ns ++ os)) v ≡ true = elim (has_either ns (os ++ rs) v h) [
       | inl a ↦ has_right rs (ns ++ os) v (has_left ns os v a)
@@ -166,7 +166,7 @@ pub edge_used : (c : Circuit) (v : ℕ) → has (words (graph_edges c)) v ≡ tr
     → has (uses c) v ≡ true
 edge_used c v h =
     let ns = variables (nexts c.latches) in
-    let os = variables c.outputs in
+    let os = variables c.columns in
     let rs = variables (right_sides c.gates) in
     let there = ap (λ vs. has vs v) (sym (edge_words c)) ∙ word_order v (edges_in_text c) h in
     elim (has_either rs (ns ++ os) v there) [

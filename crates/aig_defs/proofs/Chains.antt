@@ -4,7 +4,7 @@ use Rattle.std.proofs.lemmas.List.{length-append, map-append, map-id}
 use Rattle.em_record.specs.declared.record.Record.{Record}
 use Rattle.aig_defs.specs.declared.circuit.Latch.{Latch}
 use Rattle.aig_defs.specs.declared.circuit.Gate.{Gate}
-use Rattle.aig_defs.specs.Circuit.{Circuit, variables, currents, HasLengths}
+use Rattle.aig_defs.specs.Circuit.{Circuit, variables, currents, HasLengths, columns}
 use Rattle.aig_defs.specs.Chains.{numbered, input_def, latch_def, gate_def, gate_record, latch_use, output_use, defs_of, gates_of, uses_of}
 use Rattle.aig_defs.specs.Founded.{gate_variables}
 use Rattle.aig_defs.specs.Faults.{definitions}
@@ -50,12 +50,12 @@ pub gates_count : (c : Circuit) → HasLengths c → length (gates_of c) ≡ c.h
 gates_count c l = length_numbered gate_record 0 c.gates ∙ l.gates
 
 pub uses_count : (c : Circuit) → HasLengths c
-    → length (uses_of c) ≡ c.header.latches + c.header.outputs
+    → length (uses_of c) ≡ c.header.latches + columns c.header
 uses_count c l =
-    let both = length-append (numbered latch_use 0 c.latches) (numbered output_use 0 c.outputs) in
+    let both = length-append (numbered latch_use 0 c.latches) (numbered output_use 0 c.columns) in
     let a = length_numbered latch_use 0 c.latches in
-    let b = length_numbered output_use 0 c.outputs in
-    omega (arith, both, a, b, l.latches, l.outputs)
+    let b = length_numbered output_use 0 c.columns in
+    omega (arith, both, a, b, l.latches, l.columns)
 
 -- the word a of a definition is its variable
 pub defs_words : {A : Type 0} (record_of : ℕ → A → Record) (literal : A → ℕ) (j : ℕ) (section : List A)

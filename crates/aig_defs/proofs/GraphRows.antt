@@ -56,10 +56,10 @@ toggle_ordered = refl
 -- ranks.
 abbrev pub both_use : Circuit
 both_use = record {
-  header = record { max = 2; inputs = 1; latches = 0; outputs = 1; gates = 1 };
+  header = record { max = 2; inputs = 1; latches = 0; outputs = 1; gates = 1; bads = 0; constraints = 0 };
   inputs = 2 ∷ [];
   latches = [];
-  outputs = 2 ∷ [];
+  columns = 2 ∷ [];
   gates = record { lhs = 4; rhs0 = 2; rhs1 = 3 } ∷ [];
 }
 

@@ -14,7 +14,7 @@ use Rattle.em_record.proofs.Lacking.{lacks_order, lacks_without, lacks_with}
 use Rattle.em_record.proofs.Order.{length_order}
 use Rattle.aig_defs.specs.declared.circuit.Latch.{Latch}
 use Rattle.aig_defs.specs.declared.circuit.Gate.{Gate}
-use Rattle.aig_defs.specs.Circuit.{Circuit, HasLengths}
+use Rattle.aig_defs.specs.Circuit.{Circuit, HasLengths, columns}
 use Rattle.aig_defs.specs.Chains.{numbered, gate_record, latch_use, output_use, gates_of, uses_of}
 use Rattle.aig_defs.specs.Graph.{graph_edge, operand_edges, next_edge, output_edge, edges_in_text, gate_edge0, gate_edge1, use_edge, graph_edges, AllLack}
 use Rattle.aig_defs.proofs.Chains.{length_numbered}
@@ -44,10 +44,10 @@ pub edges_by_records : (c : Circuit)
     ++ map use_edge (uses_of c)
 edges_by_records c =
     let ns = numbered latch_use 0 c.latches in
-    let os = numbered output_use 0 c.outputs in
+    let os = numbered output_use 0 c.columns in
     let gs = flat_map operand_edges c.gates in
-    ap (λ t. gs ++ (t ++ numbered output_edge 0 c.outputs)) (nexts_by_records 0 c.latches)
-    ∙ ap (λ t. gs ++ (map use_edge ns ++ t)) (outputs_by_records 0 c.outputs)
+    ap (λ t. gs ++ (t ++ numbered output_edge 0 c.columns)) (nexts_by_records 0 c.latches)
+    ∙ ap (λ t. gs ++ (map use_edge ns ++ t)) (outputs_by_records 0 c.columns)
     ∙ ap (λ t. gs ++ t) (sym (map-append use_edge ns os))
     ∙ ap (λ t. t ++ map use_edge (ns ++ os)) (gates_by_records 0 c.gates)
 
@@ -57,13 +57,13 @@ operands_count [] = refl
 operands_count (g ∷ gs) = omega (arith, operands_count gs)
 
 pub edges_count : (c : Circuit) → HasLengths c
-    → length (edges_in_text c) ≡ 2 * c.header.gates + c.header.latches + c.header.outputs
+    → length (edges_in_text c) ≡ 2 * c.header.gates + c.header.latches + columns c.header
 edges_count c l =
     let gs = flat_map operand_edges c.gates in
     let ns = numbered next_edge 0 c.latches in
-    let os = numbered output_edge 0 c.outputs in
+    let os = numbered output_edge 0 c.columns in
     let latches = length_numbered next_edge 0 c.latches in
-    let outputs = length_numbered output_edge 0 c.outputs in
+    let outputs = length_numbered output_edge 0 c.columns in
     omega (
       arith,
       length-append gs (ns ++ os),
@@ -72,12 +72,12 @@ edges_count c l =
       latches,
       outputs,
       l.latches,
-      l.outputs,
+      l.columns,
       l.gates,
     )
 
 pub graph_edges_count : (c : Circuit) → HasLengths c
-    → length (graph_edges c) ≡ 2 * c.header.gates + c.header.latches + c.header.outputs
+    → length (graph_edges c) ≡ 2 * c.header.gates + c.header.latches + columns c.header
 graph_edges_count c l = length_order (edges_in_text c) ∙ edges_count c l
 
 -- no two of some records have the same words a and b

@@ -8,6 +8,7 @@ pub mod EitherText
 pub mod Equations
 pub mod Faults
 pub mod Founding
+pub mod FurtherRows
 pub mod GraphRows
 pub mod Graphs
 pub mod Items

@@ -67,41 +67,41 @@ half_adder_faultless : circuit_fault half_adder ≡ None
 half_adder_faultless = refl
 
 -- a text with no fault, and one that breaks before its circuit's faults count
-and_gate_text_faultless : text_fault and_gate_text ≡ None
+and_gate_text_faultless : text_fault None and_gate_text ≡ None
 and_gate_text_faultless = refl
 
-broken_first : text_fault (codes "aag 2 2 0 1 0\n2\n2\n4\n3") ≡ Some (Extra, 20)
+broken_first : text_fault None (codes "aag 2 2 0 1 0\n2\n2\n4\n3") ≡ Some (Extra, 20)
 broken_first = refl
 
 -- variable 3 is defined twice, and variable 5 isn't defined: Twice comes first
-twice_first : text_fault (codes "aag 5 1 0 1 2\n2\n6\n6 2 10\n6 2 2\n") ≡ Some (Twice, 3)
+twice_first : text_fault None (codes "aag 5 1 0 1 2\n2\n6\n6 2 10\n6 2 2\n") ≡ Some (Twice, 3)
 twice_first = refl
 
-undefined_operand : text_fault (codes "aag 5 1 0 1 1\n2\n6\n6 2 10\n") ≡ Some (Undefined, 5)
+undefined_operand : text_fault None (codes "aag 5 1 0 1 1\n2\n6\n6 2 10\n") ≡ Some (Undefined, 5)
 undefined_operand = refl
 
 -- gates 3 and 4 lie on a cycle, and gate 2 depends on it
-three_cyclic : text_fault (codes "aag 4 1 0 1 3\n2\n4\n4 2 6\n6 2 8\n8 2 6\n") ≡ Some (Cyclic, 2)
+three_cyclic : text_fault None (codes "aag 4 1 0 1 3\n2\n4\n4 2 6\n6 2 8\n8 2 6\n") ≡ Some (Cyclic, 2)
 three_cyclic = refl
 
 -- each comes with its least variable, wherever it stands
-twice_least : text_fault (codes "aag 5 2 1 0 2\n4\n2\n2 2\n4 2 2\n6 2 2\n") ≡ Some (Twice, 1)
+twice_least : text_fault None (codes "aag 5 2 1 0 2\n4\n2\n2 2\n4 2 2\n6 2 2\n") ≡ Some (Twice, 1)
 twice_least = refl
 
-undefined_least : text_fault (codes "aag 5 0 1 2 0\n2 10\n6\n8\n") ≡ Some (Undefined, 3)
+undefined_least : text_fault None (codes "aag 5 0 1 2 0\n2 10\n6\n8\n") ≡ Some (Undefined, 3)
 undefined_least = refl
 
 -- gate 1 only depends on the cycle of gates 2 and 3
-cyclic_least : text_fault (codes "aag 3 0 0 0 3\n6 4 4\n4 6 6\n2 4 4\n") ≡ Some (Cyclic, 1)
+cyclic_least : text_fault None (codes "aag 3 0 0 0 3\n6 4 4\n4 6 6\n2 4 4\n") ≡ Some (Cyclic, 1)
 cyclic_least = refl
 
-own_operand : text_fault (codes "aag 1 0 0 0 1\n2 2 2\n") ≡ Some (Cyclic, 1)
+own_operand : text_fault None (codes "aag 1 0 0 0 1\n2 2 2\n") ≡ Some (Cyclic, 1)
 own_operand = refl
 
 -- Undefined comes before Cyclic
-undefined_before_cyclic : text_fault (codes "aag 2 0 0 0 1\n2 2 4\n") ≡ Some (Undefined, 2)
+undefined_before_cyclic : text_fault None (codes "aag 2 0 0 0 1\n2 2 4\n") ≡ Some (Undefined, 2)
 undefined_before_cyclic = refl
 
 -- a cycle over a latch is none, and constants are defined
-latch_cycle : text_fault (codes "aag 2 0 1 2 1\n2 4\n0\n1\n4 2 1\n") ≡ None
+latch_cycle : text_fault None (codes "aag 2 0 1 2 1\n2 4\n0\n1\n4 2 1\n") ≡ None
 latch_cycle = refl

@@ -22,20 +22,20 @@ use Rattle.aig_defs.proofs.TextRows.{and_gate, toggle, half_adder_text, binary_a
 -- gate 4 stands before gate 3, which it uses
 abbrev pub late_line : Circuit
 late_line = record {
-  header = record { max = 4; inputs = 2; latches = 0; outputs = 1; gates = 2 };
+  header = record { max = 4; inputs = 2; latches = 0; outputs = 1; gates = 2; bads = 0; constraints = 0 };
   inputs = 2 ∷ 4 ∷ [];
   latches = [];
-  outputs = 8 ∷ [];
+  columns = 8 ∷ [];
   gates = record { lhs = 8; rhs0 = 6; rhs1 = 2 } ∷ record { lhs = 6; rhs0 = 2; rhs1 = 4 } ∷ [];
 }
 
 abbrev pub late_line_text : List ℕ
 late_line_text = codes "aag 4 2 0 1 2\n2\n4\n8\n8 6 2\n6 2 4\n"
 
-late_line_spelled : Spells Ascii late_line_text late_line
+late_line_spelled : Spells None (Ascii None) late_line_text late_line
 late_line_spelled = record { reads = refl }
 
-late_line_none : text_fault late_line_text ≡ None
+late_line_none : text_fault None late_line_text ≡ None
 late_line_none = refl
 
 late_line_passes : passes_of late_line ≡ 1
@@ -46,46 +46,46 @@ late_line_run : run_of late_line all_pairs
 late_line_run = refl
 
 -- gate 3 of the half adder has the operands 6 and 7, which are greater gates
-half_adder_text_none : text_fault half_adder_text ≡ None
+half_adder_text_none : text_fault None half_adder_text ≡ None
 half_adder_text_none = refl
 
 -- the least, wherever it stands: gates 3 and 2 are their own operands
-cyclic_operands : text_fault (codes "aag 3 0 0 0 3\n6 6 0\n4 4 0\n2 0 1\n") ≡ Some (Cyclic, 2)
+cyclic_operands : text_fault None (codes "aag 3 0 0 0 3\n6 6 0\n4 4 0\n2 0 1\n") ≡ Some (Cyclic, 2)
 cyclic_operands = refl
 
 -- gate 1 uses the greater gate 2, negated, as its second operand
-greater_gate : text_fault (codes "aag 2 0 0 0 2\n2 0 5\n4 1 1\n") ≡ None
+greater_gate : text_fault None (codes "aag 2 0 0 0 2\n2 0 5\n4 1 1\n") ≡ None
 greater_gate = refl
 
 -- the second operand counts, and so does a negated one: gates 1 and 2 use each other
-second_operand : text_fault (codes "aag 2 0 0 0 2\n2 0 5\n4 1 3\n") ≡ Some (Cyclic, 1)
+second_operand : text_fault None (codes "aag 2 0 0 0 2\n2 0 5\n4 1 3\n") ≡ Some (Cyclic, 1)
 second_operand = refl
 
 -- an input or a latch may have a greater variable than the gate that uses it
-greater_input : text_fault (codes "aag 2 1 0 1 1\n4\n2\n2 4 4\n") ≡ None
+greater_input : text_fault None (codes "aag 2 1 0 1 1\n4\n2\n2 4 4\n") ≡ None
 greater_input = refl
 
-greater_latch : text_fault (codes "aag 2 0 1 1 1\n4 2\n2\n2 4 5\n") ≡ None
+greater_latch : text_fault None (codes "aag 2 0 1 1 1\n4 2\n2\n2 4 5\n") ≡ None
 greater_latch = refl
 
 -- inputs in another order, and variables between that nothing defines
-other_order : text_fault (codes "aag 9 2 0 0 0\n18\n4\n") ≡ None
+other_order : text_fault None (codes "aag 9 2 0 0 0\n18\n4\n") ≡ None
 other_order = refl
 
 -- a fault of the text comes first, and a text in the binary form has no other
-text_first : text_fault (codes "aag 2 2 0 0 0\n2\n2\na0 x\n") ≡ Some (Extra, 18)
+text_first : text_fault None (codes "aag 2 2 0 0 0\n2\n2\na0 x\n") ≡ Some (Extra, 18)
 text_first = refl
 
-binary_none : text_fault binary_adder_text ≡ None
+binary_none : text_fault None binary_adder_text ≡ None
 binary_none = refl
 
 -- The second input has a lesser variable than the first, and the gate's is between them.
 abbrev crossed : Circuit
 crossed = record {
-  header = record { max = 3; inputs = 2; latches = 0; outputs = 1; gates = 1 };
+  header = record { max = 3; inputs = 2; latches = 0; outputs = 1; gates = 1; bads = 0; constraints = 0 };
   inputs = 6 ∷ 2 ∷ [];
   latches = [];
-  outputs = 4 ∷ [];
+  columns = 4 ∷ [];
   gates = record { lhs = 4; rhs0 = 6; rhs1 = 3 } ∷ [];
 }
 

@@ -1,22 +1,22 @@
 -- Where a fault of a text comes from, and that its place is in the text or at its end.
 use Rattle.std.proofs.Common.{◌≡◌, ◌≢◌, ◌+◌, ◌-◌, ◌*◌, ◌^◌, ◌<◌, ◌≤◌, Bool, true, false, cond, leb, ltb, eqb, ◌&&◌, List, [], ◌∷◌, ℕ, zero, suc, min, sym, ap, ◌∙◌, refl, arith, length, drop, Option, Some, None}
-use Rattle.std.specs.Prelude.{nat_eq}
+use Rattle.std.specs.Prelude.{nat_eq, is_some}
 use Rattle.std.specs.Str.Parse.{digits_value}
 use Rattle.std.proofs.lemmas.Bool.{leb-true, leb-false, ltb-true, and_parts}
 use Rattle.std.proofs.lemmas.List.{length-append}
 use Rattle.aig_defs.specs.declared.fault.AigKind.{AigKind}
-use Rattle.aig_defs.specs.declared.fault.AigKind.TheVariants.{BadMagic, BadNumber, TooLarge, BadSeparator, BadCounts, LiteralRange, OddDefinition, BadDelta, Short, BadSymbol, Extra, Extension, TooLong}
+use Rattle.aig_defs.specs.declared.fault.AigKind.TheVariants.{BadMagic, BadNumber, TooLarge, BadSeparator, BadCounts, LiteralRange, OddDefinition, BadDelta, Short, BadSymbol, Extra, Extension, TooLong, Uninit, BadReset}
 use Rattle.aig_defs.specs.declared.circuit.Header.{Header}
 use Rattle.aig_defs.specs.declared.form.Form.{Form}
 use Rattle.aig_defs.specs.declared.form.Form.TheVariants.{Ascii, Binary}
 use Rattle.aig_defs.specs.declared.form.Limit.{Limit}
-use Rattle.aig_defs.specs.declared.form.Limit.TheVariants.{Count, Defining, Used, Position}
-use Rattle.aig_defs.specs.Circuit.{Circuit}
-use Rattle.aig_defs.specs.Items.{Reading, Reads, Fails, Item, fails, and_then, ◌>>=◌, ◌>>◌, times, look, take_byte, space_at, space, end_at, line_end, last_end, digits, looks_too_far, no_number, number_fault, number_by, number, delta_at, delta_bytes, delta}
-use Rattle.aig_defs.specs.Order.{magic, header_number, header_line, literal_line, latch_line, next_line, gate_line, gate_deltas, input_row, latch_row, output_row, gate_row, sections, after_magic, Breaks}
+use Rattle.aig_defs.specs.declared.form.Limit.TheVariants.{Count, Defining, Used, Position, NoJustice, NoFairness, Reset}
+use Rattle.aig_defs.specs.Circuit.{Circuit, columns}
+use Rattle.aig_defs.specs.Items.{Reading, Reads, Fails, Item, fails, and_then, ◌>>=◌, ◌>>◌, times, look, take_byte, space_at, space, end_at, line_end, last_end, goes_on_at, goes_on, if_more, digits, looks_too_far, no_number, number_fault, number_by, number, delta_at, delta_bytes, delta}
+use Rattle.aig_defs.specs.Order.{magic, header_number, with_further, fairness, justice, constraints, bads, further, starts, reset, latch_end, header_line, literal_line, latch_line, next_line, gate_line, gate_deltas, input_row, latch_row, output_row, gate_row, sections, after_magic, Breaks}
 use Rattle.aig_defs.specs.Tail.{name, comment, symbol, positions, symbol_line, tail_line_at, tail_line, go_on, tail_lines, tail}
 use Rattle.aig_defs.proofs.Items.{Piece, TakesPieces, pieces_of, piece_byte, through, takes_then, space_takes, number_takes, times_take}
-use Rattle.aig_defs.proofs.Order.{header_number_takes, counted_takes, last_end_takes, line_end_takes, header_takes, used_takes, delta_takes, input_row_takes, latch_row_takes, output_row_takes, gate_row_takes, inputs_take, latches_take, outputs_take, gates_take, circuit_of, magic_piece}
+use Rattle.aig_defs.proofs.Order.{header_number_takes, goes_on_takes, if_more_takes, justice_takes, further_takes, latch_end_takes, counted_takes, last_end_takes, line_end_takes, header_takes, used_takes, delta_takes, input_row_takes, latch_row_takes, output_row_takes, gate_row_takes, inputs_take, latches_take, outputs_take, gates_take, circuit_of, magic_piece}
 use Rattle.aig_defs.proofs.Tail.{comment_takes, symbol_takes, tail_line_takes, tail_takes}
 
 -- where a fault of an item and the next one comes from
@@ -154,6 +154,28 @@ last_end_near : (low : ℕ) → FaultsNear low last_end
 last_end_near low = end_near low (λ byte. cond (nat_eq byte 32) Extension BadSeparator)
     (λ byte. separator_by (nat_eq byte 32))
 
+-- whether a line goes on, and its rest if it does
+goes_on_by : (ends on : Bool) (p byte : ℕ) (x : List ℕ) (kind : AigKind) (place : ℕ)
+    → p < 2 ^ 50
+    → cond ends ((take_byte >> Reads false) p (byte ∷ x))
+    (cond on ((take_byte >> Reads true) p (byte ∷ x)) (Fails BadSeparator p)) ≡ Fails kind place
+    → FaultAt p (byte ∷ x) kind place
+goes_on_by true on p byte x kind place low e = cc
+goes_on_by false true p byte x kind place low e = cc
+goes_on_by false false p byte x kind place low e = fault_as p (byte ∷ x) BadSeparator kind p place
+    (fault_here p (byte ∷ x) BadSeparator (omega arith) (λ e. cc)) e
+
+goes_on_near : (low : ℕ) → FaultsNear low goes_on
+goes_on_near low = look_near low goes_on_at (λ p kind place near e. cc)
+    (λ p byte x kind place le lt e.
+    goes_on_by (eqb byte 10) (eqb byte 32) p byte x kind place lt e)
+
+if_more_near : {A : Type 0} (low : ℕ) (end : A) {rest : Item A} → FaultsNear low rest → (on : Bool)
+    → FaultsNear low (if_more end rest on)
+if_more_near low end f true p x kind place le near e = f p x kind place le near e
+if_more_near low end f false p x kind place le near e =
+    value_near low end p x kind place le near e
+
 -- what is wrong with a number's value isn't TooLong
 abbrev NotFar : Option AigKind → Type 0
 NotFar None = Unit {0}
@@ -177,11 +199,27 @@ defining_by true bad = λ e. cc
 defining_by false true = λ e. cc
 defining_by false false = tt
 
+zero_by : (over none : Bool) {kind : AigKind} → kind ≢ TooLong
+    → NotFar (cond over (Some TooLarge) (cond none None (Some kind)))
+zero_by true none f = λ e. cc
+zero_by false true f = tt
+zero_by false false f = f
+
+reset_by : (small own given : Bool)
+    → NotFar (cond small None (cond own (cond given None (Some Uninit)) (Some BadReset)))
+reset_by true own given = tt
+reset_by false true true = tt
+reset_by false true false = λ e. cc
+reset_by false false given = λ e. cc
+
 value_not_far : (limit : Limit) (v : ℕ) → NotFar (number_fault limit v)
 value_not_far Count v = count_by _
 value_not_far (Defining max) v = defining_by _ _
 value_not_far (Used max) v = used_by _
 value_not_far (Position n) v = position_by _
+value_not_far NoJustice v = zero_by _ _ (λ e. cc)
+value_not_far NoFairness v = zero_by _ _ (λ e. cc)
+value_not_far (Reset own given) v = reset_by _ _ given
 
 value_by : (fault : Option AigKind) (p : ℕ) (x : List ℕ) (kind : AigKind) (place : ℕ)
     → NotFar fault → p ≤ 2 ^ 50 → number_by fault (digits x) p x ≡ Fails kind place
@@ -289,6 +327,33 @@ times_near low (suc n) i item t f p x kind place le near e =
 header_number_near : (low : ℕ) → FaultsNear low header_number
 header_number_near low = near_then space_takes (space_near low) (λ _. number_near low Count)
 
+-- the further numbers
+fairness_near : (low : ℕ) → FaultsNear low fairness
+fairness_near low = near_then (pieces_of (number_takes NoFairness)) (number_near low NoFairness)
+    (λ _. last_end_near low)
+
+justice_near : (low : ℕ) → FaultsNear low justice
+justice_near low =
+    near_then (takes_then (pieces_of (number_takes NoJustice)) (λ _. goes_on_takes))
+    (near_then (pieces_of (number_takes NoJustice)) (number_near low NoJustice)
+    (λ _. goes_on_near low)) (if_more_near low tt (fairness_near low))
+
+constraints_near : (low b : ℕ) → FaultsNear low (constraints b)
+constraints_near low b =
+    near_then (pieces_of (number_takes Count)) (number_near low Count) (λ c.
+    near_then goes_on_takes (goes_on_near low) (λ on.
+    near_then (if_more_takes tt justice_takes on) (if_more_near low tt (justice_near low) on) (λ _.
+    value_near low (b, c))))
+
+bads_near : (low : ℕ) → FaultsNear low bads
+bads_near low =
+    near_then (pieces_of (number_takes Count)) (number_near low Count) (λ b.
+    near_then goes_on_takes (goes_on_near low) (if_more_near low (b, 0) (constraints_near low b)))
+
+further_near : (low : ℕ) → FaultsNear low further
+further_near low =
+    near_then goes_on_takes (goes_on_near low) (if_more_near low (0, 0) (bads_near low))
+
 counted_near : (fit : Bool) (h : Header) → FaultsNear 4 (cond fit (Reads h) (fails BadCounts 4))
 counted_near true h p x kind place le near e = cc
 counted_near false h p x kind place le near e =
@@ -322,7 +387,7 @@ header_near form p x kind place le near e =
     near_then header_number_takes (header_number_near 4) (λ o.
     near_then header_number_takes (header_number_near 4) (λ a.
     near_then (counted_takes _ _ _ _) (counted_near _ _) (λ h.
-    near_then last_end_takes (last_end_near 4) (λ _. value_near 4 h)))))))
+    near_then further_takes (further_near 4) (λ f. value_near 4 (with_further h f))))))))
     p x kind place le near (fails_cases (header_number p x) _ kind place e)
 
 -- the rows
@@ -331,20 +396,31 @@ literal_line_near low limit =
     near_then (pieces_of (number_takes limit)) (number_near low limit) (λ literal.
     near_then line_end_takes (line_end_near low) (λ _. value_near low literal))
 
-latch_line_near : (low : ℕ) (h : Header) → FaultsNear low (latch_line h)
-latch_line_near low h =
+reset_near : (low : ℕ) (u : Option ℕ) (own : ℕ) → FaultsNear low (reset u own)
+reset_near low u own =
+    near_then (pieces_of (number_takes (Reset own (is_some u))))
+    (number_near low (Reset own (is_some u))) (λ value.
+    near_then last_end_takes (last_end_near low) (λ _. value_near low (starts u own value)))
+
+latch_end_near : (low : ℕ) (u : Option ℕ) (own : ℕ) → FaultsNear low (latch_end u own)
+latch_end_near low u own =
+    near_then goes_on_takes (goes_on_near low) (if_more_near low false (reset_near low u own))
+
+latch_line_near : (low : ℕ) (u : Option ℕ) (h : Header) → FaultsNear low (latch_line u h)
+latch_line_near low u h =
     near_then (pieces_of (number_takes (Defining h.max))) (number_near low (Defining h.max))
     (λ current.
     near_then space_takes (space_near low) (λ _.
     near_then (used_takes h) (number_near low (Used h.max)) (λ next.
-    near_then last_end_takes (last_end_near low) (λ _.
-    value_near low (record { current = current; next = next })))))
+    near_then (latch_end_takes u current) (latch_end_near low u current) (λ reset.
+    value_near low (record { current = current; next = next; reset = reset })))))
 
-next_line_near : (low : ℕ) (h : Header) (j : ℕ) → FaultsNear low (next_line h j)
-next_line_near low h j =
+next_line_near : (low : ℕ) (u : Option ℕ) (h : Header) (j : ℕ) → FaultsNear low (next_line u h j)
+next_line_near low u h j =
+    let own = 2 * (h.inputs + 1 + j) in
     near_then (used_takes h) (number_near low (Used h.max)) (λ next.
-    near_then last_end_takes (last_end_near low) (λ _.
-    value_near low (record { current = 2 * (h.inputs + 1 + j); next = next })))
+    near_then (latch_end_takes u own) (latch_end_near low u own) (λ reset.
+    value_near low (record { current = own; next = next; reset = reset })))
 
 gate_line_near : (low : ℕ) (h : Header) → FaultsNear low (gate_line h)
 gate_line_near low h =
@@ -365,16 +441,16 @@ gate_deltas_near low h i =
     value_near low (record { lhs = lhs; rhs0 = lhs - delta0; rhs1 = lhs - delta0 - delta1 })))
 
 input_row_near : (low : ℕ) (form : Form) (h : Header) (i : ℕ) → FaultsNear low (input_row form h i)
-input_row_near low Ascii h i = literal_line_near low (Defining h.max)
-input_row_near low Binary h i = value_near low (2 * (i + 1))
+input_row_near low (Ascii u) h i = literal_line_near low (Defining h.max)
+input_row_near low (Binary u) h i = value_near low (2 * (i + 1))
 
 latch_row_near : (low : ℕ) (form : Form) (h : Header) (j : ℕ) → FaultsNear low (latch_row form h j)
-latch_row_near low Ascii h j = latch_line_near low h
-latch_row_near low Binary h j = next_line_near low h j
+latch_row_near low (Ascii u) h j = latch_line_near low u h
+latch_row_near low (Binary u) h j = next_line_near low u h j
 
 gate_row_near : (low : ℕ) (form : Form) (h : Header) (i : ℕ) → FaultsNear low (gate_row form h i)
-gate_row_near low Ascii h i = gate_line_near low h
-gate_row_near low Binary h i = gate_deltas_near low h i
+gate_row_near low (Ascii u) h i = gate_line_near low h
+gate_row_near low (Binary u) h i = gate_deltas_near low h i
 
 -- a byte that is passed over, and then the bytes after it
 pass_by : (far last : Bool) (more : Reading (Unit {0})) (p byte : ℕ) (x : List ℕ) (kind : AigKind)
@@ -459,7 +535,7 @@ sections_near low form h =
     (times_near low h.latches 0 (latch_row form h) (λ j. pieces_of (latch_row_takes form h j))
     (latch_row_near low form h)) (λ latches.
     near_then (outputs_take h)
-    (times_near low h.outputs 0 (output_row h) (λ j. pieces_of (output_row_takes h j))
+    (times_near low (columns h) 0 (output_row h) (λ j. pieces_of (output_row_takes h j))
     (λ j. literal_line_near low (Used h.max))) (λ outputs.
     near_then (gates_take form h)
     (times_near low h.gates 0 (gate_row form h) (λ i. pieces_of (gate_row_takes form h i))
@@ -471,21 +547,21 @@ after_magic_near : (form : Form) → FaultsNear 3 (after_magic form)
 after_magic_near form = near_then (header_takes form) (header_near form) (sections_near 3 form)
 
 -- the magic
-magic_ends : (ascii binary : Bool) (x : List ℕ) (form : Form) (q : ℕ) (y : List ℕ)
-    → cond ascii (Reads Ascii (0 + 3) (drop 3 x))
-    (cond binary (Reads Binary (0 + 3) (drop 3 x)) (Fails BadMagic 0)) ≡ Reads form q y
+magic_ends : (u : Option ℕ) (ascii binary : Bool) (x : List ℕ) (form : Form) (q : ℕ) (y : List ℕ)
+    → cond ascii (Reads (Ascii u) (0 + 3) (drop 3 x))
+    (cond binary (Reads (Binary u) (0 + 3) (drop 3 x)) (Fails BadMagic 0)) ≡ Reads form q y
     → 3 ≡ q
-magic_ends true binary x form q y e = cc
-magic_ends false true x form q y e = cc
-magic_ends false false x form q y e = cc
+magic_ends u true binary x form q y e = cc
+magic_ends u false true x form q y e = cc
+magic_ends u false false x form q y e = cc
 
-magic_near : (ascii binary : Bool) (x : List ℕ) (kind : AigKind) (place : ℕ)
-    → cond ascii (Reads Ascii (0 + 3) (drop 3 x))
-    (cond binary (Reads Binary (0 + 3) (drop 3 x)) (Fails BadMagic 0)) ≡ Fails kind place
+magic_near : (u : Option ℕ) (ascii binary : Bool) (x : List ℕ) (kind : AigKind) (place : ℕ)
+    → cond ascii (Reads (Ascii u) (0 + 3) (drop 3 x))
+    (cond binary (Reads (Binary u) (0 + 3) (drop 3 x)) (Fails BadMagic 0)) ≡ Fails kind place
     → FaultAt 0 x kind place
-magic_near true binary x kind place e = cc
-magic_near false true x kind place e = cc
-magic_near false false x kind place e = fault_as 0 x BadMagic kind 0 place
+magic_near u true binary x kind place e = cc
+magic_near u false true x kind place e = cc
+magic_near u false false x kind place e = fault_as 0 x BadMagic kind 0 place
     (fault_here 0 x BadMagic (omega arith) (λ e. cc)) e
 
 circuit_near : (form : Form) (p : ℕ) (x : List ℕ) (kind : AigKind) (place : ℕ) → 3 ≡ p
@@ -495,21 +571,21 @@ circuit_near form p x kind place three (at_first e) =
     after_magic_near form p x kind place (omega (arith, three)) (omega (arith, three)) e
 circuit_near form p x kind place three (at_next c q y e d) = cc
 
-text_near : (x : List ℕ) (kind : AigKind) (place : ℕ)
-    → FailsAt {B = Form × Circuit} (magic 0 x)
+text_near : (u : Option ℕ) (x : List ℕ) (kind : AigKind) (place : ℕ)
+    → FailsAt {B = Form × Circuit} (magic u 0 x)
     (λ form. after_magic form >>= λ c. Reads (form, c)) kind place
     → FaultAt 0 x kind place
-text_near x kind place (at_first e) = magic_near _ _ x kind place e
-text_near x kind place (at_next form p y e d) =
-    fault_after kind place (magic_piece x form p y e)
-    (circuit_near form p y kind place (magic_ends _ _ x form p y e)
+text_near u x kind place (at_first e) = magic_near u _ _ x kind place e
+text_near u x kind place (at_next form p y e d) =
+    fault_after kind place (magic_piece u x form p y e)
+    (circuit_near form p y kind place (magic_ends u _ _ x form p y e)
     (fails_cases {B = Form × Circuit} (after_magic form p y) (λ c. Reads (form, c)) kind place d))
 
 -- If a text breaks, its place is in the text or at its end, and at most 2^50; that of TooLong is
 -- 2^50.
-pub break_place : (x : List ℕ) (kind : AigKind) (place : ℕ) → Breaks x kind place
+pub break_place : (u : Option ℕ) (x : List ℕ) (kind : AigKind) (place : ℕ) → Breaks u x kind place
     → FaultAt 0 x kind place
-break_place x kind place b =
-    text_near x kind place
-    (fails_cases {B = Form × Circuit} (magic 0 x)
+break_place u x kind place b =
+    text_near u x kind place
+    (fails_cases {B = Form × Circuit} (magic u 0 x)
     (λ form. after_magic form >>= λ c. Reads (form, c)) kind place b.fails)

@@ -8,7 +8,7 @@ use Rattle.em_record.specs.Order.{IsAscending}
 use Rattle.em_record.proofs.Order.{order_ascends, length_order}
 use Rattle.aig_defs.specs.declared.circuit.Latch.{Latch}
 use Rattle.aig_defs.specs.declared.circuit.Gate.{Gate}
-use Rattle.aig_defs.specs.Circuit.{Circuit, variables, currents, nexts, left_sides, HasLengths, IsDefining, IsLatch, IsGate}
+use Rattle.aig_defs.specs.Circuit.{Circuit, variables, currents, nexts, left_sides, HasLengths, IsDefining, IsLatch, IsGate, columns}
 use Rattle.aig_defs.specs.Edges.{heard, arity, LeadOn}
 use Rattle.aig_defs.specs.Founded.{has}
 use Rattle.aig_defs.specs.Ranks.{given_literals, ranked, ends, first_gate_rank, first_end_rank, rank_count, index, rank_edge, gate_rank_edges, end_rank_edges, edges_by_rank, ordered_edges, IsDefinedBy, AllFollow, IsOrder}
@@ -18,12 +18,12 @@ use Rattle.aig_defs.proofs.Members.{has_cases, has_left, contains_first, contain
 -- How many ranks there are, by the numbers of the header.
 pub record RankNumbers (c : Circuit) (order : List Gate) : Type 0 where
   pub gates : length order ≡ c.header.gates
-  pub ends : length (ends c) ≡ c.header.latches + c.header.outputs
+  pub ends : length (ends c) ≡ c.header.latches + columns c.header
   pub first_gate : first_gate_rank c ≡ 1 + c.header.inputs + c.header.latches
   pub first_end : first_end_rank c order
       ≡ 1 + c.header.inputs + c.header.latches + c.header.gates
   pub count : rank_count c order
-      ≡ 1 + c.header.inputs + 2 * c.header.latches + c.header.gates + c.header.outputs
+      ≡ 1 + c.header.inputs + 2 * c.header.latches + c.header.gates + columns c.header
 
 pub rank_numbers : (c : Circuit) (order : List Gate) → HasLengths c
     → length order ≡ length c.gates → RankNumbers c order
@@ -31,10 +31,10 @@ rank_numbers c order l same =
     let latches = length-map c.latches (λ (d : Latch). d.current) in
     let later = length-map c.latches (λ (d : Latch). d.next) in
     let given = length-append c.inputs (currents c.latches) in
-    let last = length-append (nexts c.latches) c.outputs in
+    let last = length-append (nexts c.latches) c.columns in
     record {
       gates = omega (arith, same, l.gates);
-      ends = omega (arith, last, later, l.latches, l.outputs);
+      ends = omega (arith, last, later, l.latches, l.columns);
       first_gate = omega (arith, given, latches, l.inputs, l.latches);
       first_end = omega (arith, given, latches, l.inputs, l.latches, same, l.gates);
       count = omega (
@@ -47,7 +47,7 @@ rank_numbers c order l same =
         l.gates,
         last,
         later,
-        l.outputs,
+        l.columns,
       );
     }
 
@@ -71,7 +71,7 @@ end_edges_count from t (l ∷ ls) = omega (arith, end_edges_count from (t + 1) l
 pub ordered_count : (c : Circuit) (order : List Gate) → HasLengths c
     → length order ≡ length c.gates
     → length (ordered_edges c order)
-    ≡ 2 * c.header.gates + c.header.latches + c.header.outputs
+    ≡ 2 * c.header.gates + c.header.latches + columns c.header
 ordered_count c order l same =
     let from = ranked c order in
     let gs = gate_rank_edges from (first_gate_rank c) order in

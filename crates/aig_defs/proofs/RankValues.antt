@@ -5,7 +5,7 @@ use Rattle.std.proofs.lemmas.Bool.{cases_lt}
 use Rattle.std.proofs.lemmas.List.{length-append, length-map, map-append, get_or-map, get_or_append_left, get_or-append-add, get_or_default}
 use Rattle.aig_defs.specs.declared.circuit.Latch.{Latch}
 use Rattle.aig_defs.specs.declared.circuit.Gate.{Gate}
-use Rattle.aig_defs.specs.Circuit.{Circuit, currents, nexts, left_sides}
+use Rattle.aig_defs.specs.Circuit.{Circuit, currents, nexts, left_sides, columns}
 use Rattle.aig_defs.specs.Edges.{heard}
 use Rattle.aig_defs.specs.Ranks.{given_literals, ranked, ends, first_gate_rank, first_end_rank, rank_edge, ordered_edges, rank_value, IsDefinedBy, IsOrder}
 use Rattle.aig_defs.specs.Value.{variable_by, gate_to, literal_value, step_of}
@@ -51,7 +51,7 @@ module _ (c : Circuit) (order : List Gate) (o : IsOrder c order) (s i : List Boo
         let j = t - length c.inputs in
         let count = length-map c.latches (λ (l : Latch). l.current) in
         let below : j < length c.latches = omega (arith, low, more, count) in
-        let none : Latch = record { current = 0; next = 0 } in
+        let none : Latch = record { current = 0; next = 0; reset = false } in
         let place : length c.inputs + j ≡ t = omega (arith, more) in
         let bit : length i + j ≡ t = omega (arith, more, li) in
         let here = get_or-map (λ (l : Latch). l.current) c.latches j none 0 below in
@@ -141,7 +141,7 @@ module _ (c : Circuit) (order : List Gate) (o : IsOrder c order) (s i : List Boo
 
   -- The values of the ends are the next state, and then the outputs.
   pub ends_values : map (literal_value c s i) (ends c) ≡ (step_of c s i).1 ++ (step_of c s i).0
-  ends_values = map-append (literal_value c s i) (nexts c.latches) c.outputs
+  ends_values = map-append (literal_value c s i) (nexts c.latches) c.columns
 
   pub next_rank : (j : ℕ) → j < c.header.latches
       → rank_value c order s i (first_end_rank c order + j) ≡ get_or (step_of c s i).1 j false
@@ -150,15 +150,15 @@ module _ (c : Circuit) (order : List Gate) (o : IsOrder c order) (s i : List Boo
       let below : j < length (nexts c.latches) =
       omega (arith, low, count, o.is.lengths.latches) in
       end_rank_literal j
-      ∙ ap (literal_value c s i) (get_or_append_left (nexts c.latches) c.outputs 0 j below)
+      ∙ ap (literal_value c s i) (get_or_append_left (nexts c.latches) c.columns 0 j below)
       ∙ sym (get_or-map (literal_value c s i) (nexts c.latches) j 0 false below)
 
-  pub output_rank : (j : ℕ) → j < c.header.outputs
+  pub output_rank : (j : ℕ) → j < columns c.header
       → rank_value c order s i (first_end_rank c order + (c.header.latches + j))
       ≡ get_or (step_of c s i).0 j false
   output_rank j low =
       let count = length-map c.latches (λ (l : Latch). l.next) ∙ o.is.lengths.latches in
-      let below : j < length c.outputs = omega (arith, low, o.is.lengths.outputs) in
+      let below : j < length c.columns = omega (arith, low, o.is.lengths.columns) in
       end_rank_literal (c.header.latches + j)
-      ∙ ap (literal_value c s i) (get_at (nexts c.latches) c.outputs c.header.latches j 0 count)
-      ∙ sym (get_or-map (literal_value c s i) c.outputs j 0 false below)
+      ∙ ap (literal_value c s i) (get_at (nexts c.latches) c.columns c.header.latches j 0 count)
+      ∙ sym (get_or-map (literal_value c s i) c.columns j 0 false below)

@@ -370,13 +370,13 @@ pub once_edges_apart : (c : Circuit) → Nowhere (IsTwice c) → AllApart (edges
 once_edges_apart c n =
     let gs = flat_map operand_edges c.gates in
     let ns = numbered next_edge 0 c.latches in
-    let os = numbered output_edge 0 c.outputs in
+    let os = numbered output_edge 0 c.columns in
     let next = λ (l : Latch). l.next in
     let own = λ (l : ℕ). l in
     let latches : AllClass 0 2 3 ns = section_class next 2 0 c.latches (omega arith) in
-    let outputs : AllClass 0 3 4 os = section_class own 3 0 c.outputs (omega arith) in
+    let outputs : AllClass 0 3 4 os = section_class own 3 0 c.columns (omega arith) in
     let latches_apart : AllApart ns = section_apart next 2 0 c.latches (omega arith) in
-    let outputs_apart : AllApart os = section_apart own 3 0 c.outputs (omega arith) in
+    let outputs_apart : AllApart os = section_apart own 3 0 c.columns (omega arith) in
     let ends = apart_append ns os latches_apart outputs_apart
     (each_other 2 3 4 ns os latches outputs) in
     let rest = all_class_append 0 2 4 ns os (wider_class 2 3 4 ns (omega arith) latches)

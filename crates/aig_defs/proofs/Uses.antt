@@ -53,7 +53,7 @@ pub operands_used : (c : Circuit) (g : Gate) → Contains c.gates g
     → (has (uses c) (g.rhs0 / 2) ≡ true) × (has (uses c) (g.rhs1 / 2) ≡ true)
 operands_used c g i =
     let ns = variables (nexts c.latches) in
-    let os = variables c.outputs in
+    let os = variables c.columns in
     let rs = variables (right_sides c.gates) in
     let both = right_used c.gates g i in (
       has_right ns (os ++ rs) _ (has_right os rs _ both.0),
@@ -72,9 +72,9 @@ variable_has (k ∷ ls) l i = elim (contains_cases k l ls i) [
 pub end_used : (c : Circuit) (l : ℕ) → Contains (ends c) l → has (uses c) (l / 2) ≡ true
 end_used c l i =
     let ns = variables (nexts c.latches) in
-    let os = variables c.outputs in
+    let os = variables c.columns in
     let there = variable_has (ends c) l i in
-    let parts = map-append (λ (l : ℕ). l / 2) (nexts c.latches) c.outputs in
+    let parts = map-append (λ (l : ℕ). l / 2) (nexts c.latches) c.columns in
     elim (has_either ns os (l / 2) (ap (λ z. has z (l / 2)) (sym parts) ∙ there)) [
       | inl a ↦ has_left ns _ (l / 2) a
       | inr b ↦ has_right ns _ (l / 2) (has_left os _ (l / 2) b)

@@ -1,10 +1,11 @@
 -- The size of what was read of a circuit's text. A line with a byte adds its weight (1, or 2 for a
 -- latch or gate) once its first byte was given. So does a gate of the binary form. Nothing counts
 -- after a fault.
-use Rattle.std.specs.Prelude.{ℕ, zero, suc, ◌+◌, ◌*◌, nat_le, nat_lt, min, if◌then◌else◌, List, length}
+use Rattle.std.specs.Prelude.{ℕ, zero, suc, ◌+◌, ◌*◌, nat_le, nat_lt, min, if◌then◌else◌, List, length, Option}
 use Rattle.aig_defs.specs.declared.circuit.Header.{Header}
 use Rattle.aig_defs.specs.declared.form.Form.{Form}
 use Rattle.aig_defs.specs.declared.form.Form.TheVariants.{Ascii, Binary}
+use Rattle.aig_defs.specs.Circuit.{columns}
 use Rattle.aig_defs.specs.Items.{Reading, Reads, Fails, Item, times}
 use Rattle.aig_defs.specs.Order.{magic, header_line, input_row, latch_row, output_row, gate_row}
 
@@ -28,15 +29,15 @@ section_size given weight n item after p x =
 
 -- the inputs, and the sections after them; those of the binary form count once the header was read
 abbrev pub inputs_size : Form → ℕ → Header → (ℕ → List ℕ → ℕ) → ℕ → List ℕ → ℕ
-inputs_size Ascii given h after p x = section_size given 1 h.inputs (input_row Ascii h) after p x
-inputs_size Binary given h after p x = (if nat_le p given then h.inputs else 0) + after p x
+inputs_size (Ascii u) given h after p x = section_size given 1 h.inputs (input_row (Ascii u) h) after p x
+inputs_size (Binary u) given h after p x = (if nat_le p given then h.inputs else 0) + after p x
 
--- all sections: inputs and outputs add 1 each, latches and gates 2
+-- all sections: inputs and columns add 1 each, latches and gates 2
 abbrev pub sections_size : Form → ℕ → Header → ℕ → List ℕ → ℕ
 sections_size form given h =
     inputs_size form given h
     (section_size given 2 h.latches (latch_row form h)
-    (section_size given 1 h.outputs (output_row h)
+    (section_size given 1 (columns h) (output_row h)
     (section_size given 2 h.gates (gate_row form h)
     (λ p x. 0))))
 
@@ -46,9 +47,9 @@ size_read form given p x = counts_after (header_line form p x) (sections_size fo
 
 -- the size of what was read of a whole text, if `given` bytes of it were given, or all if it has
 -- fewer: a line that would begin at the text's end isn't begun
-abbrev pub text_size : ℕ → List ℕ → ℕ
-text_size given x = counts_after (magic 0 x) (λ form. size_read form (min given (length x)))
+abbrev pub text_size : Option ℕ → ℕ → List ℕ → ℕ
+text_size u given x = counts_after (magic u 0 x) (λ form. size_read form (min given (length x)))
 
--- the size of a circuit: E = I + 2L + O + 2A
+-- the size of a circuit: E = I + 2L + O + B + C + 2A
 abbrev pub circuit_size : Header → ℕ
-circuit_size h = h.inputs + 2 * h.latches + h.outputs + 2 * h.gates
+circuit_size h = h.inputs + 2 * h.latches + columns h + 2 * h.gates

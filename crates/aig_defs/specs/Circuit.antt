@@ -1,16 +1,21 @@
 -- A circuit of the AIGER format (Biere, 2007), and what holds of each that a text spells.
-use Rattle.std.specs.Prelude.{◌≡◌, ◌≤◌, ℕ, ◌+◌, ◌*◌, ◌/◌, ◌^◌, ◌%◌, List, [], ◌∷◌, length, map, flat_map, All}
+use Rattle.std.specs.Prelude.{◌≡◌, ◌≤◌, ℕ, ◌+◌, ◌*◌, ◌/◌, ◌^◌, ◌%◌, Bool, List, [], ◌∷◌, length, map, flat_map, All}
 use Rattle.aig_defs.specs.declared.circuit.Header.{Header}
 use Rattle.aig_defs.specs.declared.circuit.Latch.{Latch}
 use Rattle.aig_defs.specs.declared.circuit.Gate.{Gate}
 
--- the numbers of the header, and the literals of the lines, each section in the order of the text
+-- the numbers of the header, and the literals of the lines, each section in the order of the text.
+-- The columns are the outputs, then the bad literals, then the constraints.
 pub record Circuit : Type 0 where
   pub header : Header
   pub inputs : List ℕ
   pub latches : List Latch
-  pub outputs : List ℕ
+  pub columns : List ℕ
   pub gates : List Gate
+
+-- how many columns there are
+abbrev pub columns : Header → ℕ
+columns h = h.outputs + h.bads + h.constraints
 
 -- the variables of some literals
 abbrev pub variables : List ℕ → List ℕ
@@ -22,6 +27,10 @@ currents latches = map (λ (l : Latch). l.current) latches
 
 abbrev pub nexts : List Latch → List ℕ
 nexts latches = map (λ (l : Latch). l.next) latches
+
+-- their bits before the first step
+abbrev pub resets : List Latch → List Bool
+resets latches = map (λ (l : Latch). l.reset) latches
 
 -- the literals that gates define, and those that they use
 abbrev pub left_sides : List Gate → List ℕ
@@ -37,6 +46,8 @@ pub record IsHeader (h : Header) : Type 0 where
   pub latches : h.latches ≤ 2 ^ 40
   pub outputs : h.outputs ≤ 2 ^ 40
   pub gates : h.gates ≤ 2 ^ 40
+  pub bads : h.bads ≤ 2 ^ 40
+  pub constraints : h.constraints ≤ 2 ^ 40
   pub enough : h.inputs + h.latches + h.gates ≤ h.max
 
 -- the literal is that of a variable from 1 to M, not negated
@@ -64,7 +75,7 @@ pub record IsGate (h : Header) (gate : Gate) : Type 0 where
 pub record HasLengths (c : Circuit) : Type 0 where
   pub inputs : length c.inputs ≡ c.header.inputs
   pub latches : length c.latches ≡ c.header.latches
-  pub outputs : length c.outputs ≡ c.header.outputs
+  pub columns : length c.columns ≡ columns c.header
   pub gates : length c.gates ≡ c.header.gates
 
 -- header, lengths and literals are in their ranges, as in each circuit that a text spells
@@ -73,5 +84,5 @@ pub record IsCircuit (c : Circuit) : Type 0 where
   pub lengths : HasLengths c
   pub inputs : All (IsDefining c.header) c.inputs
   pub latches : All (IsLatch c.header) c.latches
-  pub outputs : All (IsUsed c.header) c.outputs
+  pub columns : All (IsUsed c.header) c.columns
   pub gates : All (IsGate c.header) c.gates

@@ -12,9 +12,9 @@ use Rattle.aig_defs.specs.Founded.{has, sources, gate_variables, IsFounded, pass
 abbrev pub definitions : Circuit → List ℕ
 definitions c = sources c ++ gate_variables c
 
--- the variables that latches, outputs and gates use, each once for each use
+-- the variables that latches, columns and gates use, each once for each use
 abbrev pub uses : Circuit → List ℕ
-uses c = variables (nexts c.latches) ++ (variables c.outputs ++ variables (right_sides c.gates))
+uses c = variables (nexts c.latches) ++ (variables c.columns ++ variables (right_sides c.gates))
 
 -- how many definitions a variable has
 abbrev pub definition_count : Circuit → ℕ → ℕ

@@ -8,13 +8,13 @@ use Rattle.aig_defs.specs.Circuit.{Circuit}
 use Rattle.aig_defs.specs.Chains.{numbered, input_def, latch_def, gates_of}
 
 -- An edge leads from the variable of a literal to what uses the literal: to a gate, by its
--- variable, or to a latch or an output, by its position. The class says which: 0 the first operand
--- of a gate, 1 the second, 2 the next literal of a latch, 3 an output.
+-- variable, or to a latch or a column, by its position. The class says which: 0 the first operand
+-- of a gate, 1 the second, 2 the next literal of a latch, 3 a column.
 abbrev pub graph_edge : ℕ → ℕ → ℕ → Record
 graph_edge literal target class =
     record { a = literal / 2; b = 4 * target + class; c = literal % 2; d = 0 }
 
--- the edges of a gate, of a latch and of an output
+-- the edges of a gate, of a latch and of a column
 abbrev pub operand_edges : Gate → List Record
 operand_edges g = graph_edge g.rhs0 (g.lhs / 2) 0 ∷ graph_edge g.rhs1 (g.lhs / 2) 1 ∷ []
 
@@ -24,11 +24,11 @@ next_edge j latch = graph_edge latch.next j 2
 abbrev pub output_edge : ℕ → ℕ → Record
 output_edge j literal = graph_edge literal j 3
 
--- all edges in the order of a circuit's chains: two of each gate, then those of latches and outputs
+-- all edges in the order of a circuit's chains: two of each gate, then those of latches and columns
 abbrev pub edges_in_text : Circuit → List Record
 edges_in_text c =
     flat_map operand_edges c.gates
-    ++ (numbered next_edge 0 c.latches ++ numbered output_edge 0 c.outputs)
+    ++ (numbered next_edge 0 c.latches ++ numbered output_edge 0 c.columns)
 
 -- the two edges of a gate by its record, and the edge of a use by its record
 abbrev pub gate_edge0 : Record → Record

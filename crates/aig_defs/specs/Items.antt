@@ -1,13 +1,13 @@
 -- The items that a circuit's text is made of. An item is read at a place of the text, with the
 -- bytes that are left there: it has its form and gives a value, or it fails with a kind and a
 -- place. The bytes are numbers below 256; what is given of greater ones has no meaning.
-use Rattle.std.specs.Prelude.{ℕ, zero, suc, ◌+◌, ◌-◌, ◌*◌, ◌^◌, ◌%◌, min, nat_le, nat_lt, ◌==◌, Bool, ◌&&◌, ◌||◌, if◌then◌else◌, List, [], ◌∷◌, length, drop, take_while, Option, Some, None}
+use Rattle.std.specs.Prelude.{ℕ, zero, suc, ◌+◌, ◌-◌, ◌*◌, ◌^◌, ◌%◌, min, nat_le, nat_lt, ◌==◌, Bool, true, false, ◌&&◌, ◌||◌, if◌then◌else◌, List, [], ◌∷◌, length, drop, take_while, Option, Some, None}
 use Rattle.std.specs.Char.{is_ascii_digit}
 use Rattle.std.specs.Str.Parse.{digits_value}
 use Rattle.aig_defs.specs.declared.fault.AigKind.{AigKind}
-use Rattle.aig_defs.specs.declared.fault.AigKind.TheVariants.{BadNumber, TooLarge, BadSeparator, LiteralRange, OddDefinition, BadDelta, Short, BadSymbol, Extension, TooLong}
+use Rattle.aig_defs.specs.declared.fault.AigKind.TheVariants.{BadNumber, TooLarge, BadSeparator, LiteralRange, OddDefinition, BadDelta, Short, BadSymbol, Extension, TooLong, Uninit, Justice, Fairness, BadReset}
 use Rattle.aig_defs.specs.declared.form.Limit.{Limit}
-use Rattle.aig_defs.specs.declared.form.Limit.TheVariants.{Count, Defining, Used, Position}
+use Rattle.aig_defs.specs.declared.form.Limit.TheVariants.{Count, Defining, Used, Position, NoJustice, NoFairness, Reset}
 
 -- what reading gives: a value, the place after it and the bytes that are left there; or a fault
 pub data Reading (A : Type 0) : Type 0 where
@@ -72,9 +72,25 @@ end_at fault (Some byte) p x = if byte == 10 then take_byte p x else Fails (faul
 abbrev pub line_end : Item (Unit {0})
 line_end = look >>= end_at (λ byte. BadSeparator)
 
--- a line's end; a space is Extension, as AIGER 1.9 goes on there
+-- a line's end, where a space is Extension
 abbrev pub last_end : Item (Unit {0})
 last_end = look >>= end_at (λ byte. if byte == 32 then Extension else BadSeparator)
+
+-- whether a line goes on: a space, or its end
+abbrev pub goes_on_at : Option ℕ → Item Bool
+goes_on_at None p x = Reads false p x
+goes_on_at (Some byte) p x =
+    if byte == 10 then (take_byte >> Reads false) p x
+    else if byte == 32 then (take_byte >> Reads true) p x
+    else Fails BadSeparator p
+
+abbrev pub goes_on : Item Bool
+goes_on = look >>= goes_on_at
+
+-- the rest of a line that goes on, and this value at the end of one that doesn't
+abbrev pub if_more : {A : Type 0} → A → Item A → Bool → Item A
+if_more end rest true p x = rest p x
+if_more end rest false p x = Reads end p x
 
 -- the longest run of digits
 abbrev pub digits : List ℕ → List ℕ
@@ -100,6 +116,14 @@ number_fault (Defining max) value =
     else None
 number_fault (Used max) value = if nat_lt (2 * max + 1) value then Some LiteralRange else None
 number_fault (Position count) value = if nat_lt value count then None else Some BadSymbol
+number_fault NoJustice value =
+    if nat_lt (2 ^ 40) value then Some TooLarge else if value == 0 then None else Some Justice
+number_fault NoFairness value =
+    if nat_lt (2 ^ 40) value then Some TooLarge else if value == 0 then None else Some Fairness
+number_fault (Reset own given) value =
+    if nat_lt value 2 then None
+    else if value == own then (if given then None else Some Uninit)
+    else Some BadReset
 
 -- the run is taken if nothing is wrong with its value
 abbrev pub number_by : Option AigKind → List ℕ → Item ℕ

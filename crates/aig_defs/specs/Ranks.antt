@@ -1,6 +1,6 @@
 -- The ranks of a circuit whose gates have an order, and the edges between them: docs/FORMATS.md,
 -- "Records of circuits". Ranks are 0 the constant, then the inputs, the latches, the gates in their
--- order, the next values of the latches, and the outputs.
+-- order, the next values of the latches, and the columns.
 use Rattle.std.specs.Prelude.{◌≡◌, ℕ, ◌+◌, ◌*◌, ◌/◌, ◌%◌, ◌==◌, Bool, true, List, [], ◌∷◌, ◌++◌, length, get_or, All, Contains, if◌then◌else◌}
 use Rattle.em_record.specs.declared.record.Record.{Record}
 use Rattle.em_record.specs.Order.{in_order}
@@ -19,9 +19,9 @@ abbrev pub ranked : Circuit → List Gate → List ℕ
 ranked c gates = given_literals c ++ left_sides gates
 
 -- the literals at the end of a step, to whose ranks edges lead and from which none come: next values,
--- then outputs
+-- then columns
 abbrev pub ends : Circuit → List ℕ
-ends c = nexts c.latches ++ c.outputs
+ends c = nexts c.latches ++ c.columns
 
 -- the rank of the gate that is first in the order, of the first end, and of none
 abbrev pub first_gate_rank : Circuit → ℕ

@@ -78,7 +78,7 @@ begun_from inputs given p x = begun_within (length x) inputs given p x
 abbrev pub steps_begun : ℕ → ℕ → List ℕ → ℕ
 steps_begun inputs given x = begun_from inputs given 0 x
 
--- a bit as a byte, and the line of a step's outputs
+-- a bit as a byte, and the line of a step's columns
 abbrev pub bit_byte : Bool → ℕ
 bit_byte false = 48
 bit_byte true = 49

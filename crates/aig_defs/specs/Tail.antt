@@ -1,4 +1,4 @@
--- What may follow a circuit's gates: lines that name inputs, latches and outputs, and a comment.
+-- What may follow a circuit's gates: lines that name inputs, latches, outputs and bad literals, and a comment.
 -- They are passed over.
 use Rattle.std.specs.Prelude.{ℕ, zero, suc, ◌+◌, ◌^◌, nat_le, ◌==◌, Bool, true, false, if◌then◌else◌, [], ◌∷◌, length, Option, Some, None}
 use Rattle.aig_defs.specs.declared.fault.AigKind.TheVariants.{Extra, TooLong}
@@ -24,12 +24,13 @@ comment p (byte ∷ x) =
 abbrev pub symbol : ℕ → Item (Unit {0})
 symbol n = number (Position n) >> space >> name
 
--- how many lines the section has that a symbol's letter names: `i`, `l` or `o`
+-- how many lines the section has that a symbol's letter names: `i`, `l`, `o` or `b`
 abbrev pub positions : Header → ℕ → Option ℕ
 positions h byte =
     if byte == 105 then Some h.inputs
     else if byte == 108 then Some h.latches
     else if byte == 111 then Some h.outputs
+    else if byte == 98 then Some h.bads
     else None
 
 -- a symbol's line, if its section has n lines; no other line is one

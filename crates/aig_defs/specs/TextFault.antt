@@ -7,18 +7,19 @@ use Rattle.aig_defs.specs.Items.{Reading, Reads, Fails, Item, ◌>>=◌}
 use Rattle.aig_defs.specs.Order.{magic, after_magic, circuit_text, Spells, Breaks}
 use Rattle.aig_defs.specs.Faults.{IsFaultOf, IsFaultless, circuit_fault}
 
--- the first fault of a text: it breaks so, or it spells a circuit whose first fault this is
-pub data IsFaultOfText (x : List ℕ) (kind : AigKind) (place : ℕ) : Type 0 where
-  broken : Breaks x kind place → IsFaultOfText x kind place
+-- the first fault of a text: it breaks so, or it spells a circuit whose first fault this is. u is the value for
+-- uninitialised latches, if one is given.
+pub data IsFaultOfText (u : Option ℕ) (x : List ℕ) (kind : AigKind) (place : ℕ) : Type 0 where
+  broken : Breaks u x kind place → IsFaultOfText u x kind place
   spelled :
-      (form : Form) (c : Circuit) → Spells form x c → IsFaultOf c kind place
-      → IsFaultOfText x kind place
+      (form : Form) (c : Circuit) → Spells u form x c → IsFaultOf c kind place
+      → IsFaultOfText u x kind place
 
 -- a text with no fault: it spells a circuit that has none
-pub record IsFaultlessText (x : List ℕ) : Type 0 where
+pub record IsFaultlessText (u : Option ℕ) (x : List ℕ) : Type 0 where
   pub form : Form
   pub circuit : Circuit
-  pub spelled : Spells form x circuit
+  pub spelled : Spells u form x circuit
   pub faultless : IsFaultless circuit
 
 -- the fault of a reading, else the first fault of the circuit that was read
@@ -27,9 +28,9 @@ reading_fault (Reads (form, c) p x) = circuit_fault c
 reading_fault (Fails kind place) = Some (kind, place)
 
 -- the first fault of a text, or none
-abbrev pub text_fault : List ℕ → Option (AigKind × ℕ)
-text_fault x = reading_fault (circuit_text 0 x)
+abbrev pub text_fault : Option ℕ → List ℕ → Option (AigKind × ℕ)
+text_fault u x = reading_fault (circuit_text u 0 x)
 
 -- the circuit of a whole text, in either form
-abbrev pub either_text : Item Circuit
-either_text = magic >>= after_magic
+abbrev pub either_text : Option ℕ → Item Circuit
+either_text u = magic u >>= after_magic

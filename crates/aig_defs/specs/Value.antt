@@ -1,10 +1,10 @@
 -- What a circuit computes (Biere, 2007). The bits of a step's inputs, and of the state, are listed
 -- in the order of the sections. This is the format's meaning of a circuit with `IsCircuit` and with
 -- no fault. What it gives of other circuits has no meaning.
-use Rattle.std.specs.Prelude.{ℕ, zero, suc, ◌/◌, ◌%◌, ◌==◌, Bool, false, ◌&&◌, not, List, [], ◌∷◌, ◌++◌, length, map, replicate, zip, find, Option, unwrap_or, option_map, if◌then◌else◌}
+use Rattle.std.specs.Prelude.{ℕ, zero, suc, ◌/◌, ◌%◌, ◌==◌, Bool, false, ◌&&◌, not, List, [], ◌∷◌, ◌++◌, length, map, zip, find, Option, unwrap_or, option_map, if◌then◌else◌}
 use Rattle.std.specs.Option.{option_or}
 use Rattle.aig_defs.specs.declared.circuit.Gate.{Gate}
-use Rattle.aig_defs.specs.Circuit.{Circuit, currents, nexts}
+use Rattle.aig_defs.specs.Circuit.{Circuit, currents, nexts, resets}
 
 -- the literals of the inputs and latches, each with its bit
 abbrev pub given_bits : Circuit → List Bool → List Bool → List (ℕ × Bool)
@@ -43,19 +43,19 @@ abbrev pub literal_value : Circuit → List Bool → List Bool → ℕ → Bool
 literal_value c state input literal =
     literal_by (gate_to (length c.gates) c state input) c state input literal
 
--- one step: the outputs, and the next state; all latches change at once
+-- one step: the columns, and the next state; all latches change at once
 abbrev pub step_of : Circuit → List Bool → List Bool → List Bool × List Bool
 step_of c state input = (
-  map (literal_value c state input) c.outputs,
+  map (literal_value c state input) c.columns,
   map (literal_value c state input) (nexts c.latches),
 )
 
--- the outputs of some steps, by the inputs of each, from this state
+-- the columns of some steps, by the inputs of each, from this state
 abbrev pub run_from : Circuit → List Bool → List (List Bool) → List (List Bool)
 run_from c state [] = []
 run_from c state (input ∷ inputs) =
     (step_of c state input).0 ∷ run_from c (step_of c state input).1 inputs
 
--- the outputs of some steps, from the state in which all latches are 0
+-- the columns of some steps, from the state in which each latch has its reset
 abbrev pub run_of : Circuit → List (List Bool) → List (List Bool)
-run_of c inputs = run_from c (replicate (length c.latches) false) inputs
+run_of c inputs = run_from c (resets c.latches) inputs

@@ -26,7 +26,7 @@ pub enum AigKind {
     BadSymbol,
     /// A byte follows the circuit that can't stand there.
     Extra,
-    /// A space follows the header's fifth number or a latch's next literal, as AIGER 1.9 allows.
+    /// A space follows the header's ninth number or a latch's reset.
     Extension,
     /// A variable is defined more than once. The place is the least such variable.
     Twice,
@@ -41,4 +41,12 @@ pub enum AigKind {
     StimChar,
     /// A byte at offset 2^50 is looked at, in a circuit or a stimulus. The place is 2^50.
     TooLong,
+    /// A latch starts uninitialised, and no value for such latches is given.
+    Uninit,
+    /// The number of justice properties isn't 0.
+    Justice,
+    /// The number of fairness constraints isn't 0.
+    Fairness,
+    /// A latch's reset is neither 0, 1 nor the latch's own literal.
+    BadReset,
 }

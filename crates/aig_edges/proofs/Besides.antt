@@ -1,5 +1,6 @@
 -- Calls of a queue beside other values, whose blocks and accounts are written in another way.
-use Rattle.std.proofs.Common.{◌≡◌, ℕ, ◌+◌, ◌<◌, ◌≤◌, List, ◌++◌, IsTrue, ap, sym, arith, append_assoc}
+use Rattle.std.proofs.Common.{◌≡◌, ℕ, ◌+◌, ◌<◌, ◌≤◌, List, [], ◌++◌, IsTrue, ap, subst, sym, arith, append_assoc}
+use Rattle.em_space.specs.Free.{Off}
 use Rattle.em_space.specs.Held.{Apart, Holds}
 use Rattle.em_space.specs.Ledger.{Account, Session, Stops}
 use Rattle.em_space.specs.Queue.{QueueCounts}
@@ -9,6 +10,8 @@ use Rattle.em_space.proofs.Apart.{off_append, off_left, off_right}
 use Rattle.em_space.proofs.Ledgers.{full_by}
 use Rattle.em_space.proofs.Lists.{apart_append, apart_left, apart_right, apart_sym, distinct_apart, distinct_join, distinct_left, distinct_right, in_use_append, in_use_left, in_use_right}
 use Rattle.em_space.proofs.Paying.{pays_more}
+use Rattle.em_space.proofs.Sessions.{session_beside}
+use Rattle.em_space.proofs.Steps.{touches_wider}
 use Rattle.em_chain.specs.Chain.{IsChain, ChainStays, chain_blocks}
 use Rattle.em_chain.specs.declared.chain.Chain.{Chain}
 use Rattle.em_chain.proofs.Laws.{chain_stays}
@@ -105,6 +108,37 @@ holds_last {s} xs ys h = record {
   in_use = in_use_right s xs ys h.in_use;
   distinct = λ z. distinct_right xs ys (h.distinct z);
 }
+
+-- Values that were held beside others, between two of them.
+pub holds_between : {s : RigState} (qs rs ls : List ℕ) → Holds s (qs ++ (rs ++ ls))
+    → Holds s ((qs ++ ls) ++ rs)
+holds_between {s} qs rs ls h =
+    subst (λ (ks : List ℕ). Holds s ks) (sym (append_assoc qs ls rs)) (holds_swapped qs rs ls h)
+
+pub apart_between : {s : RigState} (qs rs ls : List ℕ) → IsTrue s.device.told
+    → Holds s (qs ++ (rs ++ ls)) → Apart rs (qs ++ ls)
+apart_between qs rs ls z h =
+    apart_sym (qs ++ ls) rs (distinct_apart (qs ++ ls) rs ((holds_between qs rs ls h).distinct z))
+
+-- They are held after a call on the others.
+pub session_past : {s t : RigState} (qs rs ls ps gs : List ℕ)
+    → (IsTrue s.device.told → Holds s (qs ++ (rs ++ ls))) → Session (qs ++ ls) s t (ps ++ gs)
+    → Session (qs ++ (rs ++ ls)) s t (ps ++ (rs ++ gs))
+session_past {s} {t} qs rs ls ps gs h g =
+    let all = session_beside [] (qs ++ ls) (ps ++ gs) rs (λ z. holds_between qs rs ls (h z)) g in
+    let last = session_swapped ps gs rs (subst (λ (ks : List ℕ). Session ((qs ++ ls) ++ rs) s t ks)
+    (append_assoc ps gs rs) all) in
+    let off = λ (j : ℕ) (o : Off j (qs ++ (rs ++ ls))).
+    let r = off_right j qs (rs ++ ls) o in
+    off_append j (qs ++ ls) rs (off_append j qs ls (off_left j qs (rs ++ ls) o)
+    (off_right j rs ls r)) (off_left j rs ls r) in
+    record {
+      sound = last.sound;
+      touches = touches_wider (qs ++ (rs ++ ls)) ((qs ++ ls) ++ rs) s t last.touches
+          (λ z j u o. off j o);
+      within = record { off = λ z j u o. last.within.off z j u (off j o) };
+      holds = last.holds;
+    }
 
 -- The first of three values is the last one then,
 pub beside_turned : {i p : ℕ} {held : List ℕ} {a b : Account} {c d : QueueCounts}

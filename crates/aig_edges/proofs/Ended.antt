@@ -2,33 +2,48 @@
 use Rattle.std.proofs.Common.{◌≡◌, ℕ, ◌+◌, ◌≤◌, inl, inr, max, Option, None, Some, IfSome, List, [], ◌++◌, IsTrue, subst, ap, sym, ◌∙◌, arith}
 use Rattle.em_record.specs.Shape.{ShapeNumbers}
 use Rattle.em_frames.specs.Pool.{PoolCounts}
-use Rattle.em_space.specs.Held.{Apart}
+use Rattle.em_space.specs.Held.{Apart, Holds}
 use Rattle.em_space.specs.Ledger.{Session}
 use Rattle.em_space.specs.Queue.{Ended, Ends, ending_most, IsRising, IsRisingRoom, Leaves, Pays, QueueCounts, Shares}
 use Rattle.em_space.specs.Rig.{RigState, Cause, Touches}
 use Rattle.em_space.specs.declared.fault.EmFault.TheVariants.{DeviceFault, Full, Damaged}
 use Rattle.em_space.specs.declared.queue.Queue.{Ghosts as QueueGhosts}
+use Rattle.em_space.proofs.Apart.{off_append, off_left, off_right}
 use Rattle.em_space.proofs.Lists.{apart_sym, distinct_apart}
 use Rattle.em_space.proofs.Paying.{pays_kept, pays_more, pays_then}
 use Rattle.em_space.proofs.Queues.{most_at_end}
 use Rattle.em_space.proofs.Sessions.{session_as, session_then}
+use Rattle.em_space.proofs.Steps.{touches_wider}
 use Rattle.em_space.proofs.Within.{touches_within}
+use Rattle.em_chain.specs.Chain.{chain_blocks}
+use Rattle.em_chain.specs.declared.chain.Chain.{Chain}
 use Rattle.em_queued.proofs.Queued.{shares_frames}
 use Rattle.aig_text.specs.Ascii.{IfEmStop}
-use Rattle.aig_text.specs.Parts.{parts_blocks}
+use Rattle.aig_text.specs.Parts.{lists_blocks, parts_blocks}
 use Rattle.aig_text.specs.declared.parts.Parts.{Parts}
 use Rattle.aig_text.specs.declared.stop.AigStop.{AigStop}
 use Rattle.aig_text.specs.declared.stop.AigStop.TheVariants as stop
 use Rattle.aig_edges.specs.Build.{UsesUp, parts_size}
 use Rattle.aig_edges.specs.BuildGraph.{BuildsGraph, CalledInRuns, SortCosts, sort_calls, sort_moves, sort_peak, sort_run}
-use Rattle.aig_edges.specs.Graph.{graph_blocks, graph_size}
+use Rattle.aig_edges.specs.Graph.{graph_blocks, graph_lists, graph_size}
 use Rattle.aig_edges.specs.Making.{BuildsBeside, DoneUntil}
 use Rattle.aig_edges.specs.declared.graph.Graph.{Graph}
+use Rattle.aig_edges.proofs.Besides.{session_past}
 use Rattle.aig_edges.proofs.GraphLaws.{GraphStays, graph_stays}
 
 -- the blocks of a queue and of a circuit's parts
 abbrev pub held_at : {Q : Type 0} → QueueGhosts Q → Q → RigState → Parts → List ℕ
 held_at q x s p = q.blocks x s ++ parts_blocks s p
+
+-- what may be changed of a circuit's lists may be changed of its parts
+all_touched : {Q : Type 0} (q : QueueGhosts Q) (x : Q) {s t : RigState} (p : Parts)
+    → Touches (q.blocks x s ++ lists_blocks s p) s t → Touches (held_at q x s p) s t
+all_touched q x {s} {t} p h =
+    let qs = q.blocks x s in
+    let rs = chain_blocks s p.resets in
+    let ls = lists_blocks s p in
+    touches_wider (held_at q x s p) (qs ++ ls) s t h (λ z j i o.
+    off_append j qs ls (off_left j qs (rs ++ ls) o) (off_right j rs ls (off_right j qs (rs ++ ls) o)))
 
 -- What was done until the queue is ended.
 pub until_built : {Q : Type 0} (q : QueueGhosts Q) (x y : Q) {s u : RigState} {m : Graph}
@@ -62,7 +77,7 @@ pub up_left : {Q : Type 0} (q : QueueGhosts Q) (x y : Q) {s u v : RigState} (p :
     → UsesUp (held_at q x s p) (q.counts x) s v
 up_left q x y {s} {u} {v} p h l = record {
   sound = l.sound;
-  touches = touches_within s u v (held_at q x s p) [] h.touches
+  touches = touches_within s u v (held_at q x s p) [] (all_touched q x p h.touches)
       (record { off = λ z j i o. tt }) l.touches;
   frames = shares_gone (q.counts x) (q.counts y) s.pool u.pool v.pool h.shares l.frames;
 }
@@ -190,12 +205,16 @@ pub record EndedAfter {Q : Type 0} (q : QueueGhosts Q) (x : Q) (s u v : RigState
   pub stays : GraphStays u v m
 
 pub ended_after : {Q : Type 0} (q : QueueGhosts Q) (x y : Q) {s u v : RigState} {m : Graph}
-    (p : Parts) → BuildsBeside q x y s u p m
+    (p : Parts) → (IsTrue s.device.told → Holds s (held_at q x s p)) → BuildsBeside q x y s u p m
     → Ends q.allowance q.room (q.blocks y u) (q.counts y) u v → EndedAfter q x s u v p m
-ended_after q x y {s} {u} {v} {m} p b e =
+ended_after q x y {s} {u} {v} {m} p held b e =
     let ks = q.blocks y u in
     let gs = graph_blocks u m in
-    let all = b.runs.runs.session in
+    let same : chain_blocks u m.resets ≡ chain_blocks u p.resets =
+    ap (λ (c : Chain). chain_blocks u c) b.resets_are in
+    let all = session_as (ks ++ gs) (session_past (q.blocks x s) (chain_blocks s p.resets)
+    (lists_blocks s p) ks (graph_lists u m) held b.runs.runs.session)
+    (λ z. ap (λ (js : List ℕ). ks ++ (js ++ graph_lists u m)) (same ∙ b.resets_stay.blocks z)) in
     let gone : Session ks u v [] = record {
       sound = e.sound;
       touches = e.touches;
@@ -213,14 +232,14 @@ ended_after q x y {s} {u} {v} {m} p b e =
     }
 
 pub up_ended : {Q : Type 0} (q : QueueGhosts Q) (x y : Q) {s u v : RigState} {m : Graph}
-    (p : Parts) → BuildsBeside q x y s u p m
+    (p : Parts) → (IsTrue s.device.told → Holds s (held_at q x s p)) → BuildsBeside q x y s u p m
     → Ends q.allowance q.room (q.blocks y u) (q.counts y) u v
     → UsesUp (held_at q x s p) (q.counts x) s v
-up_ended q x y {s} {u} {v} p b e =
+up_ended q x y {s} {u} {v} p held b e =
     let h = until_built q x y p b in
     record {
       sound = e.sound;
-      touches = (ended_after q x y p b e).session.touches;
+      touches = (ended_after q x y p held b e).session.touches;
       frames = shares_gone (q.counts x) (q.counts y) s.pool u.pool v.pool h.shares e.frames;
     }
 
@@ -259,11 +278,11 @@ costs_ended q x y {s} {u} {v} {m} p b has l rising rising_room fits =
 
 -- It is the graph of each circuit whose parts there were.
 pub builds_graph : {Q : Type 0} (q : QueueGhosts Q) (x y : Q) {s u v : RigState} {m : Graph}
-    (p : Parts) → BuildsBeside q x y s u p m
+    (p : Parts) → (IsTrue s.device.told → Holds s (held_at q x s p)) → BuildsBeside q x y s u p m
     → Ends q.allowance q.room (q.blocks y u) (q.counts y) u v
     → BuildsGraph (held_at q x s p) s v p m
-builds_graph q x y p b e =
-    let a = ended_after q x y p b e in
+builds_graph q x y p held b e =
+    let a = ended_after q x y p held b e in
     record {
       is = a.stays.is;
       header = b.header;
@@ -271,6 +290,7 @@ builds_graph q x y p b e =
       edges = b.edges;
       gates = b.gates;
       sources = b.sources;
+      resets = b.resets_are;
       stands = λ z.
           let each = b.stands z in
           record {

@@ -1,5 +1,5 @@
 -- A graph over a call that leaves its blocks alone.
-use Rattle.std.proofs.Common.{◌≡◌, ℕ, List, ◌++◌, IsTrue, sym, ap, subst, ◌∙◌}
+use Rattle.std.proofs.Common.{◌≡◌, ℕ, List, ◌++◌, IsTrue, refl, sym, subst, ◌∙◌}
 use Rattle.em_space.specs.Held.{Apart, Holds}
 use Rattle.em_space.specs.Rig.{RigState, Touches}
 use Rattle.em_space.proofs.Held.{holds_kept}
@@ -9,6 +9,7 @@ use Rattle.em_chain.specs.declared.chain.Chain.{Chain}
 use Rattle.em_chain.proofs.Laws.{chain_stays}
 use Rattle.aig_defs.specs.Circuit.{Circuit}
 use Rattle.aig_text.specs.Draft.{chains_blocks}
+use Rattle.aig_text.proofs.PartsLaws.{compact_stays}
 use Rattle.aig_edges.specs.Graph.{IsGraph, IsGraphOf, graph_blocks}
 use Rattle.aig_edges.specs.declared.graph.Graph.{Graph}
 
@@ -19,29 +20,36 @@ pub record GraphStays (s t : RigState) (g : Graph) : Type 0 where
   pub of : IsTrue s.device.told → (c : Circuit) → IsGraphOf s g c → IsGraphOf t g c
 
 -- its chains stay
-record ThreeStay (s t : RigState) (f g k : Chain) : Type 0 where
+record FourStay (s t : RigState) (f g k r : Chain) : Type 0 where
   first : ChainStays s t f
   second : ChainStays s t g
   third : ChainStays s t k
+  fourth : ChainStays s t r
 
-three_stay : (held : List ℕ) (s t : RigState) (g : Graph) → Touches held s t
+four_stay : (held : List ℕ) (s t : RigState) (g : Graph) → Touches held s t
     → (IsTrue s.device.told → Apart (graph_blocks s g) held) → IsGraph s g
-    → ThreeStay s t g.gates g.edges g.sources
-three_stay held s t g h a i =
+    → FourStay s t g.gates g.edges g.sources g.resets
+four_stay held s t g h a i =
     let gs = chain_blocks s g.gates in
     let es = chain_blocks s g.edges in
     let ss = chain_blocks s g.sources in
-    let first = λ (told : IsTrue s.device.told). apart_left gs (es ++ ss) held (a told) in
-    let rest = λ (told : IsTrue s.device.told). apart_right gs (es ++ ss) held (a told) in
+    let rs = chain_blocks s g.resets in
+    let lists = λ (told : IsTrue s.device.told).
+    apart_right rs (gs ++ (es ++ ss)) held (a told) in
+    let fourth = λ (told : IsTrue s.device.told).
+    apart_left rs (gs ++ (es ++ ss)) held (a told) in
+    let first = λ (told : IsTrue s.device.told). apart_left gs (es ++ ss) held (lists told) in
+    let rest = λ (told : IsTrue s.device.told). apart_right gs (es ++ ss) held (lists told) in
     let second = λ (told : IsTrue s.device.told). apart_left es ss held (rest told) in
     let third = λ (told : IsTrue s.device.told). apart_right es ss held (rest told) in
     record {
       first = chain_stays held s t g.gates h first i.gates.is;
       second = chain_stays held s t g.edges h second i.edges.is;
       third = chain_stays held s t g.sources h third i.sources.is;
+      fourth = chain_stays held s t g.resets h fourth i.resets.is;
     }
 
-still_of : {s t : RigState} {g : Graph} → ThreeStay s t g.gates g.edges g.sources
+still_of : {s t : RigState} {g : Graph} → FourStay s t g.gates g.edges g.sources g.resets
     → IsTrue s.device.told → (c : Circuit) → IsGraphOf s g c → IsGraphOf t g c
 still_of w told c k = record {
   header = k.header;
@@ -49,19 +57,18 @@ still_of w told c k = record {
   gates = w.first.items told ∙ k.gates;
   edges = w.second.items told ∙ k.edges;
   sources = w.third.items told ∙ k.sources;
+  resets = w.fourth.items told ∙ k.resets;
 }
 
-three_blocks : {s t : RigState} {f g k : Chain} → ThreeStay s t f g k → IsTrue s.device.told
-    → chains_blocks t f g k ≡ chains_blocks s f g k
-three_blocks {s} {t} {f} {g} {k} w told =
-    ap (λ ks. ks ++ (chain_blocks t g ++ chain_blocks t k)) (w.first.blocks told)
-    ∙ ap (λ ks. chain_blocks s f ++ (ks ++ chain_blocks t k)) (w.second.blocks told)
-    ∙ ap (λ ks. chain_blocks s f ++ (chain_blocks s g ++ ks)) (w.third.blocks told)
+four_stayed : {s t : RigState} {f g k r : Chain} → FourStay s t f g k r → IsTrue s.device.told
+    → chain_blocks t r ++ chains_blocks t f g k ≡ chain_blocks s r ++ chains_blocks s f g k
+four_stayed {s} {t} {f} {g} {k} {r} w told =
+    rw (w.first.blocks told, w.second.blocks told, w.third.blocks told, w.fourth.blocks told) refl
 
 pub graph_stays : (held : List ℕ) (s t : RigState) (g : Graph) → Touches held s t
     → (IsTrue s.device.told → Apart (graph_blocks s g) held) → IsGraph s g → GraphStays s t g
 graph_stays held s t g h a i =
-    let w = three_stay held s t g h a i in
+    let w = four_stay held s t g h a i in
     let back = λ (told : IsTrue t.device.told). sym h.told ∙ told in
     record {
       is = record {
@@ -69,13 +76,14 @@ graph_stays held s t g h a i =
         gates = record { is = w.first.is; count_is = i.gates.count_is };
         edges = record { is = w.second.is; count_is = i.edges.count_is };
         sources = record { is = w.third.is; count_is = i.sources.count_is };
+        resets = compact_stays i.resets h.shape w.fourth;
         holds = λ told.
-            subst (λ (ks : List ℕ). Holds t ks) (sym (three_blocks w (back told)))
+            subst (λ (ks : List ℕ). Holds t ks) (sym (four_stayed w (back told)))
             (holds_kept held s t (graph_blocks s g) h a (i.holds (back told)));
         stands = λ told.
             let k = i.stands (back told) in
             record { circuit = k.circuit; is = still_of w (back told) k.circuit k.is };
       };
-      blocks = three_blocks w;
+      blocks = four_stayed w;
       of = still_of w;
     }

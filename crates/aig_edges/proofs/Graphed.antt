@@ -9,23 +9,32 @@ use Rattle.em_chain.specs.Chain.{ChainStays, chain_blocks}
 use Rattle.em_chain.specs.declared.chain.Chain.{Chain}
 use Rattle.em_queued.specs.Queued.{RunsBeside}
 use Rattle.em_queued.proofs.Queued.{beside_as, beside_holds, beside_then, beside_wider, others_beside}
+use Rattle.em_chain.proofs.Laws.{chain_stays}
+use Rattle.aig_text.specs.Parts.{lists_blocks}
 use Rattle.aig_text.specs.declared.parts.Parts.{Parts}
+use Rattle.aig_text.proofs.PartsLaws.{compact_stays}
 use Rattle.aig_edges.specs.Build.{parts_size}
 use Rattle.aig_edges.specs.BuildGraph.{BuildsEach, sort_moves, sort_peak}
 use Rattle.aig_edges.specs.Comparing.{IsCompared, compare_moves, compare_peak}
-use Rattle.aig_edges.specs.Graph.{graph_blocks, graph_size}
+use Rattle.aig_edges.specs.Graph.{graph_blocks, graph_lists, graph_size}
 use Rattle.aig_edges.specs.Making.{BuildsBeside}
 use Rattle.aig_edges.specs.Accounts.{stored_account}
 use Rattle.aig_edges.specs.declared.comparing.Compared.{Compared}
 use Rattle.aig_edges.specs.declared.graph.Graph.{Graph}
-use Rattle.aig_edges.proofs.Besides.{beside_by, beside_crossed, beside_swapped, holds_last, stays_beside}
+use Rattle.aig_edges.proofs.Besides.{apart_between, beside_by, beside_crossed, beside_swapped, holds_last, session_past, stays_beside}
 use Rattle.aig_edges.proofs.Made.{AllStand, AreSizes, Given, MayCompare, NoneTwice, room_at, sorted_of}
 use Rattle.aig_edges.proofs.Stands.{runs_wider}
 
 -- the graph of these gates
 abbrev pub graph_with : Parts → Chain → Compared → Graph
 graph_with p g r =
-    record { header = p.header; gates = g; edges = r.edges; sources = r.sources }
+    record {
+      header = p.header;
+      gates = g;
+      edges = r.edges;
+      sources = r.sources;
+      resets = p.resets;
+    }
 
 -- the blocks that comparing may change are none of the queue's
 pub queue_apart : {Q : Type 0} (q : QueueGhosts Q) (x y : Q) {s t : RigState} {p : Parts}
@@ -49,7 +58,7 @@ compared_runs : {Q : Type 0} (q : QueueGhosts Q) (x y : Q) {s t u : RigState} {p
     → ChainStays t u g
     → RunsBeside 0 (sort_peak s p)
     (q.blocks y t ++ (chain_blocks t d ++ (chain_blocks t e ++ chain_blocks t g)))
-    (q.blocks y u ++ graph_blocks u (graph_with p g r))
+    (q.blocks y u ++ graph_lists u (graph_with p g r))
     (stored_account (d.blocks + (e.blocks + g.blocks)) (compare_moves t d e k))
     (stored_account (graph_size (graph_with p g r)) 0) (q.counts y) (q.counts y) t u
 compared_runs q x y {s} {t} {u} {p} {d} {g} {e} k r o fits most v blocks stays =
@@ -83,8 +92,8 @@ compared_runs q x y {s} {t} {u} {p} {d} {g} {e} k r o fits most v blocks stays =
 graph_each : {Q : Type 0} {q : QueueGhosts Q} {x y : Q} {s t u : RigState} {p : Parts}
     {d g e : Chain} {r : Compared} → NoneTwice s p → AllStand q x y s t p d g e
     → IsCompared t u d e (p.header.inputs + p.header.latches) r → ChainStays t u g
-    → IsTrue s.device.told → BuildsEach s u p (graph_with p g r)
-graph_each once o v stays z =
+    → ChainStays s u p.resets → IsTrue s.device.told → BuildsEach s u p (graph_with p g r)
+graph_each once o v stays resets z =
     let told = o.runs.runs.session.touches.told ∙ z in
     record {
       defined = λ k a. v.defined told k (sorted_of once o z k a);
@@ -94,6 +103,7 @@ graph_each once o v stays z =
         gates = stays.items told ∙ (o.items z k a).third;
         edges = v.edges_are told k (sorted_of once o z k a);
         sources = v.sources_are told k (sorted_of once o z k a);
+        resets = resets.items z ∙ a.resets;
       };
     }
 
@@ -117,7 +127,13 @@ built q x y {s} {t} {u} {p} {d} {g} {e} r v once size o can i blocks =
     (omega arith) (omega arith) (omega arith) (omega (arith, can.owed_is)) o.runs in
     let runs = beside_wider (let c = can.calls in omega (arith, c)) (omega arith)
     (beside_then first (compared_runs q x y k r o can.fits can.blocks i blocks stays)) in
-    let each = graph_each once o i stays in
+    let rs = chain_blocks s p.resets in
+    let resets = chain_stays (q.blocks x s ++ lists_blocks s p) s u p.resets
+    runs.runs.session.touches (λ z. apart_between (q.blocks x s) rs (lists_blocks s p) z (v.holds z))
+    v.parts.resets.is in
+    let whole = session_past (q.blocks x s) rs (lists_blocks s p) (q.blocks y u)
+    (graph_lists u (graph_with p g r)) v.holds runs.runs.session in
+    let each = graph_each once o i stays resets in
     record {
       runs = runs;
       in_runs = runs_wider can.calls o.in_runs;
@@ -126,8 +142,12 @@ built q x y {s} {t} {u} {p} {d} {g} {e} r v once size o can i blocks =
         gates = record { is = stays.is; count_is = size.gates_count ∙ v.parts.gates.count_is };
         edges = record { is = i.edges_is; count_is = i.edges_count ∙ size.edges_count };
         sources = record { is = i.sources_is; count_is = i.sources_count };
-        holds = λ z. holds_last (q.blocks y u) (graph_blocks u (graph_with p g r))
-            (beside_holds runs z);
+        resets = compact_stays v.parts.resets runs.runs.session.touches.shape resets;
+        holds = λ z.
+            let first = sym runs.runs.session.touches.told ∙ z in
+            holds_last (q.blocks y u) (graph_blocks u (graph_with p g r))
+            (subst (λ (js : List ℕ). Holds u (q.blocks y u ++ (js ++ graph_lists u (graph_with p g r))))
+            (sym (resets.blocks first)) (whole.holds first));
         stands = λ z.
             let first = sym runs.runs.session.touches.told ∙ z in
             let some = v.parts.stands first in
@@ -137,5 +157,7 @@ built q x y {s} {t} {u} {p} {d} {g} {e} r v once size o can i blocks =
       edges = i.edges_blocks ∙ room_at o size.edges_count;
       gates = size.gates_blocks;
       sources = i.sources_blocks ∙ room_at {i = k} o refl;
+      resets_are = refl;
+      resets_stay = resets;
       stands = each;
     }

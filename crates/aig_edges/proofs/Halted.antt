@@ -19,7 +19,7 @@ use Rattle.em_record.specs.declared.record.Record.{Record}
 use Rattle.aig_defs.specs.declared.fault.AigKind.TheVariants as kind
 use Rattle.aig_text.specs.Ascii.{ArePartsOf, IfEmStop}
 use Rattle.aig_text.specs.Draft.{chains_blocks}
-use Rattle.aig_text.specs.Parts.{parts_blocks}
+use Rattle.aig_text.specs.Parts.{lists_blocks}
 use Rattle.aig_text.specs.declared.parts.Parts.{Parts}
 use Rattle.aig_text.specs.declared.stop.AigStop.{AigStop}
 use Rattle.aig_text.specs.declared.stop.AigStop.TheVariants as stop
@@ -60,7 +60,7 @@ none_made q x y w {s} {t} {u} p {n} {more} ks e o l m fits same v stops cause =
     record {
       done = record {
         sound = v.sound;
-        touches = touches_within s t u (q.blocks x s ++ parts_blocks s p) ks r.session.touches within
+        touches = touches_within s t u (q.blocks x s ++ lists_blocks s p) ks r.session.touches within
             v.touches;
         shares = shares_then (q.counts x) (q.counts y) (q.counts w) s.pool t.pool u.pool
             (shares_frames r.frames o.runs.calls_on.frames o.runs.calls_on.areas) v.frames;
@@ -100,7 +100,7 @@ sort_none q x y w {s} {t} {u} p m rest {a} {b} {c} {fault = fault} o e l k fits 
       moves = omega (arith, z.moves);
       pays = pays_more z.pays (omega arith);
     }) tt
-    (cause_after (q.blocks x s ++ parts_blocks s p) s t u fault o.runs.runs.session.touches v.cause)
+    (cause_after (q.blocks x s ++ lists_blocks s p) s t u fault o.runs.runs.session.touches v.cause)
 
 looks_halt : {c : QueueCounts} {m size owed : ℕ} {t u : RigState} (peak : ℕ) (ks : List ℕ)
     → m ≤ owed → c.unstored ≤ t.pool.shape.frames → Looks m t u → HaltsBeside 0 peak ks size owed c c t u
@@ -125,7 +125,7 @@ look_none q x y {s} {t} {u} p {a = a} {b} {c} {fault = fault} o l k few v =
     none_made q x y y p (q.blocks y t ++ chains_blocks t a b c) (stop.Em fault) o
     (omega arith) (omega (arith, k)) (omega arith) refl
     (looks_halt (sort_peak s p) (q.blocks y t ++ chains_blocks t a b c) l few v.looks) tt
-    (cause_after (q.blocks x s ++ parts_blocks s p) s t u fault o.runs.runs.session.touches
+    (cause_after (q.blocks x s ++ lists_blocks s p) s t u fault o.runs.runs.session.touches
     (block_cause t u fault v.cause))
 
 -- or a variable is defined twice.
@@ -193,7 +193,7 @@ compare_none q x y p stop.Read o can are v = absurd v
 compare_none q x y {s} {t} {u} p {k = k} (stop.Em fault) o can are v =
     compare_halted q x y p {k = k} (stop.Em fault) o can v.goes v.halts.most
     (let z = v.halts.moves in omega (arith, z)) v.halts.pays tt
-    (cause_after (q.blocks x s ++ parts_blocks s p) s t u fault o.runs.runs.session.touches v.cause)
+    (cause_after (q.blocks x s ++ lists_blocks s p) s t u fault o.runs.runs.session.touches v.cause)
 
 -- what comparing touched, if it stopped
 pub compare_goes : {t u : RigState} (k : ℕ) (d e : Chain) (r : AigStop)

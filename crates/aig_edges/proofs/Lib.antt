@@ -13,6 +13,7 @@ pub mod Listed
 pub mod Looks
 pub mod Made
 pub mod Opened
+pub mod OrderedLaws
 pub mod Pushed
 pub mod Pushes
 pub mod Repeated

@@ -21,7 +21,7 @@ use Rattle.aig_defs.specs.Graph.{AllLack, graph_edges, graph_gates}
 use Rattle.aig_defs.specs.Sorted.{sorted_defs}
 use Rattle.aig_defs.specs.declared.fault.AigKind.TheVariants as kind
 use Rattle.aig_text.specs.Ascii.{ArePartsOf}
-use Rattle.aig_text.specs.Parts.{IsParts, parts_blocks}
+use Rattle.aig_text.specs.Parts.{IsParts, lists_blocks, parts_blocks}
 use Rattle.aig_text.specs.declared.parts.Parts.{Parts}
 use Rattle.aig_text.specs.declared.stop.AigStop.TheVariants as stop
 use Rattle.aig_edges.specs.Build.{edge_room}
@@ -66,8 +66,8 @@ given q x p sound parts is begins blocks holds = record {
 pub given_stands : {Q : Type 0} {q : QueueGhosts Q} {x : Q} {s : RigState} {p : Parts}
     → Given q x s p
     → StandsBeside q x x s s p 0 (sort_moves s p) p.defs p.gates p.uses defs_of gates_of uses_of
-given_stands {q = q} {x} {p = p} v =
-    stands_first q x p v.sound v.parts v.queue v.begins.empty v.blocks v.holds
+given_stands {q = q} {x} {s} {p} v = stands_first q x p v.sound v.parts v.queue v.begins.empty
+    v.blocks (λ z. holds_skip (q.blocks x s) (chain_blocks s p.resets) (lists_blocks s p) (v.holds z))
 
 -- the moves that are left after each step
 abbrev pub owed_looking : RigState → Parts → ℕ
@@ -92,7 +92,7 @@ pub room_at : {Q : Type 0} {q : QueueGhosts Q} {x y : Q} {s t : RigState} {p : P
     → ceiling i (payload_in t) ≡ ceiling j (payload_in s)
 room_at {q = q} {x} {s = s} {t} {p} {i = i} {j} o e = ap (λ (k : ℕ). ceiling k (payload_in t)) e
     ∙ ap (λ (k : ℕ). ceiling j k)
-    (payload_kept (q.blocks x s ++ parts_blocks s p) s t o.runs.runs.session.touches)
+    (payload_kept (q.blocks x s ++ lists_blocks s p) s t o.runs.runs.session.touches)
 
 -- the frames that are free at a later moment
 free_at : {Q : Type 0} {q : QueueGhosts Q} {x y : Q} {s t : RigState} {p : Parts} {n owed : ℕ}
@@ -127,7 +127,7 @@ holds_first {s} xs ys h = record {
 can_sort : {Q : Type 0} (q : QueueGhosts Q) (which : Sorted) (x y : Q) {s t : RigState} {p : Parts}
     {n owed : ℕ} {a b c : Chain} {f g h : Circuit → List Record} → Given q x s p
     → StandsBeside q x y s t p n owed a b c f g h → n + 2 * a.count ≤ sort_calls p.header
-    → a.count ≤ 2 ^ 42
+    → a.count ≤ 2 ^ 43
     → (IsTrue s.device.told → AllLack [] (sorted_items which (chain_items t a)))
     → CanSort q which y t a
 can_sort q which x y {s} {t} {a = a} {b} {c} v o l m lacks = record {
@@ -271,7 +271,7 @@ can_sort_edges q x y {s} {t} {p} {d} {g} v once same o =
       gates_is = o.third;
       uses_is = o.first;
       gates_few = omega (arith, same, gates, h.gates);
-      uses_few = omega (arith, uses, h.latches, h.outputs);
+      uses_few = omega (arith, uses, h.latches, h.outputs, h.bads, h.constraints);
       few =
           let i = v.begins.few in
           let j = o.in_runs.n in
@@ -360,7 +360,7 @@ can_compare q x y {s} {t} {p} {d} {g} {e} v once z o =
       defs_is = o.first;
       edges_is = o.second;
       defs_few = omega (arith, count, z.defs_count, h.inputs, h.latches, h.gates);
-      edges_few = omega (arith, z.edges_count, h.gates, h.latches, h.outputs);
+      edges_few = omega (arith, z.edges_count, h.gates, h.latches, h.outputs, h.bads, h.constraints);
       holds = λ k. holds_first (ds ++ es) gs (holds_last qs ((ds ++ es) ++ gs)
           (subst (λ (js : List ℕ). Holds t (qs ++ js)) (sym (append_assoc ds es gs))
           (beside_holds o.runs k)));

@@ -19,7 +19,7 @@ use Rattle.aig_defs.specs.Circuit.{Circuit}
 use Rattle.aig_defs.specs.Chains.{defs_of, gates_of, uses_of}
 use Rattle.aig_text.specs.Ascii.{ArePartsOf}
 use Rattle.aig_text.specs.Draft.{chains_blocks}
-use Rattle.aig_text.specs.Parts.{IsParts, parts_blocks}
+use Rattle.aig_text.specs.Parts.{IsParts, lists_blocks}
 use Rattle.aig_text.specs.declared.parts.Parts.{Parts}
 use Rattle.aig_edges.specs.Build.{parts_size}
 use Rattle.aig_edges.specs.BuildGraph.{CalledInRuns, sort_moves, sort_peak, sort_run}
@@ -38,7 +38,7 @@ pub record HaveItems (t : RigState) (a b c : Chain) (f g h : List Record) : Type
 -- Three chains stand beside the queue, after so many calls; `owed` moves may still be made.
 pub record StandsBeside {Q : Type 0} (q : QueueGhosts Q) (x y : Q) (s t : RigState) (p : Parts)
     (calls owed : ℕ) (a b c : Chain) (f g h : Circuit → List Record) : Type 0 where
-  pub runs : RunsBeside calls (sort_peak s p) (q.blocks x s ++ parts_blocks s p)
+  pub runs : RunsBeside calls (sort_peak s p) (q.blocks x s ++ lists_blocks s p)
       (q.blocks y t ++ chains_blocks t a b c) (stored_account (parts_size p) (sort_moves s p))
       (stored_account (a.blocks + (b.blocks + c.blocks)) owed) (q.counts x) (q.counts y) s t
   pub in_runs : CalledInRuns calls (sort_run p.header) (q.counts x) (q.counts y)
@@ -54,11 +54,11 @@ pub record StandsBeside {Q : Type 0} (q : QueueGhosts Q) (x y : Q) (s t : RigSta
 -- At first these are the circuit's parts.
 pub stands_first : {Q : Type 0} (q : QueueGhosts Q) (x : Q) {s : RigState} (p : Parts) → Sound s
     → IsParts s p → q.IsQueue x s → (q.counts x).len ≡ 0 → (q.counts x).blocks ≤ (q.counts x).most
-    → (IsTrue s.device.told → Holds s (q.blocks x s ++ parts_blocks s p))
+    → (IsTrue s.device.told → Holds s (q.blocks x s ++ lists_blocks s p))
     → StandsBeside q x x s s p 0 (sort_moves s p) p.defs p.gates p.uses defs_of gates_of uses_of
 stands_first q x {s} p sound i is none l n = record {
   runs = beside_wider (omega arith) (omega arith)
-      (beside_none s (q.blocks x s ++ parts_blocks s p)
+      (beside_none s (q.blocks x s ++ lists_blocks s p)
       (stored_account (parts_size p) (sort_moves s p)) (q.counts x) sound l n);
   in_runs = record { n = omega arith; k = omega arith; more = omega arith };
   rests = omega arith;

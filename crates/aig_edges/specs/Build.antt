@@ -7,7 +7,7 @@ use Rattle.em_chain.specs.Counts.{ceiling}
 use Rattle.aig_text.specs.declared.parts.Parts.{Parts}
 use Rattle.aig_edges.specs.Graph.{edge_count}
 
--- how many blocks a circuit's three chains have
+-- how many blocks a circuit's lists of definitions, gates and uses have
 abbrev pub parts_size : Parts → ℕ
 parts_size p = p.defs.blocks + (p.gates.blocks + p.uses.blocks)
 

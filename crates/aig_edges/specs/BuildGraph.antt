@@ -77,6 +77,7 @@ pub record BuildsGraph (held : List ℕ) (s t : RigState) (p : Parts) (g : Graph
   pub edges : g.edges.blocks ≡ edge_room s p
   pub gates : g.gates.blocks ≡ gate_room s p
   pub sources : g.sources.blocks ≡ source_room s p
+  pub resets : g.resets ≡ p.resets
   pub stands : IsTrue s.device.told → BuildsEach s t p g
 
 -- the faults of definitions, which are found here; a text with one of these has no other

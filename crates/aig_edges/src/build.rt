@@ -107,6 +107,7 @@ fn build<D: Device, Q: Queue>(
         defs,
         gates,
         uses,
+        resets,
     } = parts;
     let defs = sort(rig, queue, defs, Sorted::Definitions)?;
     if let Some(place) = twice(rig, &defs)? {
@@ -123,5 +124,6 @@ fn build<D: Device, Q: Queue>(
         gates,
         edges,
         sources,
+        resets,
     })
 }

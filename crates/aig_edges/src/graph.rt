@@ -1,7 +1,7 @@
 use aig_defs::Header;
 use em_chain::Chain;
 
-/// A circuit as three ordered chains of records: docs/FORMATS.md, "Records of circuits". The chains
+/// A circuit as three ordered chains of records, and its resets: docs/FORMATS.md, "Records of circuits". The chains
 /// hold their blocks, and no frame.
 #[derive(Drop)]
 pub struct Graph {
@@ -13,10 +13,12 @@ pub struct Graph {
     pub edges: Chain,
     /// A record for each input and latch, in the order of their variables.
     pub sources: Chain,
+    /// A record for each latch, with the bit with which it starts.
+    pub resets: Chain,
 }
 
-/// A circuit whose variables, next values and outputs have ranks, so that each edge leads to a
-/// greater rank: docs/FORMATS.md, "Records of circuits". The chain holds its blocks, and no frame.
+/// A circuit whose variables, next values and columns have ranks, so that each edge leads to a
+/// greater rank: docs/FORMATS.md, "Records of circuits". The chains hold their blocks, and no frame.
 #[derive(Drop)]
 pub struct Ordered {
     /// The numbers of the header.
@@ -25,4 +27,6 @@ pub struct Ordered {
     pub passes: u64,
     /// A record for each use of a literal, in the order of the ranks that they come from.
     pub edges: Chain,
+    /// A record for each latch, with the bit with which it starts.
+    pub resets: Chain,
 }

@@ -4,7 +4,7 @@ use Rattle.std.proofs.Common.{◌⊎◌, inl, inr, ◌≡◌, ℕ, zero, suc, �
 use Rattle.std.proofs.lemmas.List.{append-nil, length-append, length-map, take-append-drop}
 use Rattle.em_record.specs.Order.{AtLeast, IsAscending, is_below}
 use Rattle.em_record.specs.declared.record.Record.{Record}
-use Rattle.aig_defs.specs.Circuit.{Circuit, nexts}
+use Rattle.aig_defs.specs.Circuit.{Circuit, nexts, columns}
 use Rattle.aig_defs.specs.Edges.{LeadOn, arity, conjunction}
 use Rattle.aig_defs.specs.Ranks.{ends, first_end_rank, first_gate_rank, ordered_edges, rank_count, rank_value}
 use Rattle.aig_defs.specs.Value.{literal_value, step_of}
@@ -190,8 +190,8 @@ module _ {c : Circuit} {order : List Gate} {s i : List Bool} {h : Header}
   gates_is : length order ≡ h.gates
   gates_is = numbers.gates ∙ ap (λ (z : Header). z.gates) r.header_is
 
-  ends_is : length (ends c) ≡ h.latches + h.outputs
-  ends_is = numbers.ends ∙ ap (λ (z : Header). z.latches + z.outputs) r.header_is
+  ends_is : length (ends c) ≡ h.latches + columns h
+  ends_is = numbers.ends ∙ ap (λ (z : Header). z.latches + columns z) r.header_is
 
   leads : LeadOn (first_end_rank c order) (rank_count c order) (ordered_edges c order)
   leads = edges_lead c order r.order_is
@@ -253,12 +253,12 @@ module _ {c : Circuit} {order : List Gate} {s i : List Bool} {h : Header}
       order)
       → (bits_of (take h.latches items) ≡ (step_of c s i).1)
       × (bits_of (drop h.latches items) ≡ (step_of c s i).0)
-      × (length items ≡ h.latches + h.outputs)
+      × (length items ≡ h.latches + columns h)
   waits_ends {items} count w =
       let value = rank_value c order s i in
       let edges = ordered_edges c order in
       let k = edge_count h in
-      let n = h.latches + h.outputs in
+      let n = h.latches + columns h in
       let t = last_of h + 1 in
       let long : length edges ≡ k = ap length (sym r.edges_are) ∙ length-append given gates ∙ count
       in

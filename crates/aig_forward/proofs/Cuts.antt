@@ -1,4 +1,4 @@
--- Edges are cut before the first one that comes from a gate, and a state of zeros is written.
+-- Edges are cut before the first one that comes from a gate, and the resets are the state.
 use Rattle.std.proofs.Common.{◌≡◌, ℕ, All, zero, suc, ◌+◌, ◌*◌, ◌<◌, ◌≤◌, List, [], ◌∷◌, ◌++◌, length, slice_index_or, add-one, refl, sym, ap, ◌∙◌, subst, arith, IsTrue, true, false, ⊎_elim, Ordering, Less, Equal, Greater, Result, Ok, Err}
 use Rattle.std.proofs.lemmas.List.Elements.{All-weaker}
 use Rattle.std.specs.Cmp.{nat_cmp_is}
@@ -12,31 +12,25 @@ use Rattle.em_space.specs.Ledger.{Runs, Stops}
 use Rattle.em_space.specs.Rig.{RigState, Goes, Cause, IfFull}
 use Rattle.em_space.specs.declared.fault.EmFault.{EmFault}
 use Rattle.em_space.specs.declared.fault.EmFault.TheVariants.{DeviceFault, Full, Damaged}
-use Rattle.em_space.proofs.Apart.{off_append}
-use Rattle.em_space.proofs.Held.{apart_none}
-use Rattle.em_space.proofs.Ledgers.{full_by}
-use Rattle.em_space.proofs.Lists.{distinct_join, in_use_append}
-use Rattle.em_space.proofs.Paying.{pays_of_owes, pays_then}
-use Rattle.em_space.proofs.Runs.{runs_of}
-use Rattle.em_space.proofs.Sessions.{session_as, session_beside, session_trans}
-use Rattle.em_space.proofs.Steps.{cause_after, same_frames_then}
-use Rattle.em_space.proofs.Within.{goes_within}
-use Rattle.em_chain.specs.Chain.{ChainStays, chain_blocks, chain_items, payload_in}
-use Rattle.em_chain.specs.Counts.{ceiling}
+use Rattle.em_space.specs.Held.{Holds}
+use Rattle.em_space.proofs.Apart.{off_append, off_right}
+use Rattle.em_space.proofs.Lists.{distinct_apart, distinct_join, in_use_append}
+use Rattle.em_space.proofs.Paying.{pays_more, pays_of_owes}
+use Rattle.em_space.proofs.Runs.{runs_of, runs_second}
+use Rattle.em_space.proofs.Sessions.{session_as}
+use Rattle.em_space.proofs.Within.{goes_wider}
+use Rattle.em_chain.specs.Chain.{ChainStays, chain_blocks, chain_items}
 use Rattle.em_chain.specs.Effects.{OnFull}
 use Rattle.em_chain.specs.Parts.{AllBelow, NoneBelow, PartCosts, Parts}
 use Rattle.em_chain.specs.declared.chain.Chain.{Chain}
 use Rattle.em_chain.proofs.Counts.{lt_or_le}
-use Rattle.em_chain.proofs.Keeps.{payload_kept}
 use Rattle.em_chain.proofs.Laws.{chain_stays}
 use Rattle.em_chain.proofs.Withins.{within_ends}
-use Rattle.em_queued.specs.Queued.{no_account}
 use Rattle.aig_defs.specs.Ranks.{edges_by_rank}
 use Rattle.aig_text.specs.Draft.{chains_blocks}
-use Rattle.aig_edges.specs.Graph.{IsOrdered, ordered_blocks}
+use Rattle.aig_edges.specs.Graph.{IsOrdered, ordered_blocks, ordered_size}
 use Rattle.aig_edges.specs.declared.graph.Ordered.{Ordered}
-use Rattle.aig_forward.specs.Lists.{Makes, MakesTo, begin_moves, begin_room, gates_from, latch_room, lists_account}
-use Rattle.aig_forward.specs.Zeros.{IsZeros}
+use Rattle.aig_forward.specs.Lists.{Makes, MakesTo, begin_moves, begin_room, gates_from, lists_account}
 
 -- An ascending list is sorted, as the order of std says it.
 sorted_at : (xs : List Record) → IsAscending xs → (k : ℕ) (d : Record) → k + 1 < length xs
@@ -104,18 +98,22 @@ high_of n xs h = All-weaker (λ (x : Record). is_below x (from (n + 1)) ≡ fals
     (λ x e. ⊎_elim (λ (l : n < x.a). l)
     (λ (l : x.a ≤ n). absurd (is_high x (n + 1) (omega (arith, l)) e)) (lt_or_le n x.a)) xs h
 
-module _ {s u : RigState} {f g : Chain} (o : Ordered) (goes : Goes (ordered_blocks s o) s u)
+module _ {s u : RigState} {f g : Chain} (o : Ordered) (ordered : IsOrdered s o)
+    (holds : IsTrue s.device.told → Holds s (ordered_blocks s o))
+    (goes : Goes (chain_blocks s o.edges) s u)
     (parts : Parts s u o.edges (gates_from o.header) f g) (costs : PartCosts s u o.edges.blocks)
   where
     -- The edges were cut.
-    cut_runs : Runs (o.edges.blocks + 1) (ordered_blocks s o) (chain_blocks u f ++ chain_blocks u g)
+    cut_runs : Runs (o.edges.blocks + 1) (chain_blocks s o.edges)
+        (chain_blocks u f ++ chain_blocks u g)
         (lists_account o.edges.blocks (4 * o.edges.blocks + 4))
         (lists_account (f.blocks + g.blocks) 0) s u
     cut_runs =
+        let es = chain_blocks s o.edges in
         let fs = chain_blocks u f in
         let gs = chain_blocks u g in
-        let ends = within_ends s (ordered_blocks s o) gs parts.second_blocks in
-        runs_of (ordered_blocks s o) (fs ++ gs) goes
+        let ends = within_ends s es gs parts.second_blocks in
+        runs_of es (fs ++ gs) goes
         (record {
           off = λ z j i n. off_append j fs gs (parts.first_blocks.off z j i n) (ends.off
               z j i n);
@@ -135,81 +133,40 @@ module _ {s u : RigState} {f g : Chain} (o : Ordered) (goes : Goes (ordered_bloc
           pays = pays_of_owes 0 0 0 parts.stored (omega arith);
         })
 
-    -- The state was written,
-    pub made : {t : RigState} {c : Chain} → IsZeros o.header.latches u t c → Makes s t o c f g
-    made {t} {c} z =
-        let cut = cut_runs in
-        let on = z.runs.session.touches in
-        let fk : ChainStays u t f = chain_stays [] u t f on (λ y. apart_none (chain_blocks u f))
-        parts.first in
-        let gk : ChainStays u t g = chain_stays [] u t g on (λ y. apart_none (chain_blocks u g))
-        parts.second in
-        let td = goes.touches.told in
+    -- The resets are the state.
+    pub made : Makes s u o o.resets f g
+    made =
+        let rs = chain_blocks s o.resets in
+        let es = chain_blocks s o.edges in
+        let stays : ChainStays s u o.resets = chain_stays es s u o.resets goes.touches
+        (λ z. distinct_apart rs es ((holds z).distinct z)) ordered.resets.is in
+        let beside = runs_second rs (lists_account o.resets.blocks 0) holds cut_runs in
+        let x = beside.spends in
         let n = o.header.inputs + o.header.latches in
-        let room : latch_room o.header u ≡ latch_room o.header s =
-        ap (λ (p : ℕ). ceiling o.header.latches p) (payload_kept (ordered_blocks s o) s u
-        goes.touches) in
-        let ys = chain_blocks u f ++ chain_blocks u g in
-        let beside = session_beside [] [] (chain_blocks t c) ys
-        (λ y. cut.session.holds (sym td ∙ y)) z.runs.session in
-        let same = session_as (chains_blocks t c f g) beside
-        (λ y. rw (fk.blocks y, gk.blocks y) refl) in
-        let x = cut.spends in
-        let w = z.runs.spends in
-        let zb = z.blocks_is in
         record {
-          state_is = z.is;
-          given_is = fk.is;
-          gates_is = gk.is;
-          latches = z.count_is;
-          state_blocks = zb ∙ room;
+          state_is = stays.is;
+          given_is = parts.first;
+          gates_is = parts.second;
+          latches = ordered.resets.count_is;
+          state_blocks = refl;
           edges = parts.count;
-          zeros_are = λ y. z.items (td ∙ y);
-          items = λ y. parts.items y ∙ rw (fk.items (td ∙ y), gk.items (td ∙ y)) refl;
-          low = λ y. rw (fk.items (td ∙ y)) (low_of n (chain_items u f) (parts.below y));
-          high = λ y. rw (gk.items (td ∙ y)) (high_of n (chain_items u g) (parts.others y));
+          resets_are = stays.items;
+          items = parts.items;
+          low = λ y. low_of n (chain_items u f) (parts.below y);
+          high = λ y. high_of n (chain_items u g) (parts.others y);
           runs = record {
-            session = session_trans cut.session same;
-            frames = same_frames_then s.pool u.pool t.pool cut.frames z.runs.frames;
+            session = session_as (chains_blocks u o.resets f g) beside.session
+                (λ z. rw (stays.blocks z) refl);
+            frames = beside.frames;
             spends = record {
-              held = omega (arith, x.held, zb, room);
-              used = omega (arith, x.used, w.used);
-              most = omega (arith, x.used, x.held, x.most, w.most, zb, room);
-              moves = omega (arith, x.moves, w.moves, zb, room);
-              later = omega (arith, x.later, w.later);
-              pays = pays_then x.pays w.pays w.later;
+              held = omega (arith, x.held);
+              used = omega (arith, x.used);
+              most = omega (arith, x.most);
+              moves = omega (arith, x.moves);
+              later = x.later;
+              pays = pays_more x.pays (omega arith);
             };
           };
-        }
-
-    -- or it wasn't.
-    pub unmade : {t : RigState} {e : EmFault}
-        → Stops (ceiling o.header.latches (payload_in u)) (2 * ceiling o.header.latches
-        (payload_in u) + 1)
-        1 [] no_account u t e
-        → Stops (begin_room s o) 0 1 (ordered_blocks s o)
-        (lists_account o.edges.blocks (begin_moves s o)) s t e
-    unmade {t} {e} k =
-        let cut = cut_runs in
-        let room : latch_room o.header u ≡ latch_room o.header s =
-        ap (λ (p : ℕ). ceiling o.header.latches p) (payload_kept (ordered_blocks s o) s u
-        goes.touches) in
-        let x = cut.spends in
-        let w = k.halts in
-        record {
-          goes = goes_within (ordered_blocks s o) [] s u t goes (record { off = λ z j i n. tt })
-              k.goes;
-          halts = record {
-            used = omega (arith, x.used, x.held, w.used, room);
-            full = full_by e (t.used + 0 < u.used + latch_room o.header u)
-                (t.used + o.edges.blocks < s.used + begin_room s o)
-                (λ h. omega (arith, x.used, x.held, h, room)) w.full;
-            most = omega (arith, x.used, x.held, x.most, w.most, room);
-            moves = omega (arith, x.moves, w.moves, room);
-            later = omega (arith, x.later, w.later);
-            pays = pays_then x.pays w.pays w.later;
-          };
-          cause = cause_after (ordered_blocks s o) s u t e goes.touches k.cause;
         }
 
 full_still : (e : EmFault) (P Q : Type 0) → (P → Q) → OnFull e P → IfFull e (λ _. Q)
@@ -218,19 +175,22 @@ full_still (Full n) P Q f h = f h
 full_still (Damaged k) P Q f h = tt
 
 -- The edges weren't cut.
-pub uncut : {s t : RigState} {e : EmFault} (o : Ordered) → Goes (ordered_blocks s o) s t
+pub uncut : {s t : RigState} {e : EmFault} (o : Ordered) → Goes (chain_blocks s o.edges) s t
     → PartCosts s t o.edges.blocks → OnFull e (s.used ≡ s.blocks) → Cause s t e
-    → Stops (begin_room s o) 0 1 (ordered_blocks s o)
-    (lists_account o.edges.blocks (begin_moves s o)) s t e
+    → Stops (begin_room o) 0 1 (ordered_blocks s o)
+    (lists_account (ordered_size o) (begin_moves o)) s t e
 uncut {s} {t} {e} o g k f c =
     let n = g.sound.numbers.used_most in
     let m = g.sound.numbers.most_high in
     let b = g.touches.blocks in
+    let rs = chain_blocks s o.resets in
+    let es = chain_blocks s o.edges in
     record {
-      goes = g;
+      goes = goes_wider (rs ++ es) es s t (record { off = λ z j i w. off_right j rs es w }) g;
       halts = record {
         used = omega (arith, k.used);
-        full = full_still e (s.used ≡ s.blocks) (t.used + o.edges.blocks < s.used + begin_room s o)
+        full = full_still e (s.used ≡ s.blocks)
+            (t.used + ordered_size o < s.used + begin_room o)
             (λ h. omega (arith, h, n, m, b)) f;
         most = omega (arith, k.most);
         moves = omega (arith, k.moves);
@@ -243,8 +203,8 @@ uncut {s} {t} {e} o g k f c =
 -- the same by the result
 pub made_err : (s t : RigState) (o : Ordered) (r : Result (Chain × Chain × Chain) EmFault)
     (e : EmFault) → IsErrAnd r (λ f. f ≡ e)
-    → Stops (begin_room s o) 0 1 (ordered_blocks s o)
-    (lists_account o.edges.blocks (begin_moves s o)) s t e → MakesTo s t o r
+    → Stops (begin_room o) 0 1 (ordered_blocks s o)
+    (lists_account (ordered_size o) (begin_moves o)) s t e → MakesTo s t o r
 made_err s t o (Ok x) e h k = absurd h
-made_err s t o (Err f) e h k = subst (λ (x : EmFault). Stops (begin_room s o) 0 1
-    (ordered_blocks s o) (lists_account o.edges.blocks (begin_moves s o)) s t x) (sym h) k
+made_err s t o (Err f) e h k = subst (λ (x : EmFault). Stops (begin_room o) 0 1
+    (ordered_blocks s o) (lists_account (ordered_size o) (begin_moves o)) s t x) (sym h) k

@@ -1,5 +1,5 @@
 -- An evaluator that is made, ended or abandoned.
-use Rattle.std.proofs.Common.{◌≡◌, ℕ, zero, suc, ◌+◌, ◌*◌, ◌≤◌, List, [], ◌∷◌, ◌++◌, length, replicate, Bool, false, refl, sym, ap, ◌∙◌, subst, arith, IsTrue, Option, Some, None, IfSome, Result, Ok, Err, OnOk, OnErr, IfErr}
+use Rattle.std.proofs.Common.{◌≡◌, ℕ, ◌+◌, ◌*◌, ◌≤◌, List, [], ◌∷◌, ◌++◌, length, Bool, true, false, eqb, refl, sym, ap, ap₂, ◌∙◌, subst, arith, IsTrue, Option, Some, None, IfSome, Result, Ok, Err, OnOk, OnErr, IfErr}
 use Rattle.em_record.specs.Shape.{ShapeNumbers}
 use Rattle.em_record.specs.declared.record.Record.{Record}
 use Rattle.em_space.specs.Held.{Holds}
@@ -20,7 +20,9 @@ use Rattle.em_chain.specs.declared.chain.Chain.{Chain}
 use Rattle.em_chain.proofs.Keeps.{payload_kept}
 use Rattle.em_chain.proofs.Writings.{cause_still}
 use Rattle.em_queued.proofs.Queued.{beside_as, others_beside}
-use Rattle.aig_defs.specs.Circuit.{Circuit}
+use Rattle.aig_defs.specs.Chains.{bit, numbered, reset_record}
+use Rattle.aig_defs.specs.Circuit.{Circuit, resets}
+use Rattle.aig_defs.specs.declared.circuit.Latch.{Latch}
 use Rattle.aig_defs.specs.declared.circuit.Gate.{Gate}
 use Rattle.aig_text.specs.Draft.{chains_blocks}
 use Rattle.aig_edges.specs.Graph.{IsOrdered, IsOrderedOf, ordered_blocks}
@@ -28,13 +30,17 @@ use Rattle.aig_edges.specs.declared.graph.Ordered.{Ordered}
 use Rattle.aig_forward.specs.Bits.{bits_of}
 use Rattle.aig_forward.specs.Evaluator.{BeginsEvaluator, EndsEvaluator, EndsTo, Evaluates, Halted, IsEvaluator, lists_blocks, lists_size, without_frames}
 use Rattle.aig_forward.specs.Lists.{AreLists, Makes, lists_account}
-use Rattle.aig_forward.specs.Zeros.{zeros}
 use Rattle.aig_forward.specs.declared.evaluator.Evaluator.{Evaluator}
 
--- the bits of zeros
-zero_bits : (n : ℕ) → bits_of (zeros n) ≡ replicate n false
-zero_bits zero = refl
-zero_bits (suc n) = ap (λ (bs : List Bool). false ∷ bs) (zero_bits n)
+-- the bits of resets
+bit_is : (b : Bool) → eqb (bit b) 1 ≡ b
+bit_is true = refl
+bit_is false = refl
+
+reset_bits : (j : ℕ) (ls : List Latch) → bits_of (numbered reset_record j ls) ≡ resets ls
+reset_bits j [] = refl
+reset_bits j (l ∷ ls) = ap₂ (λ (b : Bool) (bs : List Bool). b ∷ bs) (bit_is l.reset)
+    (reset_bits (j + 1) ls)
 
 none_of : (xs : List Record) → length xs ≡ 0 → xs ≡ []
 none_of [] e = refl
@@ -68,7 +74,7 @@ module _ {Q : Type 0} (queue : Ghosts Q) {s t : RigState} (o : Ordered) (q : Q)
             edges = made.edges ∙ ordered.edges.count_is;
             state = made.state_is;
             latches = made.latches;
-            state_blocks = made.state_blocks
+            state_blocks = made.state_blocks ∙ ordered.resets.blocks_is
                 ∙ ap (λ (p : ℕ). ceiling o.header.latches p)
                 (sym (payload_kept (ordered_blocks s o) s t made.runs.session.touches));
             is = is;
@@ -81,7 +87,7 @@ module _ {Q : Type 0} (queue : Ghosts Q) {s t : RigState} (o : Ordered) (q : Q)
           runs = runs;
         }
 
-    -- All its latches are false.
+    -- Each latch has its reset.
     pub begun_for : IsTrue s.device.told → (queue.counts q).len ≡ 0
         → (queue.counts q).len ≡ length (queue.items q s) → queue.items q t ≡ queue.items q s
         → (c : Circuit) (order : List Gate) → IsOrderedOf s o c order
@@ -91,14 +97,14 @@ module _ {Q : Type 0} (queue : Ghosts Q) {s t : RigState} (o : Ordered) (q : Q)
           gates = gates;
           state = state;
           queue = q;
-        }) c order (replicate o.header.latches false)
+        }) c order (resets c.latches)
     begun_for z empty len items c order i = record {
       header = i.header;
       order_is = i.ordered;
       edges = sym (made.items z) ∙ i.edges;
       low = made.low z;
       high = made.high z;
-      bits = ap bits_of (made.zeros_are z) ∙ zero_bits o.header.latches;
+      bits = ap bits_of (made.resets_are z ∙ i.resets) ∙ reset_bits 0 c.latches;
       none = items ∙ none_of (queue.items q s) (sym len ∙ empty);
     }
 

@@ -6,7 +6,6 @@ mod StepEnds
 mod StepLines
 mod StepPasses
 mod StepStops
-mod Zeros
 pub mod Awaits
 pub mod BitLists
 pub mod Bits

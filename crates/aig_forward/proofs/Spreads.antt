@@ -61,6 +61,8 @@ can_first {h} {given} {gates} {bits} {q} can none =
     let empty = can.empty in
     let a = can.header.latches in
     let b = can.header.outputs in
+    let bb = can.header.bads in
+    let bc = can.header.constraints in
     let g = can.header.gates in
     record {
       sound = can.sound;
@@ -89,6 +91,8 @@ can_second {h} {given} {gates} {bits} {rest} {q} {p} can s =
     let empty = can.empty in
     let a = can.header.latches in
     let b = can.header.outputs in
+    let bb = can.header.bads in
+    let bc = can.header.constraints in
     let g = can.header.gates in
     let n = k.runs.calls_on.called.n in
     let more = k.more in

@@ -21,7 +21,7 @@ use Rattle.em_chain.proofs.Keeps.{payload_kept}
 use Rattle.em_chain.proofs.Laws.{chain_stays}
 use Rattle.em_queued.specs.Queued.{RunsBeside, no_account, queue_account}
 use Rattle.em_queued.proofs.Queued.{calls_then, calls_wider}
-use Rattle.aig_defs.specs.Circuit.{Circuit}
+use Rattle.aig_defs.specs.Circuit.{Circuit, columns}
 use Rattle.aig_defs.specs.Items.{Reads, Fails}
 use Rattle.aig_defs.specs.Stimulus.{output_line}
 use Rattle.aig_defs.specs.Value.{step_of}
@@ -63,19 +63,19 @@ module _ {Q : Type 0} (queue : Ghosts Q) {t u : RigState} {e f : Evaluator Q} {i
     (keeps : Keeps queue u e f) (p : Passed queue t u e f inputs)
     (len : (queue.counts f.queue).len ≡ length (queue.items f.queue u)) where
   -- The queue has a message for each output,
-  pub outputs_long : length (queue.items f.queue u) ≡ f.header.outputs
-  outputs_long = sym len ∙ p.left ∙ sym (ap (λ (h : Header). h.outputs) keeps.header)
+  pub outputs_long : length (queue.items f.queue u) ≡ columns f.header
+  outputs_long = sym len ∙ p.left ∙ sym (ap (λ (h : Header). columns h) keeps.header)
 
   -- and their line is that of the step.
   pub outputs_are : {c : Circuit} {state bits : List Bool} → PassesFor queue t u e f c state bits
-      → outputs_line f.header.outputs (queue.items f.queue u) ≡ line_of c state bits
+      → outputs_line (columns f.header) (queue.items f.queue u) ≡ line_of c state bits
   outputs_are v =
       let items = queue.items f.queue u in
       let n = outputs_long in
-      let l : f.header.outputs ≤ length items = omega (arith, n) in
-      let m : length items ≤ f.header.outputs = omega (arith, n) in
-      ap output_line (outputs_all f.header.outputs items l
-      ∙ ap bits_of (take_all f.header.outputs items m) ∙ v.outputs)
+      let l : columns f.header ≤ length items = omega (arith, n) in
+      let m : length items ≤ columns f.header = omega (arith, n) in
+      ap output_line (outputs_all (columns f.header) items l
+      ∙ ap bits_of (take_all (columns f.header) items m) ∙ v.outputs)
 
 -- The latches' blocks are as many on one rig as on another of its shape.
 rooms_as : {ks : List ℕ} {s u v : RigState} (g h : Header) → g ≡ h → Touches ks s v
@@ -89,7 +89,7 @@ module _ {Q : Type 0} (queue : Ghosts Q) {s t u v : RigState} (e f : Evaluator Q
     (line : Runs inputs.blocks [] (chain_blocks t inputs) no_account (chain_account 1 inputs) s t)
     (first : Session (evaluator_blocks queue s e) s t (pass_blocks queue t e inputs))
     (p : Passed queue t u e f inputs)
-    (put : RunsAlone f.header.outputs (queue.blocks f.queue u) (queue.blocks q v)
+    (put : RunsAlone (columns f.header) (queue.blocks f.queue u) (queue.blocks q v)
     (queue.counts f.queue) (queue.counts q) u v) where
   abbrev qs : List ℕ
   qs = queue.blocks f.queue u
@@ -136,11 +136,11 @@ module _ {Q : Type 0} (queue : Ghosts Q) {s t u v : RigState} (e f : Evaluator Q
 
   -- It is an evaluator with no message.
   pub step_is : queue.IsQueue q v
-      → (queue.counts q).len + min f.header.outputs (queue.counts f.queue).len
+      → (queue.counts q).len + min (columns f.header) (queue.counts f.queue).len
       ≡ (queue.counts f.queue).len → IsEvaluator queue v last
   step_is is len =
       let h = keeps.header in
-      let outputs = ap (λ (x : Header). x.outputs) h in
+      let outputs = ap (λ (x : Header). columns x) h in
       record {
         header = rw h i.header;
         given = given_last.is;
@@ -222,7 +222,7 @@ module _ {Q : Type 0} (queue : Ghosts Q) {s t u v : RigState} (e f : Evaluator Q
       (evaluator_blocks queue v last) (step_account s e) (lists_account (lists_size e) 0)
       (queue.counts e.queue) (queue.counts q) s v
   step_costs most room =
-      let outputs = ap (λ (h : Header). h.outputs) keeps.header in
+      let outputs = ap (λ (h : Header). columns h) keeps.header in
       record {
         runs = record {
           session = whole;
@@ -239,7 +239,7 @@ module _ {Q : Type 0} (queue : Ghosts Q) {s t u v : RigState} (e f : Evaluator Q
   pub step_next : IsTrue u.device.told → (c : Circuit) (order : List Gate) (state bits : List Bool)
       → Evaluates queue t e c order state → PassesFor queue t u e f c state bits
       → (queue.counts f.queue).len ≡ length (queue.items f.queue u)
-      → queue.items q v ≡ drop f.header.outputs (queue.items f.queue u)
+      → queue.items q v ≡ drop (columns f.header) (queue.items f.queue u)
       → Evaluates queue v last c order (step_of c state bits).1
   step_next z c order state bits h w len items =
       let given = given_last.items z ∙ ap (chain_items u) keeps.given ∙ w.given_are in
@@ -253,7 +253,7 @@ module _ {Q : Type 0} (queue : Ghosts Q) {s t u v : RigState} (e f : Evaluator Q
         bits = ap bits_of (state_last.items z) ∙ w.next;
         none =
             let n = outputs_long queue keeps p len in
-            items ∙ drop_all f.header.outputs (queue.items f.queue u) (omega (arith, n));
+            items ∙ drop_all (columns f.header) (queue.items f.queue u) (omega (arith, n));
       }
 
 -- After a line was read it evaluates the circuit that it did.

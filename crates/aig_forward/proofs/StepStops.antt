@@ -22,7 +22,7 @@ use Rattle.em_chain.specs.declared.chain.Chain.{Chain}
 use Rattle.em_chain.proofs.Keeps.{payload_kept}
 use Rattle.em_queued.specs.Queued.{RunsBeside, StopsBeside, no_account}
 use Rattle.em_queued.proofs.Queued.{beside_holds, beside_then, called_wider, shares_frames, stops_then}
-use Rattle.aig_defs.specs.Circuit.{Circuit}
+use Rattle.aig_defs.specs.Circuit.{Circuit, columns}
 use Rattle.aig_defs.specs.declared.circuit.Gate.{Gate}
 use Rattle.aig_defs.specs.declared.circuit.Header.{Header}
 use Rattle.aig_text.specs.Source.{Source}
@@ -233,7 +233,7 @@ module _ {Q : Type 0} (queue : Ghosts Q) {s t : RigState} (e : Evaluator Q) (sou
 
     -- The line and the pass together.
     pub pass_runs : {u : RigState} (f : Evaluator Q) → Passed queue t u e f inputs
-        → RunsBeside (2 * edge_count e.header - e.header.outputs) (step_room s e)
+        → RunsBeside (2 * edge_count e.header - columns e.header) (step_room s e)
         (evaluator_blocks queue s e) (evaluator_blocks queue u f) (step_account s e)
         (lists_account (lists_size f) 0) (queue.counts e.queue) (queue.counts f.queue) s u
     pass_runs {u} f p =
@@ -263,7 +263,7 @@ module _ {Q : Type 0} (queue : Ghosts Q) {s t : RigState} (e : Evaluator Q) (sou
     pub step_halted : {W : Type 0} (w : sink.Ghosts W) {u v : RigState} (f g : Evaluator Q)
         (a b : W) (x y : List ℕ) (stopped : StepStop) → Passed queue t u e f inputs
         → Keeps queue u e f → AreOut (queue.counts e.queue) s.pool
-        → OutputCosts f.header.outputs (printing queue w f.queue a x u)
+        → OutputCosts (columns f.header) (printing queue w f.queue a x u)
         (printing queue w g.queue b y v) (Err stopped)
         → Halted (step_calls e.header) (step_room s e) 1 (evaluator_blocks queue s e)
         (step_account s e) (queue.counts e.queue) (queue.counts g.queue) s v
@@ -273,10 +273,10 @@ module _ {Q : Type 0} (queue : Ghosts Q) {s t : RigState} (e : Evaluator Q) (sou
         let last : latch_room e.header u ≡ latch_room e.header s =
         ap (λ (m : ℕ). ceiling e.header.latches m)
         (payload_kept (evaluator_blocks queue s e) s u h.runs.session.touches) in
-        let outputs : f.header.outputs ≡ e.header.outputs =
-        ap (λ (m : Header). m.outputs) keeps.header in
+        let outputs : columns f.header ≡ columns e.header =
+        ap (λ (m : Header). columns m) keeps.header in
         let given : f.given.blocks ≡ e.given.blocks = ap (λ (m : Chain). m.blocks) keeps.given in
         let gates : f.gates.blocks ≡ e.gates.blocks = ap (λ (m : Chain). m.blocks) keeps.gates in
         halted_wider (omega (arith, outputs)) (omega (arith, size, last, given, gates))
-        (outputs_halted f.header.outputs (printing queue w f.queue a x u)
+        (outputs_halted (columns f.header) (printing queue w f.queue a x u)
         (printing queue w g.queue b y v) (lists_blocks u f) stopped (omega (arith, out.singles)) h k)

@@ -12,7 +12,7 @@ use Rattle.em_chain.specs.Counts.{ceiling}
 use Rattle.em_chain.specs.Session.{chain_account}
 use Rattle.em_chain.specs.declared.chain.Chain.{Chain}
 use Rattle.em_queued.specs.Queued.{RunsBeside, StopsBeside}
-use Rattle.aig_defs.specs.Circuit.{Circuit}
+use Rattle.aig_defs.specs.Circuit.{Circuit, columns}
 use Rattle.aig_defs.specs.Ranks.{IsOrder, ordered_edges}
 use Rattle.aig_defs.specs.declared.circuit.Gate.{Gate}
 use Rattle.aig_defs.specs.declared.circuit.Header.{Header}
@@ -54,14 +54,14 @@ state_blocks h s = ceiling h.latches (payload_in s)
 -- The bits were taken, and the latches' next bits are a new list.
 pub record Evaluated (h : Header) (given gates bits : Chain) (q p : QueueState) (next : Chain)
     : Type 0 where
-  pub runs : RunsBeside (2 * edge_count h - h.outputs) (bits.blocks + next.blocks)
+  pub runs : RunsBeside (2 * edge_count h - columns h) (bits.blocks + next.blocks)
       (q.blocks ++ chain_blocks q.rig bits) (p.blocks ++ chain_blocks p.rig next)
       (bits_account given gates bits) (chain_account 1 next) q.counts p.counts q.rig p.rig
   pub is : IsChain p.rig next
   pub packed : IsTrue q.rig.device.told → IsPacked p.rig next
   pub count_is : next.count ≡ h.latches
   pub blocks_is : next.blocks ≡ state_blocks h q.rig
-  pub left : p.counts.len ≡ h.outputs
+  pub left : p.counts.len ≡ columns h
 
 abbrev pub EvaluatesTo : Header → Chain → Chain → Chain → QueueState → QueueState
     → Result Chain EmFault → Type 0

@@ -1,5 +1,5 @@
 -- An evaluator as it stands on a rig, and what making and ending it do.
-use Rattle.std.specs.Prelude.{◌≡◌, ◌<◌, ◌≤◌, ℕ, ◌+◌, ◌*◌, Bool, false, List, [], ◌++◌, All, IsTrue, IfSome, replicate, max, Result, Ok, Err}
+use Rattle.std.specs.Prelude.{◌≡◌, ◌<◌, ◌≤◌, ℕ, ◌+◌, ◌*◌, Bool, List, [], ◌++◌, All, IsTrue, IfSome, max, Result, Ok, Err}
 use Rattle.em_record.specs.declared.record.Record.{Record}
 use Rattle.em_space.specs.Held.{Holds}
 use Rattle.em_space.specs.Queue.{ending_most, Pays, QueueCounts, Shares}
@@ -9,11 +9,11 @@ use Rattle.em_space.specs.declared.queue.Queue.{Ghosts}
 use Rattle.em_chain.specs.Chain.{IsChain, chain_items}
 use Rattle.em_space.specs.Ledger.{Account}
 use Rattle.em_queued.specs.Queued.{Called, RunsBeside}
-use Rattle.aig_defs.specs.Circuit.{Circuit, IsHeader}
+use Rattle.aig_defs.specs.Circuit.{Circuit, IsHeader, resets}
 use Rattle.aig_defs.specs.Ranks.{IsOrder, ordered_edges}
 use Rattle.aig_defs.specs.declared.circuit.Gate.{Gate}
 use Rattle.aig_text.specs.Draft.{chains_blocks}
-use Rattle.aig_edges.specs.Graph.{IsOrderedOf, edge_count, ordered_blocks}
+use Rattle.aig_edges.specs.Graph.{IsOrderedOf, edge_count, ordered_blocks, ordered_size}
 use Rattle.aig_edges.specs.declared.graph.Ordered.{Ordered}
 use Rattle.aig_forward.specs.Bits.{bits_of}
 use Rattle.aig_forward.specs.Lists.{begin_moves, begin_room, latch_room, lists_account, sizes}
@@ -88,16 +88,16 @@ pub record BeginsEvaluator {Q : Type 0} (queue : Ghosts Q) (s t : RigState) (o :
   pub is : IsEvaluator queue t e
   pub header : e.header ≡ o.header
   pub queue_is : e.queue ≡ q
-  pub size : lists_size e ≤ begin_room s o
-  pub runs : RunsBeside 0 (begin_room s o) (queue.blocks q s ++ ordered_blocks s o)
-      (evaluator_blocks queue t e) (lists_account o.edges.blocks (begin_moves s o))
+  pub size : lists_size e ≤ begin_room o
+  pub runs : RunsBeside 0 (begin_room o) (queue.blocks q s ++ ordered_blocks s o)
+      (evaluator_blocks queue t e) (lists_account (ordered_size o) (begin_moves o))
       (lists_account (lists_size e) 0) (queue.counts q) (queue.counts q) s t
 
 -- It wasn't made: the queue's frames are back, and blocks stay in use.
 pub record FailsToBegin {Q : Type 0} (queue : Ghosts Q) (s t : RigState) (o : Ordered) (q : Q)
     (fault : EmFault) : Type 0 where
-  pub halted : Halted 0 (begin_room s o) 1 (queue.blocks q s ++ ordered_blocks s o)
-      (lists_account o.edges.blocks (begin_moves s o)) (queue.counts q)
+  pub halted : Halted 0 (begin_room o) 1 (queue.blocks q s ++ ordered_blocks s o)
+      (lists_account (ordered_size o) (begin_moves o)) (queue.counts q)
       (without_frames (queue.counts q)) s t
   pub cause : Cause s t fault
 
@@ -106,11 +106,11 @@ abbrev pub BeginsTo : {Q : Type 0} → Ghosts Q → RigState → RigState → Or
 BeginsTo queue s t o q (Ok e) = BeginsEvaluator queue s t o q e
 BeginsTo queue s t o q (Err fault) = FailsToBegin queue s t o q fault
 
--- All latches are false at first, in each circuit that the edges stand for.
+-- Each latch has its reset at first, in each circuit that the edges stand for.
 abbrev pub BeginsFor : {Q : Type 0} → Ghosts Q → RigState → RigState → Ordered → Evaluator Q
     → Type 0
 BeginsFor queue s t o e = (c : Circuit) (order : List Gate) → IsOrderedOf s o c order
-    → Evaluates queue t e c order (replicate e.header.latches false)
+    → Evaluates queue t e c order (resets c.latches)
 
 -- An evaluator was used up, whether its end gave up or not: the queue's frames are back, and only
 -- its own blocks may have changed. Over a device that tells its moves are two a block of its chains

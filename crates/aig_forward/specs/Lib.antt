@@ -12,4 +12,3 @@ pub mod QueueState
 pub mod Spreads
 pub mod Step
 pub mod StepPass
-pub mod Zeros

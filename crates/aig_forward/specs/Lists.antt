@@ -11,9 +11,8 @@ use Rattle.em_chain.specs.Counts.{ceiling}
 use Rattle.em_chain.specs.declared.chain.Chain.{Chain}
 use Rattle.aig_defs.specs.declared.circuit.Header.{Header}
 use Rattle.aig_text.specs.Draft.{chains_blocks}
-use Rattle.aig_edges.specs.Graph.{ordered_blocks}
+use Rattle.aig_edges.specs.Graph.{ordered_blocks, ordered_size}
 use Rattle.aig_edges.specs.declared.graph.Ordered.{Ordered}
-use Rattle.aig_forward.specs.Zeros.{zeros}
 
 -- the least record of an edge that comes from a gate
 abbrev pub gates_from : Header → Record
@@ -38,39 +37,39 @@ pub record AreLists (s : RigState) (state given gates : Chain) : Type 0 where
   pub gates_is : IsChain s gates
   pub holds : IsTrue s.device.told → Holds s (chains_blocks s state given gates)
 
--- the moves that making them takes at most: the edges are cut, and a bit is written for each latch
-abbrev pub begin_moves : RigState → Ordered → ℕ
-begin_moves s o = 4 * o.edges.blocks + 4 + (2 * latch_room o.header s + 2)
+-- the moves that making them takes at most: the edges are cut
+abbrev pub begin_moves : Ordered → ℕ
+begin_moves o = 4 * o.edges.blocks + 4
 
 -- the most blocks that they have while they are made
-abbrev pub begin_room : RigState → Ordered → ℕ
-begin_room s o = o.edges.blocks + 1 + latch_room o.header s
+abbrev pub begin_room : Ordered → ℕ
+begin_room o = ordered_size o + 1
 
--- The edges were cut before the first one that comes from a gate, and the state has only zeros.
+-- The edges were cut before the first one that comes from a gate, and the state is the resets.
 pub record Makes (s t : RigState) (o : Ordered) (state given gates : Chain) : Type 0 where
   pub state_is : IsChain t state
   pub given_is : IsChain t given
   pub gates_is : IsChain t gates
   pub latches : state.count ≡ o.header.latches
-  pub state_blocks : state.blocks ≡ latch_room o.header s
+  pub state_blocks : state.blocks ≡ o.resets.blocks
   pub edges : given.count + gates.count ≡ o.edges.count
-  pub zeros_are : IsTrue s.device.told → chain_items t state ≡ zeros o.header.latches
+  pub resets_are : IsTrue s.device.told → chain_items t state ≡ chain_items s o.resets
   pub items : IsTrue s.device.told
       → chain_items s o.edges ≡ chain_items t given ++ chain_items t gates
   pub low : IsTrue s.device.told
       → All (λ (x : Record). x.a ≤ o.header.inputs + o.header.latches) (chain_items t given)
   pub high : IsTrue s.device.told
       → All (λ (x : Record). o.header.inputs + o.header.latches < x.a) (chain_items t gates)
-  pub runs : Runs (begin_room s o) (ordered_blocks s o) (chains_blocks t state given gates)
-      (lists_account o.edges.blocks (begin_moves s o)) (lists_account (sizes state given gates)
+  pub runs : Runs (begin_room o) (ordered_blocks s o) (chains_blocks t state given gates)
+      (lists_account (ordered_size o) (begin_moves o)) (lists_account (sizes state given gates)
       0) s t
 
 -- what making them did
 abbrev pub MakesTo : RigState → RigState → Ordered → Result (Chain × Chain × Chain) EmFault
     → Type 0
 MakesTo s t o (Ok lists) = Makes s t o lists.0 lists.1 lists.2
-MakesTo s t o (Err fault) = Stops (begin_room s o) 0 1 (ordered_blocks s o)
-    (lists_account o.edges.blocks (begin_moves s o)) s t fault
+MakesTo s t o (Err fault) = Stops (begin_room o) 0 1 (ordered_blocks s o)
+    (lists_account (ordered_size o) (begin_moves o)) s t fault
 
 -- what discarding them did: two moves for each block
 abbrev pub DiscardsTo : RigState → RigState → Chain → Chain → Chain

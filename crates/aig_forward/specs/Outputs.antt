@@ -1,4 +1,4 @@
--- The outputs of a step, which are popped and printed.
+-- The columns of a step, which are popped and printed.
 use Rattle.std.specs.Prelude.{◌≡◌, ℕ, suc, ◌+◌, ◌-◌, ◌≤◌, ◌==◌, Bool, false, min, List, [], ◌∷◌, ◌++◌, length, take, drop, replicate, Option, Some, None, IsTrue, Result, Ok, Err}
 use Rattle.em_io.specs.Sink.{Sent, SentPart}
 use Rattle.em_io.specs.declared.sink.Sink as sink
@@ -100,7 +100,7 @@ OutputCosts count old new (Err (stop.Em fault)) =
 OutputCosts count old new (Err (stop.Fault kind place)) = ⊥
 OutputCosts count old new (Err stop.Read) = ⊥
 
--- why outputs weren't printed: the sink's count of faults rose, or a call of the queue was refused
+-- why columns weren't printed: the sink's count of faults rose, or a call of the queue was refused
 abbrev pub OutputCause : Printing → Printing → StepStop → Type 0
 OutputCause old new (stop.Fault kind place) = ⊥
 OutputCause old new stop.Read = ⊥
@@ -131,7 +131,7 @@ pub record FailsPut (took : List ℕ → List ℕ → List ℕ) (old new : Print
   pub later : old.faults ≤ new.faults
   pub rose : Rose old.faults new.faults
 
--- one output that was to be printed, by the answer
+-- one column that was to be printed, by the answer
 abbrev pub PutsBy : (List ℕ → List ℕ → List ℕ) → Printing → Printing
     → Result (Unit {0}) StepStop → Type 0
 PutsBy took old new (Ok u) = PutsOne took old new
@@ -142,7 +142,7 @@ PutsBy took old new (Err (stop.Em fault)) =
 PutsBy took old new (Err (stop.Fault kind place)) = ⊥
 PutsBy took old new (Err stop.Read) = ⊥
 
--- Some outputs were printed, and `rest` of them are left.
+-- Some columns were printed, and `rest` of them are left.
 pub record PutsFront (took : List ℕ → List ℕ → List ℕ) (count rest : ℕ) (old now : Printing)
     : Type 0 where
   pub runs : RunsAlone (count - rest) old.blocks now.blocks old.counts now.counts old.rig now.rig

@@ -1,4 +1,4 @@
--- All edges of a step are sent, and the messages of next bits and outputs are left.
+-- All edges of a step are sent, and the messages of next bits and columns are left.
 use Rattle.std.specs.Prelude.{◌≡◌, ◌<◌, ◌≤◌, ℕ, ◌+◌, ◌*◌, ◌-◌, ◌^◌, Bool, false, List, [], ◌++◌, IsTrue, Result, Ok, Err}
 use Rattle.em_record.specs.declared.record.Record.{Record}
 use Rattle.em_space.specs.Held.{Apart}

@@ -90,7 +90,7 @@ FollowsText inputs old new (Err (stop.Em fault)) = Unit {0}
 abbrev pub line_of : Circuit → List Bool → List Bool → List ℕ
 line_of c state bits = output_line (step_of c state bits).0
 
--- A line was read, the outputs for its bits went out or are pending, and the latches changed.
+-- A line was read, the columns for its bits went out or are pending, and the latches changed.
 pub record PrintsStep {Q : Type 0} (queue : Ghosts Q) (took : List ℕ → List ℕ → List ℕ)
     (c : Circuit) (order : List Gate) (state : List Bool) (old new : Scene Q) : Type 0 where
   pub bits : List Bool
@@ -109,7 +109,7 @@ pub record EndsStep {Q : Type 0} (queue : Ghosts Q) (c : Circuit) (order : List 
   pub quiet : IsQuiet old new
   pub same : Evaluates queue new.rig new.evaluator c order state
 
--- The sink stopped it: of the line's outputs a front went out, and nothing if the line has a fault, or if
+-- The sink stopped it: of the line's columns a front went out, and nothing if the line has a fault, or if
 -- nothing is left of the stimulus.
 pub record StopsStep {Q : Type 0} (took : List ℕ → List ℕ → List ℕ) (c : Circuit)
     (state : List Bool) (old new : Scene Q) : Type 0 where
@@ -120,7 +120,7 @@ pub record StopsStep {Q : Type 0} (took : List ℕ → List ℕ → List ℕ) (c
       → new.taken ≡ old.taken
   pub ended : left old.text ≡ [] → new.taken ≡ old.taken
 
--- The rig stopped it: of the line's outputs a front went out or is pending, and nothing happened to the
+-- The rig stopped it: of the line's columns a front went out or is pending, and nothing happened to the
 -- output if the line has a fault, or if nothing is left of the stimulus.
 pub record HaltsStep {Q : Type 0} (took : List ℕ → List ℕ → List ℕ) (c : Circuit)
     (state : List Bool) (old new : Scene Q) : Type 0 where

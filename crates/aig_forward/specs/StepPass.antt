@@ -6,7 +6,7 @@ use Rattle.em_space.specs.declared.queue.Queue.{Ghosts}
 use Rattle.em_chain.specs.Chain.{IsChain, chain_blocks, chain_items}
 use Rattle.em_chain.specs.declared.chain.Chain.{Chain}
 use Rattle.em_queued.specs.Queued.{RunsBeside}
-use Rattle.aig_defs.specs.Circuit.{Circuit}
+use Rattle.aig_defs.specs.Circuit.{Circuit, columns}
 use Rattle.aig_defs.specs.Value.{step_of}
 use Rattle.aig_defs.specs.declared.circuit.Header.{Header}
 use Rattle.aig_edges.specs.Graph.{edge_count}
@@ -33,16 +33,16 @@ abbrev pub pass_moves : {Q : Type 0} → RigState → Evaluator Q → ℕ
 pass_moves s e =
     e.given.blocks + e.gates.blocks + 2 * input_room e.header s + 4 * latch_room e.header s + 5
 
--- The latches changed, and the queue has the messages of the outputs.
+-- The latches changed, and the queue has the messages of the columns.
 pub record Passed {Q : Type 0} (queue : Ghosts Q) (s t : RigState) (e f : Evaluator Q)
     (inputs : Chain) : Type 0 where
-  pub left : (queue.counts f.queue).len ≡ e.header.outputs
+  pub left : (queue.counts f.queue).len ≡ columns e.header
   pub state_is : IsChain t f.state
   pub given_is : IsChain t e.given
   pub gates_is : IsChain t e.gates
   pub latches : f.state.count ≡ e.header.latches
   pub state_blocks : f.state.blocks ≡ latch_room e.header t
-  pub runs : RunsBeside (2 * edge_count e.header - e.header.outputs) (step_room s e)
+  pub runs : RunsBeside (2 * edge_count e.header - columns e.header) (step_room s e)
       (pass_blocks queue s e inputs) (evaluator_blocks queue t f)
       (lists_account (inputs.blocks + lists_size e) (pass_moves s e))
       (lists_account (lists_size f) 0) (queue.counts e.queue) (queue.counts f.queue) s t
@@ -60,7 +60,7 @@ abbrev pub PassesTo : {Q : Type 0} → Ghosts Q → RigState → RigState → Ev
 PassesTo queue s t e f inputs (Ok x) = Passed queue s t e f inputs
 PassesTo queue s t e f inputs (Err fault) = FailsPass queue s t e f inputs fault
 
--- What it gave for a circuit: the latches' next bits, and the bits of the outputs. The edges are
+-- What it gave for a circuit: the latches' next bits, and the bits of the columns. The edges are
 -- what they were.
 pub record PassesFor {Q : Type 0} (queue : Ghosts Q) (s t : RigState) (e f : Evaluator Q)
     (c : Circuit) (state bits : List Bool) : Type 0 where

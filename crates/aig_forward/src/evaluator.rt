@@ -1,6 +1,6 @@
 //! An evaluator of a circuit. Between two steps it is
 //!
-//!     header  I, L, O and A           given   edges from the constant, inputs and latches
+//!     header  I, L, columns and A     given   edges from the constant, inputs and latches
 //!     state   a bit for each latch    gates   edges from gates
 //!     queue   no message
 //!
@@ -32,7 +32,7 @@ use em_io::{Feed, Printer, Shelf, Sink};
 use em_space::{EmFault, Queue, Rig};
 use std::mem;
 
-/// Evaluates a circuit step by step, from the state in which all latches are 0. It holds its blocks
+/// Evaluates a circuit step by step, from the state in which each latch has its reset. It holds its blocks
 /// and its queue. It can't be dropped: `end` releases its blocks, and after a stop `abandon` gives
 /// the queue's frames back.
 pub struct Evaluator<Q> {
@@ -49,13 +49,12 @@ impl<Q: Queue> Evaluator<Q> {
     ghost use Rattle.aig_forward.specs.Step.{ActsAfterByte, AnswersStep, CanStep, FollowsText, IfPrinted, Keeps, StepCause, StepCosts, scene};
     ghost use Rattle.aig_forward.specs.StepPass.{IsInput, PassesFor, PassesTo, pass_blocks};
 
-    /// An evaluator along these edges, by a queue with no item. All latches are 0.
+    /// An evaluator along these edges, by a queue with no item. Each latch starts at its reset.
     ///
-    /// 2f + 10 single frames, an area and the rack are free. The edges are cut in two, and a bit is
-    /// written for each latch: beside the blocks of the edges at most ceil(L/P) + 1 blocks come
-    /// into use, and at most 4·b + 2·ceil(L/P) + 6 moves are made, if the edges have b blocks. Each
-    /// fault is the rig's, and `Full` comes only if all blocks are in use. After a fault the
-    /// queue's frames are back, and the blocks stay in use.
+    /// 2f + 10 single frames, an area and the rack are free. The edges are cut in two: beside the blocks
+    /// of edges and resets at most one block comes into use, and at most 4·b + 4 moves are made, if the
+    /// edges have b blocks. Each fault is the rig's, and `Full` comes only if all blocks are in use. After
+    /// a fault the queue's frames are back, and the blocks stay in use.
     pub fn new<D: Device>(
         rig: &mut Rig<'_, D>,
         ordered: Ordered,
@@ -90,11 +89,11 @@ impl<Q: Queue> Evaluator<Q> {
         }
     }
 
-    /// Reads a line of the stimulus, evaluates the circuit for its bits, and prints a line of the outputs;
-    /// or answers `End` if nothing is left. All latches change at once, after the outputs were found.
+    /// Reads a line of the stimulus, evaluates the circuit for its bits, and prints a line of the columns;
+    /// or answers `End` if nothing is left. All latches change at once, after the columns were found.
     ///
     /// The slot was opened with Ok, at most 2^50 bytes of it were taken, and 2f + 10 single frames, an
-    /// area and the rack are free. The line of outputs may be pending in the printer. `Fault` is the
+    /// area and the rack are free. The line of columns may be pending in the printer. `Fault` is the
     /// stimulus's first fault, and nothing was printed. `Read` and `Write` come only if the count of faults
     /// of shelf or sink rose, and `Em` if a call on the rig gave up: then, over a device and a shelf that
     /// tell, a front of the line went out or is pending. After a stop only `abandon` may be called.
@@ -141,12 +140,13 @@ impl<Q: Queue> Evaluator<Q> {
             return Ok(StepEnd::End);
         };
         self.pass(rig, inputs)?;
-        put_outputs(rig, &mut self.queue, self.header.outputs, printer, sink)?;
+        let columns = self.header.outputs + self.header.bads + self.header.constraints;
+        put_outputs(rig, &mut self.queue, columns, printer, sink)?;
         Ok(StepEnd::Printed)
     }
 
-    /// The part of a step between the stimulus and the output line: by a list of the inputs' bits
-    /// the latches change, and the queue takes the messages of the outputs. It gives up as the rig
+    /// The part of a step between the stimulus and the printed line: by a list of the inputs' bits
+    /// the latches change, and the queue takes the messages of the columns. It gives up as the rig
     /// does.
     fn pass<D: Device>(&mut self, rig: &mut Rig<'_, D>, inputs: Chain) -> Result<(), EmFault>
         requires sound { Sound (seen D.state rig.old) }

@@ -4,7 +4,6 @@
 
 mod evaluator;
 mod gate;
-mod latches;
 mod line;
 mod lists;
 mod outputs;

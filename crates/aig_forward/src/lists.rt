@@ -5,14 +5,13 @@ ghost use Rattle.std.specs.Prelude.{◌≡◌, ◌<◌, ◌+◌, ◌++◌, IsTru
 ghost use Rattle.em_space.specs.Held.{Holds};
 ghost use Rattle.em_space.specs.Rig.{Sound};
 ghost use Rattle.em_space.specs.Seen.{seen};
-ghost use Rattle.aig_edges.specs.Graph.{IsOrdered};
+ghost use Rattle.aig_edges.specs.Graph.{IsOrdered, ordered_blocks};
 ghost use Rattle.em_chain.specs.Chain.{IsChain, chain_blocks};
 ghost use Rattle.em_chain.specs.Joins.{CanJoin};
 ghost use Rattle.aig_defs.specs.Circuit.{IsHeader};
 ghost use Rattle.aig_forward.specs.Lists as lists;
 ghost use Rattle.aig_forward.specs.Lists.{AreLists, DiscardsTo, JoinsTo, MakesTo};
 
-use crate::latches::false_bits;
 use aig_defs::Header;
 use aig_edges::Ordered;
 use em_chain::{Chain, discard, join, part_at};
@@ -33,21 +32,27 @@ fn gates_from(header: Header) -> Record
     }
 }
 
-/// The lists of an evaluator's state, of the edges from ranks with given bits, and of those from
-/// gates.
+/// The three lists of an evaluator: its state, which is the chain of resets, the edges from ranks whose bits
+/// are given, and those from gates.
 pub(crate) fn make_lists<D: Device>(
     rig: &mut Rig<'_, D>,
     ordered: Ordered,
 ) -> Result<(Chain, Chain, Chain), EmFault>
     requires sound { Sound (seen D.state rig.old) }
     requires ordered { IsOrdered (seen D.state rig.old) ordered }
+    requires holds { IsTrue (seen D.state rig.old).device.told → Holds (seen D.state rig.old)
+        (ordered_blocks (seen D.state rig.old) ordered) }
     requires free { 3 < (seen D.state rig.old).pool.free }
     ensures done { MakesTo (seen D.state rig.old) (seen D.state rig.new) ordered result }
 {
-    let header = ordered.header;
-    let (given, gates) = part_at(rig, ordered.edges, gates_from(header))?;
-    let state = false_bits(rig, header.latches)?;
-    Ok((state, given, gates))
+    let Ordered {
+        header,
+        passes: _,
+        edges,
+        resets,
+    } = ordered;
+    let (given, gates) = part_at(rig, edges, gates_from(header))?;
+    Ok((resets, given, gates))
 }
 
 /// Releases the blocks of three lists.

@@ -1,4 +1,4 @@
-//! The line of a step's outputs, which leave the queue in their order, as messages.
+//! The line of a step's columns, which leave the queue in their order, as messages.
 ghost use Rattle.std.specs.Prelude.{◌≡◌, ◌≤◌, ◌+◌, ◌^◌, ◌<◌, ◌++◌, ◌∷◌, [], IfErr, OnOk, IsTrue};
 ghost use Rattle.em_io.specs.Sink.{Sent, SentPart};
 ghost use Rattle.em_record.specs.Count.{HasCause};
@@ -66,7 +66,7 @@ fn put_next<D: Device, Q: Queue, W: Sink>(
     }
 }
 
-/// Pops the messages of a step's outputs and prints them, a byte for each, and a newline. A missing
+/// Pops the messages of a step's columns and prints them, a byte for each, and a newline. A missing
 /// message is printed as 0. It sends nothing while the line fits into the printer's buffer.
 ///
 /// `Write` comes only if the sink's count of faults rose, and `Em` if a call of the queue was

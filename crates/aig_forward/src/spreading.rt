@@ -97,7 +97,7 @@ fn send_both<D: Device, Q: Queue>(
 }
 
 /// Sends all edges of a step, and releases the bits. After it the queue holds the messages of the
-/// next bits and of the outputs.
+/// next bits and of the columns.
 pub(crate) fn spread<D: Device, Q: Queue>(
     rig: &mut Rig<'_, D>,
     queue: &mut Q,

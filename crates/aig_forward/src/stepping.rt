@@ -71,9 +71,9 @@ fn collect<D: Device, Q: Queue>(
     }
 }
 
-/// One step without its stimulus and its output line: takes a list of the bits of inputs and
+/// One step without its stimulus and its printed line: takes a list of the bits of inputs and
 /// latches, and gives the list of the latches' next bits. After it the queue holds the messages of
-/// the outputs, in their order. It needs 2f + 8 single frames, an area and the rack; each fault is
+/// the columns, in their order. It needs 2f + 8 single frames, an area and the rack; each fault is
 /// the rig's or the queue's.
 pub(crate) fn evaluate<D: Device, Q: Queue>(
     rig: &mut Rig<'_, D>,
@@ -104,6 +104,7 @@ pub(crate) fn evaluate<D: Device, Q: Queue>(
         × (bits_of (Q.items queue.new (seen D.state rig.new)) ≡ (step_of c state input).0)) }
 {
     spread(rig, queue, header, given, gates, bits)?;
-    let next = collect(rig, queue, header.latches, header.outputs)?;
+    let columns = header.outputs + header.bads + header.constraints;
+    let next = collect(rig, queue, header.latches, columns)?;
     Ok(next)
 }

@@ -94,12 +94,12 @@ pub graph_plain : (c : Circuit) → AllEdges (graph_edges c)
 graph_plain c = each_edge (graph_edges c) (λ e i.
     let gs = flat_map operand_edges c.gates in
     let ns = numbered next_edge 0 c.latches in
-    let os = numbered output_edge 0 c.outputs in
+    let os = numbered output_edge 0 c.columns in
     elim (contains_either gs (ns ++ os) e (from_order e (edges_in_text c) i)) [
       | inl a ↦ operands_plain c.gates e a
       | inr b ↦ elim (contains_either ns os e b) [
         | inl x ↦ nexts_plain 0 c.latches e x
-        | inr y ↦ outputs_plain 0 c.outputs e y
+        | inr y ↦ outputs_plain 0 c.columns e y
       ]
     ])
 

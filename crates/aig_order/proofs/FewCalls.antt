@@ -10,7 +10,7 @@ pub calls_low : (h : Header) → IsHeader h → any_calls h < 2 ^ 99
 calls_low h i =
     let passes : 4 * (h.gates + 3) ≤ 2 ^ 44 = omega (arith, i.gates) in
     let list : adjacency_count h ≤ 2 ^ 43 =
-    omega (arith, i.inputs, i.latches, i.outputs, i.gates) in
+    omega (arith, i.inputs, i.latches, i.outputs, i.bads, i.constraints, i.gates) in
     let both = mul-le-mul {n₁ = 4 * (h.gates + 3)} {m₁ = adjacency_count h} {n₂ = 2 ^ 44} {m₂ = 2 ^ 43}
     passes list in
     let low : 2 ^ 44 * 2 ^ 43 < 2 ^ 99 = omega arith in

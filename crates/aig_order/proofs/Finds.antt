@@ -123,7 +123,7 @@ few_left x y k n g l e f =
     omega (arith, m, e, f)
 
 list_small : (h : Header) → IsHeader h → adjacency_count h ≤ 2 ^ 44
-list_small h i = omega (arith, i.inputs, i.latches, i.gates, i.outputs)
+list_small h i = omega (arith, i.inputs, i.latches, i.gates, i.outputs, i.bads, i.constraints)
 
 pub passed_can : {Q : Type 0} (q : QueueGhosts Q) (h : Header) (list : Chain) (n next : ℕ) (x y : Q)
     (d : Chain) {s t : RigState} → IsHeader h → n < h.gates → CanFind q h x s list

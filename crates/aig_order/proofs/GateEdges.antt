@@ -147,10 +147,10 @@ pub gate_agrees : (tell : Record → Bool) (c : Circuit) → Unlike (variables (
 gate_agrees tell c u g i =
     let v = g.lhs / 2 in
     let gates = flat_map operand_edges c.gates in
-    let ends = numbered next_edge 0 c.latches ++ numbered output_edge 0 c.outputs in
+    let ends = numbered next_edge 0 c.latches ++ numbered output_edge 0 c.columns in
     let own = gate_here tell v c.gates u g i refl in
-    let none = both_agree tell v (numbered next_edge 0 c.latches) (numbered output_edge 0 c.outputs)
-    (latches_off tell v 0 c.latches) (outputs_off tell v 0 c.outputs) in
+    let none = both_agree tell v (numbered next_edge 0 c.latches) (numbered output_edge 0 c.columns)
+    (latches_off tell v 0 c.latches) (outputs_off tell v 0 c.columns) in
     let all = both_agree tell v gates ends own none in
     let first = tell (graph_edge g.rhs0 v 0) in
     let second = tell (graph_edge g.rhs1 v 1) in record {
@@ -164,9 +164,9 @@ pub none_lead : (c : Circuit) (v : ℕ) → (has (variables (left_sides c.gates)
     → places_if to_gates v (graph_edges c) ≡ 0
 none_lead c v f =
     let tell = λ (e : Record). true in
-    let none = both_agree tell v (numbered next_edge 0 c.latches) (numbered output_edge 0 c.outputs)
-    (latches_off tell v 0 c.latches) (outputs_off tell v 0 c.outputs) in
+    let none = both_agree tell v (numbered next_edge 0 c.latches) (numbered output_edge 0 c.columns)
+    (latches_off tell v 0 c.latches) (outputs_off tell v 0 c.columns) in
     places_order to_gates v (edges_in_text c)
     ∙ (both_agree tell v (flat_map operand_edges c.gates)
-    (numbered next_edge 0 c.latches ++ numbered output_edge 0 c.outputs)
+    (numbered next_edge 0 c.latches ++ numbered output_edge 0 c.columns)
     (gates_off tell v c.gates f) none).count_is

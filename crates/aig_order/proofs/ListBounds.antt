@@ -71,12 +71,12 @@ graph_bits : (c : Circuit) (e : Record) → Contains (graph_edges c) e → e.c <
 graph_bits c e i =
     let gs = flat_map operand_edges c.gates in
     let ns = numbered next_edge 0 c.latches in
-    let os = numbered output_edge 0 c.outputs in
+    let os = numbered output_edge 0 c.columns in
     elim (contains_either gs (ns ++ os) e (from_order e (edges_in_text c) i)) [
       | inl a ↦ operand_bits c.gates e a
       | inr b ↦ elim (contains_either ns os e b) [
         | inl x ↦ next_bits 0 c.latches e x
-        | inr y ↦ output_bits 0 c.outputs e y
+        | inr y ↦ output_bits 0 c.columns e y
       ]
     ]
 

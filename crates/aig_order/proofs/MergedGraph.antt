@@ -1,5 +1,5 @@
 -- The list of a graph: definitions of sources and gates, and then one list of definitions and edges.
-use Rattle.std.proofs.Common.{◌≡◌, ℕ, ◌+◌, ◌<◌, ◌≤◌, List, [], ◌++◌, map, Result, Ok, Err, ap, ap₂, sym, ◌∙◌, arith}
+use Rattle.std.proofs.Common.{◌≡◌, ℕ, ◌+◌, ◌<◌, ◌≤◌, List, [], ◌++◌, map, Result, Ok, Err, ap, ap₂, sym, ◌∙◌, arith, IsTrue}
 use Rattle.em_space.specs.Held.{Holds, Within}
 use Rattle.em_space.specs.Ledger.{Runs, Session}
 use Rattle.em_space.specs.Rig.{RigState, Sound}
@@ -18,7 +18,8 @@ use Rattle.em_chain.specs.Counts.{ceiling}
 use Rattle.em_chain.specs.declared.chain.Chain.{Chain}
 use Rattle.em_chain.proofs.Keeps.{payload_kept}
 use Rattle.em_chain.proofs.Laws.{chain_stays}
-use Rattle.aig_edges.specs.Graph.{IsGraph, graph_blocks, graph_size}
+use Rattle.aig_edges.specs.Graph.{IsGraph, graph_lists, graph_size}
+use Rattle.aig_edges.proofs.Besides.{holds_last}
 use Rattle.aig_edges.specs.Accounts.{stored_account}
 use Rattle.aig_edges.specs.declared.graph.Graph.{Graph}
 use Rattle.aig_order.specs.declared.merging.Merge.TheVariants.{Adjacency, Definitions}
@@ -31,7 +32,7 @@ use Rattle.aig_order.proofs.Reading.{holds_front}
 abbrev merged_blocks : RigState → Graph → List ℕ
 merged_blocks s g = (chain_blocks s g.sources ++ chain_blocks s g.gates) ++ chain_blocks s g.edges
 
-graph_within : (s : RigState) (g : Graph) → Within s (graph_blocks s g) (merged_blocks s g)
+graph_within : (s : RigState) (g : Graph) → Within s (graph_lists s g) (merged_blocks s g)
 graph_within s g =
     let gs = chain_blocks s g.gates in
     let es = chain_blocks s g.edges in
@@ -44,7 +45,7 @@ graph_within s g =
           (off_left j es ss r);
     }
 
-graph_holds : (s : RigState) (g : Graph) → Holds s (graph_blocks s g) → Holds s (merged_blocks s g)
+graph_holds : (s : RigState) (g : Graph) → Holds s (graph_lists s g) → Holds s (merged_blocks s g)
 graph_holds s g h =
     let gs = chain_blocks s g.gates in
     let es = chain_blocks s g.edges in
@@ -66,6 +67,11 @@ graph_holds s g h =
           (apart_sym es gs (apart_left es ss gs a)));
     }
 
+-- the blocks of a graph's lists are held
+pub lists_held : {s : RigState} {g : Graph} → IsGraph s g → IsTrue s.device.told
+    → Holds s (graph_lists s g)
+lists_held {s} {g} i z = holds_last (chain_blocks s g.resets) (graph_lists s g) (i.holds z)
+
 -- Sources and gates can be made one list,
 pub graph_can : {s : RigState} {g : Graph} → Sound s → 5 ≤ s.pool.free → IsGraph s g
     → CanMerge s g.sources g.gates
@@ -82,7 +88,7 @@ graph_can {s} {g} sound free i = record {
       omega (arith, a, b, c, d));
   holds = λ z.
       holds_front (chain_blocks s g.sources ++ chain_blocks s g.gates) (chain_blocks s g.edges)
-      (graph_holds s g (i.holds z));
+      (graph_holds s g (lists_held i z));
 }
 
 -- and the edges stay beside it.
@@ -92,12 +98,12 @@ edges_stay {s} {t} {g} i m =
     let ks = chain_blocks s g.sources ++ chain_blocks s g.gates in
     let es = chain_blocks s g.edges in
     chain_stays ks s t g.edges m.runs.session.touches
-    (λ z. apart_sym ks es (distinct_apart ks es ((graph_holds s g (i.holds z)).distinct z)))
+    (λ z. apart_sym ks es (distinct_apart ks es ((graph_holds s g (lists_held i z)).distinct z)))
     i.edges.is
 
 definitions_session : {s t : RigState} {g : Graph} {d : Chain} → IsGraph s g
     → MergesLists g.header Definitions s t g.sources g.gates d
-    → Session (graph_blocks s g) s t (chain_blocks t d ++ chain_blocks t g.edges)
+    → Session (graph_lists s g) s t (chain_blocks t d ++ chain_blocks t g.edges)
 definitions_session {s} {t} {g} {d} i m =
     let ks = chain_blocks s g.sources ++ chain_blocks s g.gates in
     let es = chain_blocks s g.edges in
@@ -105,11 +111,11 @@ definitions_session {s} {t} {g} {d} i m =
     let stay = edges_stay i m in
     let x : Session (ks ++ es) s t (chain_blocks t d ++ chain_blocks t g.edges) =
     session_as (chain_blocks t d ++ chain_blocks t g.edges)
-    (session_beside [] ks (chain_blocks t d) es (λ z. graph_holds s g (i.holds z)) m.runs.session)
+    (session_beside [] ks (chain_blocks t d) es (λ z. graph_holds s g (lists_held i z)) m.runs.session)
     (λ z. ap (λ l. chain_blocks t d ++ l) (stay.blocks z)) in
     record {
       sound = x.sound;
-      touches = touches_wider (graph_blocks s g) (ks ++ es) s t x.touches w.off;
+      touches = touches_wider (graph_lists s g) (ks ++ es) s t x.touches w.off;
       within = record { off = λ z j u o. x.within.off z j u (w.off z j u o) };
       holds = x.holds;
     }
@@ -155,14 +161,16 @@ definitions_can {s} {t} {g} {d} free i m =
           let c = i.header.gates in
           let e = i.header.latches in
           let f = i.header.outputs in
-          omega (arith, n, a, b, c, e, f));
+          let j = i.header.bads in
+          let k = i.header.constraints in
+          omega (arith, n, a, b, c, e, f, j, k));
       holds = λ z. x.holds (sym x.touches.told ∙ z);
     }
 
 -- what making the definitions spent of the moves of a graph
 definitions_runs : {s t : RigState} {g : Graph} {d : Chain} (room : ℕ) → room ≡ adjacency_room s g
     → IsGraph s g → MergesLists g.header Definitions s t g.sources g.gates d
-    → Runs (merging_peak s g) (graph_blocks s g) (chain_blocks t d ++ chain_blocks t g.edges)
+    → Runs (merging_peak s g) (graph_lists s g) (chain_blocks t d ++ chain_blocks t g.edges)
     (stored_account (graph_size g) (merging_moves s g))
     (stored_account (d.blocks + g.edges.blocks) (lists_moves (d.blocks + g.edges.blocks) room)) s t
 definitions_runs {s} {t} {g} {d} room is i m =
@@ -193,7 +201,7 @@ definitions_stop {s} {t} {g} {fault} i m =
     let ks = chain_blocks s g.sources ++ chain_blocks s g.gates in
     let es = chain_blocks s g.edges in
     record {
-      goes = goes_wider (graph_blocks s g) ks s t
+      goes = goes_wider (graph_lists s g) ks s t
           (record { off = λ z j u o. off_left j ks es (w.off z j u o) }) m.goes;
       halts = record {
         used = (let a = k.used in omega (arith, a, size));

@@ -6,21 +6,22 @@ use Rattle.em_space.specs.Ledger.{Session}
 use Rattle.em_space.specs.Queue.{Ended, Ends, ending_most, IsRising, IsRisingRoom, Leaves, Pays}
 use Rattle.em_space.specs.Rig.{RigState, Touches}
 use Rattle.em_space.specs.declared.queue.Queue.{Ghosts as QueueGhosts}
-use Rattle.em_space.proofs.Lists.{apart_sym, distinct_apart}
+use Rattle.em_space.proofs.Apart.{off_append, off_left, off_right}
 use Rattle.em_space.proofs.Paying.{pays_more, pays_then}
 use Rattle.em_space.proofs.Queues.{most_at_end}
 use Rattle.em_space.proofs.Sessions.{session_as, session_then}
+use Rattle.em_space.proofs.Steps.{touches_wider}
 use Rattle.em_space.proofs.Within.{touches_within}
-use Rattle.em_chain.specs.Chain.{ChainStays, chain_blocks}
-use Rattle.em_chain.proofs.Laws.{chain_stays}
-use Rattle.aig_defs.specs.declared.circuit.Gate.{Gate}
-use Rattle.aig_defs.specs.Circuit.{Circuit}
+use Rattle.em_chain.specs.Chain.{chain_blocks}
+use Rattle.em_chain.specs.declared.chain.Chain.{Chain}
 use Rattle.aig_edges.specs.Build.{UsesUp}
 use Rattle.aig_edges.specs.BuildGraph.{SortCosts}
-use Rattle.aig_edges.specs.Graph.{IsOrdered, IsOrderedOf, graph_blocks, graph_size, ordered_blocks}
+use Rattle.aig_edges.specs.Graph.{graph_blocks, graph_lists, graph_size, ordered_blocks}
 use Rattle.aig_edges.specs.declared.graph.Graph.{Graph}
 use Rattle.aig_edges.specs.declared.graph.Ordered.{Ordered}
+use Rattle.aig_edges.proofs.Besides.{holds_skip, session_past}
 use Rattle.aig_edges.proofs.Ended.{allowed, ended_roomy, ended_within, roomy, shares_gone, still_allowed}
+use Rattle.aig_edges.proofs.OrderedLaws.{OrderedStays, ordered_stays}
 use Rattle.aig_order.specs.ByPass.{by_pass}
 use Rattle.aig_order.specs.FindsOrder.{DoneUntil, OrdersBeside}
 use Rattle.aig_order.specs.OrderGraph.{OrderCosts, OrdersGraph, order_calls, order_moves, order_peak, order_run}
@@ -29,13 +30,34 @@ use Rattle.aig_order.specs.OrderGraph.{OrderCosts, OrdersGraph, order_calls, ord
 abbrev pub held_at : {Q : Type 0} → QueueGhosts Q → Q → RigState → Graph → List ℕ
 held_at q x s g = q.blocks x s ++ graph_blocks s g
 
+-- the same of a graph's lists
+abbrev pub lists_at : {Q : Type 0} → QueueGhosts Q → Q → RigState → Graph → List ℕ
+lists_at q x s g = q.blocks x s ++ graph_lists s g
+
+-- they are held if all are,
+pub lists_held : {Q : Type 0} (q : QueueGhosts Q) (x : Q) {s : RigState} (g : Graph)
+    → (IsTrue s.device.told → Holds s (held_at q x s g)) → IsTrue s.device.told
+    → Holds s (lists_at q x s g)
+lists_held q x {s} g h z =
+    holds_skip (q.blocks x s) (chain_blocks s g.resets) (graph_lists s g) (h z)
+
+-- and what may be changed of them may be changed of all
+all_touched : {Q : Type 0} (q : QueueGhosts Q) (x : Q) {s t : RigState} (g : Graph)
+    → Touches (lists_at q x s g) s t → Touches (held_at q x s g) s t
+all_touched q x {s} {t} g h =
+    let qs = q.blocks x s in
+    let rs = chain_blocks s g.resets in
+    let ls = graph_lists s g in
+    touches_wider (held_at q x s g) (qs ++ ls) s t h (λ z j i o.
+    off_append j qs ls (off_left j qs (rs ++ ls) o) (off_right j rs ls (off_right j qs (rs ++ ls) o)))
+
 -- The queue was abandoned,
 pub up_left : {Q : Type 0} (q : QueueGhosts Q) (x y : Q) {s u v : RigState} (g : Graph)
     → DoneUntil q x y s u g → Leaves (q.counts y) u v
     → UsesUp (held_at q x s g) (q.counts x) s v
 up_left q x y {s} {u} {v} g h l = record {
   sound = l.sound;
-  touches = touches_within s u v (held_at q x s g) [] h.touches
+  touches = touches_within s u v (held_at q x s g) [] (all_touched q x g h.touches)
       (record { off = λ z j i o. tt }) l.touches;
   frames = shares_gone (q.counts x) (q.counts y) s.pool u.pool v.pool h.shares l.frames;
 }
@@ -90,43 +112,6 @@ costs_left q x y {s} {u} {v} g h has l rising spends rising_room fits =
           w.called w.most m rising_room fits;
     })
 
--- Edges between ranks whose blocks were left alone.
-pub record OrderedStays (s t : RigState) (o : Ordered) : Type 0 where
-  pub is : IsOrdered t o
-  pub blocks : IsTrue s.device.told → ordered_blocks t o ≡ ordered_blocks s o
-  pub of : IsTrue s.device.told → (c : Circuit) (order : List Gate) → IsOrderedOf s o c order
-      → IsOrderedOf t o c order
-
-still_ordered : {s t : RigState} (o : Ordered) (c : Circuit) (order : List Gate)
-    → ChainStays s t o.edges → IsTrue s.device.told → IsOrderedOf s o c order
-    → IsOrderedOf t o c order
-still_ordered o c order w z k =
-    record { header = k.header; is = k.is; ordered = k.ordered; edges = w.items z ∙ k.edges }
-
-pub ordered_stays : {s t : RigState} (ks : List ℕ) (o : Ordered) → Touches ks s t
-    → (IsTrue s.device.told → Holds s (ks ++ ordered_blocks s o)) → IsOrdered s o
-    → OrderedStays s t o
-ordered_stays {s} {t} ks o h n i =
-    let es = chain_blocks s o.edges in
-    let w = chain_stays ks s t o.edges h
-    (λ z. apart_sym ks es (distinct_apart ks es ((n z).distinct z))) i.edges.is in
-    record {
-      is = record {
-        header = i.header;
-        edges = record { is = w.is; count_is = i.edges.count_is };
-        stands = λ u.
-            let z : IsTrue s.device.told = sym h.told ∙ u in
-            let k = i.stands z in
-            record {
-              circuit = k.circuit;
-              order = k.order;
-              is = still_ordered o k.circuit k.order w z k.is;
-            };
-      };
-      blocks = w.blocks;
-      of = λ z c order k. still_ordered o c order w z k;
-    }
-
 -- or ended after the edges were made.
 pub record EndedAfter {Q : Type 0} (q : QueueGhosts Q) (x : Q) (s u v : RigState) (g : Graph)
     (o : Ordered) : Type 0 where
@@ -134,12 +119,17 @@ pub record EndedAfter {Q : Type 0} (q : QueueGhosts Q) (x : Q) (s u v : RigState
   pub stays : OrderedStays u v o
 
 pub ended_after : {Q : Type 0} (q : QueueGhosts Q) (x y : Q) {s u v : RigState} {o : Ordered}
-    (g : Graph) → OrdersBeside q x y s u g o
+    (g : Graph) → (IsTrue s.device.told → Holds s (held_at q x s g)) → OrdersBeside q x y s u g o
     → Ends q.allowance q.room (q.blocks y u) (q.counts y) u v → EndedAfter q x s u v g o
-ended_after q x y {s} {u} {v} {o} g b e =
+ended_after q x y {s} {u} {v} {o} g held b e =
     let ks = q.blocks y u in
     let es = ordered_blocks u o in
-    let all = b.session in
+    let same : chain_blocks u o.resets ≡ chain_blocks u g.resets =
+    ap (λ (c : Chain). chain_blocks u c) b.resets_are in
+    let all = session_as (ks ++ es) (session_past (q.blocks x s) (chain_blocks s g.resets)
+    (graph_lists s g) ks (chain_blocks u o.edges) held b.session)
+    (λ z. ap (λ (js : List ℕ). ks ++ (js ++ chain_blocks u o.edges))
+    (same ∙ b.resets_stay.blocks z)) in
     let gone : Session ks u v [] = record {
       sound = e.sound;
       touches = e.touches;
@@ -154,12 +144,12 @@ ended_after q x y {s} {u} {v} {o} g b e =
     }
 
 pub up_ended : {Q : Type 0} (q : QueueGhosts Q) (x y : Q) {s u v : RigState} {o : Ordered}
-    (g : Graph) → OrdersBeside q x y s u g o
+    (g : Graph) → (IsTrue s.device.told → Holds s (held_at q x s g)) → OrdersBeside q x y s u g o
     → Ends q.allowance q.room (q.blocks y u) (q.counts y) u v
     → UsesUp (held_at q x s g) (q.counts x) s v
-up_ended q x y {s} {u} {v} g b e = record {
+up_ended q x y {s} {u} {v} g held b e = record {
   sound = e.sound;
-  touches = (ended_after q x y g b e).session.touches;
+  touches = (ended_after q x y g held b e).session.touches;
   frames = shares_gone (q.counts x) (q.counts y) s.pool u.pool v.pool b.done.shares e.frames;
 }
 
@@ -199,16 +189,17 @@ costs_ended q x y {s} {u} {v} {o} g b has l rising rising_room fits =
 
 -- They are those of each circuit whose graph it was,
 pub orders_graph : {Q : Type 0} (q : QueueGhosts Q) (x y : Q) {s u v : RigState} {o : Ordered}
-    (g : Graph) → OrdersBeside q x y s u g o
+    (g : Graph) → (IsTrue s.device.told → Holds s (held_at q x s g)) → OrdersBeside q x y s u g o
     → Ends q.allowance q.room (q.blocks y u) (q.counts y) u v
     → OrdersGraph (held_at q x s g) s v g o
-orders_graph q x y {o = o} g b e =
-    let a = ended_after q x y g b e in
+orders_graph q x y {o = o} g held b e =
+    let a = ended_after q x y g held b e in
     record {
       is = a.stays.is;
       header = b.header;
       blocks = a.session;
       room = b.room;
+      resets = b.resets_are;
       passes = b.passes;
       stands = λ z c i d.
           let each = b.stands z c i d in

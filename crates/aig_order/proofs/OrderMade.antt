@@ -22,7 +22,7 @@ use Rattle.aig_edges.proofs.Besides.{beside_by}
 use Rattle.aig_order.specs.FindsOrder.{DoneUntil, OrdersNone}
 use Rattle.aig_order.specs.OrderGraph.{IsCycleOf, OfDefinedCircuit, adjacency_count, adjacency_room, order_calls, order_moves, order_peak, order_run}
 use Rattle.aig_defs.specs.Faults.{IsDefined}
-use Rattle.aig_order.proofs.OrderEnded.{held_at}
+use Rattle.aig_order.proofs.OrderEnded.{lists_at}
 use Rattle.aig_order.proofs.SameGraph.{same_defined, same_lists}
 
 -- all circuits of the graph are defined
@@ -51,7 +51,7 @@ pub record Within {Q : Type 0} (q : QueueGhosts Q) (x y : Q) (s : RigState) (g :
 -- A call was refused,
 pub orders_stopped : {Q : Type 0} (q : QueueGhosts Q) (x y : Q) {s t : RigState} (g : Graph)
     {passes calls peak moved unstored : ℕ} {fault : EmFault}
-    → StopsBeside calls peak 0 unstored (held_at q x s g) (stored_account (graph_size g) moved)
+    → StopsBeside calls peak 0 unstored (lists_at q x s g) (stored_account (graph_size g) moved)
     (q.counts x) (q.counts y) s t fault
     → unstored ≤ 2 → Within q x y s g passes peak moved → OrdersNone q x y s t g (stop.Em fault)
 orders_stopped q x y {s} {t} g {passes} w few within = record {
@@ -79,7 +79,7 @@ orders_stopped q x y {s} {t} g {passes} w few within = record {
 -- what was done by calls of which none was refused
 pub orders_until : {Q : Type 0} (q : QueueGhosts Q) (x y : Q) {s t : RigState} (g : Graph)
     {passes calls peak moved : ℕ} {ks : List ℕ} {b : Account}
-    → RunsBeside calls peak (held_at q x s g) ks (stored_account (graph_size g) moved) b
+    → RunsBeside calls peak (lists_at q x s g) ks (stored_account (graph_size g) moved) b
     (q.counts x) (q.counts y) s t
     → b.paid ≡ 0 → Within q x y s g passes peak moved → DoneUntil q x y s t g
 orders_until q x y {s} {t} g {passes} {b = b} w paid within =
@@ -103,7 +103,7 @@ orders_until q x y {s} {t} g {passes} {b = b} w paid within =
 -- or there is a cycle.
 pub orders_cycle : {Q : Type 0} (q : QueueGhosts Q) (x y : Q) {s t : RigState} (g : Graph)
     {passes calls peak moved blocks : ℕ} {ks : List ℕ} (place : ℕ)
-    → RunsBeside calls peak (held_at q x s g) ks (stored_account (graph_size g) moved)
+    → RunsBeside calls peak (lists_at q x s g) ks (stored_account (graph_size g) moved)
     (stored_account blocks 0) (q.counts x) (q.counts y) s t
     → (q.counts y).unstored ≤ t.pool.shape.frames → Within q x y s g passes peak moved
     → IsCycleOf s g kind.Cyclic place
@@ -120,7 +120,7 @@ orders_cycle q x y {s} {t} g place w few within cycle =
 -- A list stands beside the queue, after so many calls and moves.
 pub record ListBeside {Q : Type 0} (q : QueueGhosts Q) (x y : Q) (s t : RigState) (g : Graph)
     (calls peak moved : ℕ) (list : Chain) : Type 0 where
-  pub runs : RunsBeside calls peak (held_at q x s g) (q.blocks y t ++ chain_blocks t list)
+  pub runs : RunsBeside calls peak (lists_at q x s g) (q.blocks y t ++ chain_blocks t list)
       (stored_account (graph_size g) moved) (stored_account list.blocks 0) (q.counts x)
       (q.counts y) s t
   pub rests : (q.counts y).since ≤ (q.counts x).since
@@ -135,7 +135,7 @@ pub list_then : {Q : Type 0} (q : QueueGhosts Q) (x y z : Q) {s t u : RigState} 
     {i j p r m n blocks : ℕ} {list : Chain} {ks : List ℕ} → ListBeside q x y s t g i p m list
     → RunsBeside j r (q.blocks y t ++ chain_blocks t list) ks (stored_account list.blocks n)
     (stored_account blocks 0) (q.counts y) (q.counts z) t u
-    → RunsBeside (i + j) (max p r) (held_at q x s g) ks (stored_account (graph_size g) (m + n))
+    → RunsBeside (i + j) (max p r) (lists_at q x s g) ks (stored_account (graph_size g) (m + n))
     (stored_account blocks 0) (q.counts x) (q.counts z) s u
 list_then q x y z {g = g} {m = m} {n = n} {list = list} w h =
     beside_then
@@ -147,7 +147,7 @@ pub list_stops : {Q : Type 0} (q : QueueGhosts Q) (x y z : Q) {s t u : RigState}
     {i j p r m n : ℕ} {list : Chain} {fault : EmFault} → ListBeside q x y s t g i p m list
     → StopsBeside j r 0 1 (q.blocks y t ++ chain_blocks t list) (stored_account list.blocks n)
     (q.counts y) (q.counts z) t u fault
-    → StopsBeside (i + j) (max p r) 0 1 (held_at q x s g) (stored_account (graph_size g) (m + n))
+    → StopsBeside (i + j) (max p r) 0 1 (lists_at q x s g) (stored_account (graph_size g) (m + n))
     (q.counts x) (q.counts z) s u fault
 list_stops q x y z {g = g} {m = m} {n = n} {list = list} w h =
     stops_then

@@ -1,13 +1,13 @@
 -- The last step of ordering a graph: the edges between ranks are made, of a list in which each gate has a
 -- rank.
-use Rattle.std.proofs.Common.{◌≡◌, ℕ, ◌+◌, ◌*◌, ◌≤◌, max, List, [], IsTrue, ap, ap₂, refl, sym, ◌∙◌, subst, arith}
+use Rattle.std.proofs.Common.{◌≡◌, ℕ, ◌+◌, ◌*◌, ◌≤◌, max, List, [], ◌++◌, IsTrue, ap, ap₂, refl, sym, ◌∙◌, subst, arith}
 use Rattle.em_record.specs.declared.record.Record.{Record}
 use Rattle.em_record.specs.Order.{in_order}
 use Rattle.em_space.specs.Rig.{RigState}
 use Rattle.em_space.specs.declared.fault.EmFault.{EmFault}
 use Rattle.em_space.specs.declared.queue.Queue.{Ghosts as QueueGhosts}
 use Rattle.em_space.proofs.Paying.{pays_more}
-use Rattle.em_chain.specs.Chain.{chain_items, payload_in}
+use Rattle.em_chain.specs.Chain.{chain_items, payload_in, ChainStays, chain_blocks}
 use Rattle.em_chain.specs.Counts.{ceiling}
 use Rattle.em_chain.specs.declared.chain.Chain.{Chain}
 use Rattle.em_chain.proofs.Keeps.{payload_kept}
@@ -17,7 +17,7 @@ use Rattle.aig_defs.specs.Founded.{passes_of}
 use Rattle.aig_defs.specs.Graph.{AllLack}
 use Rattle.aig_text.specs.declared.stop.AigStop.TheVariants as stop
 use Rattle.aig_edges.specs.BuildGraph.{CalledInRuns}
-use Rattle.aig_edges.specs.Graph.{IsGraph, IsGraphOf, edge_count, ranked_room}
+use Rattle.aig_edges.specs.Graph.{IsGraph, IsGraphOf, edge_count, ranked_room, graph_lists}
 use Rattle.aig_edges.specs.Pushes.{CanServeBeside}
 use Rattle.aig_edges.specs.declared.graph.Graph.{Graph}
 use Rattle.aig_order.specs.declared.standing.Sweep.TheVariants.{Send, Rank}
@@ -27,12 +27,17 @@ use Rattle.aig_order.specs.FindsOrder.{OrdersBeside, OrdersNone}
 use Rattle.aig_order.specs.OrderGraph.{BeginsOrdering, OfDefinedCircuit, OrdersCircuit, adjacency_count, adjacency_room, any_calls, order_run}
 use Rattle.aig_order.specs.PassLists.{list_after}
 use Rattle.aig_order.specs.Passes.{CanRank, RanksList, StopsRanking, after_both, both_calls, both_written, ranking_moves, ranks_of}
-use Rattle.aig_order.proofs.OrderEnded.{held_at}
+use Rattle.aig_order.proofs.OrderEnded.{lists_at, held_at}
 use Rattle.aig_order.proofs.OrderLists.{ranks_all_lack, ranks_are, ranks_both, ranks_calls, ranks_count}
 use Rattle.aig_order.proofs.OrderMade.{ListBeside, Within, each_defined, list_stops, list_then, orders_stopped, orders_until}
 use Rattle.aig_order.proofs.OrderSteps.{called_wider, runs_both}
 use Rattle.aig_order.proofs.Orders.{AllFound, found_order}
 use Rattle.aig_order.proofs.Ranked.{still_serves}
+use Rattle.em_chain.proofs.Laws.{chain_stays}
+use Rattle.aig_text.specs.Parts.{IsCompactOf}
+use Rattle.aig_text.proofs.PartsLaws.{compact_stays}
+use Rattle.aig_edges.proofs.Besides.{apart_between, holds_last, session_past}
+use Rattle.em_space.specs.Held.{Holds}
 
 -- The list has the ranks of all gates of each circuit of the graph, after so many passes.
 pub record HasAllRanks (v : RigState) (list : Chain) (passes : ℕ) (c : Circuit) : Type 0 where
@@ -74,7 +79,7 @@ can_rank q x y {s} {v} g {list = list} count b is defined w few ranks e =
         sound = w.runs.runs.session.sound;
         empty = w.empty;
         free = still_serves w.runs free;
-        most = omega (arith, size, h.max, h.latches, h.outputs, h.gates, h.enough);
+        most = omega (arith, size, h.max, h.latches, h.outputs, h.bads, h.constraints, h.gates, h.enough);
         few = omega (arith, size, few, start);
         chain = w.is;
         holds = λ z. w.runs.runs.session.holds (sym told ∙ z);
@@ -86,7 +91,7 @@ can_rank q x y {s} {v} g {list = list} count b is defined w few ranks e =
             ∙ (ranks_both d.circuit (passes_of d.circuit) d.is.is d.defined).items;
       };
       few = omega (arith, size, few, start, e);
-      most = omega (arith, e, h.latches, h.outputs, h.gates);
+      most = omega (arith, e, h.latches, h.outputs, h.bads, h.constraints, h.gates);
       edges = omega (arith, e);
       called = λ z.
           let old : IsTrue s.device.told = sym told ∙ z in
@@ -135,7 +140,7 @@ ready_room : {Q : Type 0} (q : QueueGhosts Q) (x y : Q) {s v : RigState} (g : Gr
     → ceiling count (payload_in v) ≡ ranked_room s g
 ready_room q x y {s} {v} g o =
     ap₂ ceiling o.count_is
-    (payload_kept (held_at q x s g) s v o.beside.runs.runs.session.touches)
+    (payload_kept (lists_at q x s g) s v o.beside.runs.runs.session.touches)
 
 -- The calls, the blocks and the moves of all steps.
 ready_within : {Q : Type 0} (q : QueueGhosts Q) (x y z : Q) {s v : RigState} (g : Graph)
@@ -181,11 +186,21 @@ module _ {Q : Type 0} (q : QueueGhosts Q) (x y z : Q) {s v w : RigState} (g : Gr
       orders_stopped q x z g (list_stops q x y z o.beside r.stops) (omega arith)
       (ready_within q x y z g o r.in_runs)
 
+  -- the resets are kept,
+  resets_stay : {d : Chain} → (IsTrue s.device.told → Holds s (held_at q x s g))
+      → RanksList q g.header count y z list d v w → ChainStays s w g.resets
+  resets_stay held r = chain_stays (lists_at q x s g) s w g.resets
+      (list_then q x y z o.beside r.runs).runs.session.touches
+      (λ t. apart_between (q.blocks x s) (chain_blocks s g.resets) (graph_lists s g) t (held t))
+      o.graph.resets.is
+
   -- the edges are those of each circuit,
-  ranked_circuit : (d : Chain) → RanksList q g.header count y z list d v w → IsTrue s.device.told
+  ranked_circuit : (d e : Chain) → e ≡ g.resets → ChainStays s w g.resets
+      → RanksList q g.header count y z list d v w → IsTrue s.device.told
       → (c : Circuit) → IsGraphOf s g c
-      → OrdersCircuit w (record { header = g.header; passes = passes; edges = d }) c
-  ranked_circuit d r t c i =
+      → OrdersCircuit w
+      (record { header = g.header; passes = passes; edges = d; resets = e }) c
+  ranked_circuit d e same stay r t c i =
       let ready = o.ranks t c i in
       let k = each_defined (o.defined t) c i in
       record {
@@ -196,16 +211,23 @@ module _ {Q : Type 0} (q : QueueGhosts Q) (x y z : Q) {s v w : RigState} (g : Gr
           edges = r.items (o.beside.runs.runs.session.touches.told ∙ t)
               ∙ ap in_order (by_header ranks_of c i ready)
               ∙ ranks_are c (passes_of c) i.is k ready.all;
+          resets = ap (λ (h : Chain). chain_items w h) same ∙ stay.items t ∙ i.resets;
         };
         passes = ready.passes_is;
       }
 
   -- or they were made.
-  pub ranked_beside : (d : Chain) → RanksList q g.header count y z list d v w
-      → OrdersBeside q x z s w g (record { header = g.header; passes = passes; edges = d })
-  ranked_beside d r =
+  pub ranked_beside : (d e : Chain) → e ≡ g.resets
+      → (IsTrue s.device.told → Holds s (held_at q x s g))
+      → RanksList q g.header count y z list d v w
+      → OrdersBeside q x z s w g
+      (record { header = g.header; passes = passes; edges = d; resets = e })
+  ranked_beside d e same held r =
       let runs = list_then q x y z o.beside r.runs in
       let told = runs.runs.session.touches.told in
+      let stay = resets_stay held r in
+      let whole = session_past (q.blocks x s) (chain_blocks s g.resets) (graph_lists s g) (q.blocks z w)
+      (chain_blocks w d) held runs.runs.session in
       record {
         done = orders_until q x z g runs refl (ready_within q x y z g o r.in_runs);
         frames = runs.runs.frames;
@@ -215,17 +237,26 @@ module _ {Q : Type 0} (q : QueueGhosts Q) (x y z : Q) {s v w : RigState} (g : Gr
         is = record {
           header = o.graph.header;
           edges = record { is = r.is; count_is = r.count_is ∙ o.count_is };
+          resets = subst (λ (h : Chain). IsCompactOf w g.header.latches h) (sym same)
+              (compact_stays o.graph.resets runs.runs.session.touches.shape stay);
+          holds = λ t.
+              let old : IsTrue s.device.told = sym told ∙ t in
+              holds_last (q.blocks z w) (chain_blocks w e ++ chain_blocks w d)
+              (subst (λ (js : List ℕ). Holds w (q.blocks z w ++ (js ++ chain_blocks w d)))
+              (sym (ap (λ (h : Chain). chain_blocks w h) same ∙ stay.blocks old)) (whole.holds old));
           stands = λ t.
               let old : IsTrue s.device.told = sym told ∙ t in
               let k = o.defined old in
               record {
                 circuit = k.circuit;
                 order = by_pass k.circuit;
-                is = (ranked_circuit d r old k.circuit k.is).is;
+                is = (ranked_circuit d e same stay r old k.circuit k.is).is;
               };
         };
         header = refl;
         room = r.blocks_is ∙ ready_room q x y g o;
+        resets_are = same;
+        resets_stay = stay;
         passes = o.passes_most;
-        stands = λ t c i k. ranked_circuit d r t c i;
+        stands = λ t c i k. ranked_circuit d e same stay r t c i;
       }

@@ -163,7 +163,7 @@ edges_ranked : (c : Circuit) (order : List Gate) (rank : ℕ → ℕ) → IsOrde
     → Unlike (variables (left_sides order)) → RanksIn c order rank
     → edges_by_rank c order ≡ map (ranked_edge rank c.header) (flat_map operand_edges order)
     ++ map (ranked_edge rank c.header)
-    (numbered next_edge 0 c.latches ++ numbered output_edge 0 c.outputs)
+    (numbered next_edge 0 c.latches ++ numbered output_edge 0 c.columns)
 edges_ranked c order rank o u r =
     let h = c.header in
     let n = o.faultless.undefined in
@@ -174,7 +174,7 @@ edges_ranked c order rank o u r =
     let numbers = rank_numbers c order o.is.lengths o.count in
     let t = first_end_rank c order in
     let ns = numbered next_edge 0 c.latches in
-    let os = numbered output_edge 0 c.outputs in
+    let os = numbered output_edge 0 c.columns in
     let places = at_same (variable_rank c order) rank (first_gate_rank c) order
     (λ v there. sym (r v (inr (has_right _ (gate_variables c) v (order_has c order o v there)))))
     (order_at c order o u) in
@@ -191,21 +191,21 @@ edges_ranked c order rank o u r =
     omega (arith, numbers.first_end) in
     ap (λ (b : ℕ). record { a = rank (l.next / 2); b = b; c = l.next % 2; d = 0 }) place)
     (λ l i. end_rank l.next
-    (contains_left (nexts c.latches) c.outputs l.next (next_of c.latches l i))) in
+    (contains_left (nexts c.latches) c.columns l.next (next_of c.latches l i))) in
     let late = t + length (nexts c.latches) in
     let count = length-map c.latches next ∙ o.is.lengths.latches in
-    let outputs : map f os ≡ end_rank_edges from late (map own c.outputs) =
-    section_ranked rank h from own 3 0 late c.outputs (omega arith) (λ k l.
+    let outputs : map f os ≡ end_rank_edges from late (map own c.columns) =
+    section_ranked rank h from own 3 0 late c.columns (omega arith) (λ k l.
     let place : 2 * (1 + h.inputs + 2 * h.latches + h.gates + (0 + k)) + 0 ≡ 2 * (late + k) =
     omega (arith, numbers.first_end, count) in
     ap (λ (b : ℕ). record { a = rank (l / 2); b = b; c = l % 2; d = 0 }) place)
-    (λ l i. end_rank l (contains_right (nexts c.latches) c.outputs l i)) in
-    let same : map own c.outputs ≡ c.outputs = map-id c.outputs in
+    (λ l i. end_rank l (contains_right (nexts c.latches) c.columns l i)) in
+    let same : map own c.columns ≡ c.columns = map-id c.columns in
     let ends_same = map-append f ns os
     ∙ ap (λ es. es ++ map f os) latches
     ∙ ap (λ es. end_rank_edges from t (nexts c.latches) ++ es) outputs
     ∙ ap (λ ls. end_rank_edges from t (nexts c.latches) ++ end_rank_edges from late ls) same
-    ∙ sym (end_edges_append from t (nexts c.latches) c.outputs) in
+    ∙ sym (end_edges_append from t (nexts c.latches) c.columns) in
     sym (ap (λ es. es ++ map f (ns ++ os)) gates
     ∙ ap (λ es. gate_rank_edges from (first_gate_rank c) order ++ es) ends_same)
 
@@ -268,7 +268,7 @@ pub ranks_text_order : (c : Circuit) (order : List Gate) (rank : ℕ → ℕ) �
     → ordered_edges c order ≡ in_order (map (ranked_edge rank c.header) (edges_in_text c))
 ranks_text_order c order rank o u r =
     let f = ranked_edge rank c.header in
-    let zs = numbered next_edge 0 c.latches ++ numbered output_edge 0 c.outputs in
+    let zs = numbered next_edge 0 c.latches ++ numbered output_edge 0 c.columns in
     ap in_order (edges_ranked c order rank o u r)
     ∙ same_edges f (map f zs) c.gates order (gates_unlike c o.faultless.twice) o.count o.all
     ∙ ap in_order (sym (map-append f (flat_map operand_edges c.gates) zs))

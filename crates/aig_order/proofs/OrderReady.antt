@@ -13,14 +13,14 @@ use Rattle.aig_defs.specs.declared.circuit.Header.{Header}
 use Rattle.aig_defs.specs.declared.fault.AigKind.TheVariants as kind
 use Rattle.aig_defs.specs.Circuit.{Circuit}
 use Rattle.aig_defs.specs.Founded.{passes_of}
-use Rattle.aig_edges.specs.Graph.{IsGraph, IsGraphOf, edge_count, graph_blocks}
+use Rattle.aig_edges.specs.Graph.{IsGraph, IsGraphOf, edge_count, graph_lists}
 use Rattle.aig_edges.specs.Looks.{Looks}
 use Rattle.aig_edges.specs.declared.graph.Graph.{Graph}
 use Rattle.aig_order.specs.declared.passing.Found.{Found}
 use Rattle.aig_order.specs.Findings.{FindsAll, FindsOf, MergesGraph, finding_calls, finding_moves, merging_moves, merging_peak}
 use Rattle.aig_order.specs.LeftGates.{left_if, looked_if}
 use Rattle.aig_order.specs.OrderGraph.{BeginsOrdering, IsCycleOf, OfDefinedCircuit}
-use Rattle.aig_order.proofs.OrderEnded.{held_at}
+use Rattle.aig_order.proofs.OrderEnded.{lists_at}
 use Rattle.aig_order.proofs.OrderLists.{none_missing, one_missing}
 use Rattle.aig_order.proofs.OrderMade.{ListBeside, Within, each_defined}
 use Rattle.aig_order.proofs.OrderRanked.{IsReady}
@@ -33,10 +33,10 @@ end_of h = 1 + h.inputs + h.latches + h.gates
 
 -- a queue has no block of a graph beside it
 pub graph_apart : {Q : Type 0} (q : QueueGhosts Q) (x : Q) {s : RigState} (g : Graph)
-    → (IsTrue s.device.told → Holds s (held_at q x s g)) → IsTrue s.device.told
-    → Apart (q.blocks x s) (graph_blocks s g)
+    → (IsTrue s.device.told → Holds s (lists_at q x s g)) → IsTrue s.device.told
+    → Apart (q.blocks x s) (graph_lists s g)
 graph_apart q x {s} g holds z =
-    distinct_apart (q.blocks x s) (graph_blocks s g) ((holds z).distinct z)
+    distinct_apart (q.blocks x s) (graph_lists s g) ((holds z).distinct z)
 
 -- what was found of a circuit of the graph
 found_for : {Q : Type 0} (q : QueueGhosts Q) (x y : Q) {s t u : RigState} {g : Graph} {list : Chain}

@@ -32,7 +32,7 @@ use Rattle.aig_order.specs.FindsOrder.{OrdersNone}
 use Rattle.aig_order.specs.LeftGates.{looked_if}
 use Rattle.aig_order.specs.OrderGraph.{BeginsOrdering, OfDefinedCircuit, adjacency_room, order_calls, order_run}
 use Rattle.aig_defs.specs.Faults.{IsDefined}
-use Rattle.aig_order.proofs.OrderEnded.{held_at}
+use Rattle.aig_order.proofs.OrderEnded.{lists_at}
 use Rattle.aig_order.proofs.OrderLists.{graph_list}
 use Rattle.aig_order.proofs.OrderMade.{ListBeside, Within, WithinOf, each_defined, list_stops, list_then, orders_stopped}
 use Rattle.aig_order.proofs.Ranked.{still_serves}
@@ -77,7 +77,7 @@ merged_within q x s g = record {
 pub merged_beside : {Q : Type 0} (q : QueueGhosts Q) (x : Q) {s t : RigState} (g : Graph)
     {list : Chain} → q.IsQueue x t → (IsTrue s.device.told → q.blocks x t ≡ q.blocks x s)
     → (q.counts x).blocks ≤ (q.counts x).most → (q.counts x).len ≡ 0
-    → (IsTrue s.device.told → Holds s (held_at q x s g)) → MergesGraph s t g list
+    → (IsTrue s.device.told → Holds s (lists_at q x s g)) → MergesGraph s t g list
     → ListBeside q x x s t g 0 (merging_peak s g) (merging_moves s g) list
 merged_beside q x {s} {t} g {list} kept blocks most none holds m = record {
   runs = beside_as (q.blocks x t ++ chain_blocks t list)
@@ -127,7 +127,7 @@ can_find q x {s} {t} g {list} b defined m w =
       free = still_serves w.runs free;
       count_is = w.count_is;
       blocks_is = w.blocks_is ∙ ap₂ ceiling (sym w.count_is)
-          (sym (payload_kept (held_at q x s g) s t w.runs.runs.session.touches));
+          (sym (payload_kept (lists_at q x s g) s t w.runs.runs.session.touches));
       few = b.few;
       chain = w.is;
       holds = λ z. w.runs.runs.session.holds (sym told ∙ z);

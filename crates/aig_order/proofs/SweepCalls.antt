@@ -141,7 +141,7 @@ graph_edges_two : (c : Circuit) → gate_edges (graph_edges c) ≡ 2 * length c.
 graph_edges_two c =
     let gs = flat_map operand_edges c.gates in
     let ns = numbered next_edge 0 c.latches in
-    let os = numbered output_edge 0 c.outputs in
+    let os = numbered output_edge 0 c.columns in
     omega (
       arith,
       edges_order (edges_in_text c),
@@ -149,7 +149,7 @@ graph_edges_two c =
       edges_append ns os,
       operands_two c.gates,
       nexts_none 0 c.latches,
-      outputs_none 0 c.outputs,
+      outputs_none 0 c.columns,
     )
 
 -- The list of a circuit has two edges to each gate, and each gate's definition.

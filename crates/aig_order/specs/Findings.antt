@@ -14,7 +14,7 @@ use Rattle.aig_defs.specs.Circuit.{Circuit, IsCircuit}
 use Rattle.aig_defs.specs.Founded.{passes_of}
 use Rattle.aig_defs.specs.Ranks.{first_gate_rank}
 use Rattle.aig_edges.specs.BuildGraph.{CalledInRuns}
-use Rattle.aig_edges.specs.Graph.{graph_blocks, graph_size}
+use Rattle.aig_edges.specs.Graph.{graph_lists, graph_size}
 use Rattle.aig_edges.specs.Pushes.{CanServeBeside}
 use Rattle.aig_edges.specs.Accounts.{stored_account}
 use Rattle.aig_edges.specs.declared.graph.Graph.{Graph}
@@ -44,13 +44,19 @@ pub record MergesGraph (s t : RigState) (g : Graph) (c : Chain) : Type 0 where
   pub items : IsTrue s.device.told → chain_items t c
       ≡ adjacency_of g.header (chain_items s g.sources) (chain_items s g.gates)
       (chain_items s g.edges)
-  pub runs : Runs (merging_peak s g) (graph_blocks s g) (chain_blocks t c)
+  pub runs : Runs (merging_peak s g) (graph_lists s g) (chain_blocks t c)
       (stored_account (graph_size g) (merging_moves s g)) (stored_account c.blocks 0) s t
 
 -- what making it did, by the result: a call on a list may have been refused
 abbrev pub MergesTo : RigState → RigState → Graph → Result Chain EmFault → Type 0
 MergesTo s t g (Ok c) = MergesGraph s t g c
-MergesTo s t g (Err fault) = Stops (merging_peak s g) 0 2 (graph_blocks s g)
+MergesTo s t g (Err fault) = Stops (merging_peak s g) 0 2 (graph_lists s g)
+    (stored_account (graph_size g) (merging_moves s g)) s t fault
+
+-- the same beside the resets, which are handed on
+abbrev pub MergesWith : RigState → RigState → Graph → Result (Chain × Chain) EmFault → Type 0
+MergesWith s t g (Ok c) = MergesGraph s t g c.0 × (c.1 ≡ g.resets)
+MergesWith s t g (Err fault) = Stops (merging_peak s g) 0 2 (graph_lists s g)
     (stored_account (graph_size g) (merging_moves s g)) s t fault
 
 -- The list is that of this circuit before its passes.

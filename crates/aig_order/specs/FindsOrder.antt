@@ -5,12 +5,13 @@ use Rattle.em_space.specs.Ledger.{Session}
 use Rattle.em_space.specs.Queue.{Pays, Shares}
 use Rattle.em_space.specs.Rig.{RigState, Cause, Sound, Touches}
 use Rattle.em_space.specs.declared.queue.Queue.{Ghosts as QueueGhosts}
+use Rattle.em_chain.specs.Chain.{ChainStays, chain_blocks}
 use Rattle.aig_defs.specs.Circuit.{Circuit}
 use Rattle.aig_defs.specs.Founded.{passes_of}
 use Rattle.aig_text.specs.Ascii.{IfEmStop}
 use Rattle.aig_text.specs.declared.stop.AigStop.{AigStop}
 use Rattle.aig_edges.specs.BuildGraph.{CalledInRuns}
-use Rattle.aig_edges.specs.Graph.{IsGraphOf, IsOrdered, graph_blocks, graph_size, ordered_blocks, ranked_room}
+use Rattle.aig_edges.specs.Graph.{IsGraphOf, IsOrdered, graph_lists, graph_size, ranked_room}
 use Rattle.aig_edges.specs.declared.graph.Graph.{Graph}
 use Rattle.aig_edges.specs.declared.graph.Ordered.{Ordered}
 use Rattle.aig_defs.specs.Faults.{IsDefined}
@@ -32,7 +33,7 @@ pub record DoneWithin {Q : Type 0} (q : QueueGhosts Q) (r looked : ℕ) (x y : Q
 pub record DoneUntil {Q : Type 0} (q : QueueGhosts Q) (x y : Q) (s t : RigState) (g : Graph)
     : Type 0 where
   pub sound : Sound t
-  pub touches : Touches (q.blocks x s ++ graph_blocks s g) s t
+  pub touches : Touches (q.blocks x s ++ graph_lists s g) s t
   pub shares : Shares (q.counts x) (q.counts y) s.pool t.pool
   pub passes : ℕ
   pub passes_most : passes ≤ g.header.gates
@@ -47,13 +48,15 @@ pub record OrdersBeside {Q : Type 0} (q : QueueGhosts Q) (x y : Q) (s t : RigSta
     (o : Ordered) : Type 0 where
   pub done : DoneUntil q x y s t g
   pub frames : SameFrames s.pool t.pool
-  pub session : Session (q.blocks x s ++ graph_blocks s g) s t (q.blocks y t ++ ordered_blocks t o)
+  pub session : Session (q.blocks x s ++ graph_lists s g) s t (q.blocks y t ++ chain_blocks t o.edges)
   pub used : t.used + ((q.counts x).blocks + graph_size g)
       ≡ s.used + ((q.counts y).blocks + o.edges.blocks)
   pub pays : Pays (q.counts x).unstored (q.counts y).unstored s t
   pub is : IsOrdered t o
   pub header : o.header ≡ g.header
   pub room : o.edges.blocks ≡ ranked_room s g
+  pub resets_are : o.resets ≡ g.resets
+  pub resets_stay : ChainStays s t g.resets
   pub passes : o.passes ≤ g.header.gates
   pub stands : IsTrue s.device.told
       → (c : Circuit) → IsGraphOf s g c → IsDefined c → OrdersCircuit t o c

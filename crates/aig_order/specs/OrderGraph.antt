@@ -40,6 +40,7 @@ pub record OrdersGraph (held : List ℕ) (s t : RigState) (g : Graph) (o : Order
   pub header : o.header ≡ g.header
   pub blocks : Session held s t (ordered_blocks t o)
   pub room : o.edges.blocks ≡ ranked_room s g
+  pub resets : o.resets ≡ g.resets
   pub passes : o.passes ≤ g.header.gates
   pub stands : IsTrue s.device.told
       → (c : Circuit) → IsGraphOf s g c → IsDefined c → OrdersCircuit t o c

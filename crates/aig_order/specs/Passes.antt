@@ -129,7 +129,7 @@ pub record CanRank {Q : Type 0} (q : QueueGhosts Q) (h : Header) (count : ℕ) (
     (c : Chain) : Type 0 where
   pub sweeps : CanSweepTwice q h Send Rank 0 x s c
   pub few : (q.counts x).n + 4 * c.count + 2 * count < 2 ^ 100
-  pub most : count ≤ 2 ^ 42
+  pub most : count ≤ 2 ^ 43
   pub edges : 4 * h.gates ≤ 2 * count
   pub called : IsTrue s.device.told → both_calls Send Rank (chain_items s c) ≡ 4 * h.gates
   pub written : IsTrue s.device.told → both_written Send Rank (chain_items s c) ≡ count

@@ -9,7 +9,7 @@ ghost use Rattle.em_space.specs.Seen.{seen};
 ghost use Rattle.em_weave.specs.State.{weave_count};
 ghost use Rattle.aig_defs.specs.Circuit.{IsHeader};
 ghost use Rattle.aig_edges.specs.Graph.{IsGraph};
-ghost use Rattle.aig_order.specs.Findings.{MergesTo};
+ghost use Rattle.aig_order.specs.Findings.{MergesWith};
 ghost use Rattle.aig_order.specs.Merges.{AreMerged, CanMerge, MergeHasFrames, MergesNext, MergesRest, MergesTwo, merged_side};
 
 use crate::adjacency::{gate_definition, source_definition};
@@ -119,20 +119,25 @@ fn merge_lists<D: Device>(
     }
 }
 
-/// The adjacency list of a graph, in which no gate has a rank. The graph's blocks are released. A fault
-/// is that of a call on a list.
-pub(crate) fn merge_graph<D: Device>(rig: &mut Rig<'_, D>, graph: Graph) -> Result<Chain, EmFault>
+/// The adjacency list of a graph, in which no gate has a rank, and the graph's resets. The blocks of its
+/// other lists are released. A fault is that of a call on a list.
+pub(crate) fn merge_graph<D: Device>(
+    rig: &mut Rig<'_, D>,
+    graph: Graph,
+) -> Result<(Chain, Chain), EmFault>
     requires sound { Sound (seen D.state rig.old) }
     requires is { IsGraph (seen D.state rig.old) graph }
     requires free { 5 ≤ (seen D.state rig.old).pool.free }
-    ensures merges { MergesTo (seen D.state rig.old) (seen D.state rig.new) graph result }
+    ensures merges { MergesWith (seen D.state rig.old) (seen D.state rig.new) graph result }
 {
     let Graph {
         header,
         gates,
         edges,
         sources,
+        resets,
     } = graph;
     let definitions = merge_lists(rig, sources, gates, &header, Merge::Definitions)?;
-    merge_lists(rig, definitions, edges, &header, Merge::Adjacency)
+    let list = merge_lists(rig, definitions, edges, &header, Merge::Adjacency)?;
+    Ok((list, resets))
 }

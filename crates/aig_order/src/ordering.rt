@@ -46,7 +46,7 @@ fn find_order<D: Device, Q: Queue>(
 {
     let header = graph.header;
     let count = graph.edges.len();
-    let list = merge_graph(rig, graph)?;
+    let (list, resets) = merge_graph(rig, graph)?;
     let found = find_all(rig, queue, list, &header)?;
     let end = 1 + header.inputs + header.latches + header.gates;
     if let Some(place) = left_below(rig, &found.list, found.next, end)? {
@@ -60,11 +60,12 @@ fn find_order<D: Device, Q: Queue>(
         header,
         passes: found.passes,
         edges,
+        resets,
     })
 }
 
 /// Orders the gates of a circuit by the passes that find them, and makes its edges between ranks. The
-/// queue, which has no item, is used up. The graph's blocks are released, or are those of the edges.
+/// queue, which has no item, is used up. The graph's blocks are released, or are those of the edges and the resets.
 ///
 /// It stops with `Cyclic` at the least variable of a gate that is on a cycle of gates or needs the value
 /// of one that is, and with `Em` if a call on the rig or of the queue gave up. `Damaged` at block 0 also

@@ -132,7 +132,7 @@ pub(crate) fn operand_edge(note: Record, rank: u64) -> Record
     }
 }
 
-/// The edge between ranks of an edge to a latch's next value or an output.
+/// The edge between ranks of an edge to a latch's next value or a column.
 pub(crate) fn end_edge(header: &Header, standing: Standing, edge: Record) -> Record
     requires header { IsHeader header.now }
     ensures { result ≡ sweeps.end_edge header.now standing.rank edge }

@@ -10,8 +10,6 @@ use Rattle.em_space.specs.Ledger.{Session}
 use Rattle.em_space.specs.Queue.{QueueCounts, Shares}
 use Rattle.em_space.proofs.Sessions.{session_as, session_none, session_then}
 use Rattle.em_chain.specs.Effects.{LendsFrame}
-use Rattle.em_chain.specs.Chain.{chain_blocks}
-use Rattle.em_chain.proofs.Laws.{chain_stays}
 use Rattle.aig_text.specs.Parts.{IsParts, parts_blocks}
 use Rattle.aig_text.specs.declared.parts.Parts.{Parts}
 use Rattle.aig_text.proofs.PartsLaws.{parts_stay}
@@ -19,6 +17,7 @@ use Rattle.aig_edges.specs.BuildGraph.{BuildsGraph}
 use Rattle.aig_edges.specs.Graph.{CanBuild, IsGraph, graph_blocks, IsOrdered, ordered_blocks}
 use Rattle.aig_edges.specs.declared.graph.Graph.{Graph}
 use Rattle.aig_edges.proofs.GraphLaws.{GraphStays, graph_stays}
+use Rattle.aig_edges.proofs.OrderedLaws.{ordered_stays}
 use Rattle.aig_edges.specs.declared.graph.Ordered.{Ordered}
 use Rattle.aig_order.specs.OrderGraph.{OfDefinedCircuit}
 use Rattle.aig_forward.specs.Evaluator.{without_frames}
@@ -92,43 +91,23 @@ graph_held t g ks none i told =
 
 -- Edges between ranks over a call that leaves their blocks alone.
 pub ordered_stay : (s t : RigState) (o : Ordered) → IsOrdered s o → Touches [] s t → IsOrdered t o
-ordered_stay s t o i h =
-    let c = chain_stays [] s t o.edges h (λ told. apart_none (chain_blocks s o.edges)) i.edges.is in
-    record {
-      header = i.header;
-      edges = record { is = c.is; count_is = i.edges.count_is };
-      stands = λ told.
-          let back = sym h.told ∙ told in
-          let k = i.stands back in
-          record {
-            circuit = k.circuit;
-            order = k.order;
-            is = record {
-              header = k.is.header;
-              is = k.is.is;
-              ordered = k.is.ordered;
-              edges = c.items back ∙ k.is.edges;
-            };
-          };
-    }
+ordered_stay s t o i h = (ordered_stays [] o h i.holds i).is
 
 -- A queue with no block beside them.
 pub ordered_held : (s : RigState) (o : Ordered) (ks : List ℕ) → ks ≡ [] → IsOrdered s o
     → IsTrue s.device.told → Holds s (ks ++ ordered_blocks s o)
 ordered_held s o ks none i told =
-    subst (λ (js : List ℕ). Holds s (js ++ ordered_blocks s o)) (sym none)
-    (i.edges.is.told told).holds
+    subst (λ (js : List ℕ). Holds s (js ++ ordered_blocks s o)) (sym none) (i.holds told)
 
 -- A queue with some blocks beside them.
 pub ordered_beside : (s t : RigState) (o : Ordered) (ks : List ℕ) → Sound s → IsOrdered s o
     → Session [] s t ks → IsTrue t.device.told → Holds t (ks ++ ordered_blocks t o)
 ordered_beside s t o ks sound i made told =
     let back = sym made.touches.told ∙ told in
-    let first = session_none s (ordered_blocks s o) sound (λ z. (i.edges.is.told z).holds) in
-    let c = chain_stays [] s t o.edges made.touches (λ z. apart_none (chain_blocks s o.edges))
-    i.edges.is in
+    let first = session_none s (ordered_blocks s o) sound i.holds in
+    let kept = ordered_stays [] o made.touches i.holds i in
     (session_as (ks ++ ordered_blocks t o) (session_then [] ks (ordered_blocks s o) first made)
-    (λ z. ap (λ (l : List ℕ). ks ++ l) (c.blocks z))).holds back
+    (λ z. ap (λ (l : List ℕ). ks ++ l) (kept.blocks z))).holds back
 
 -- Two frames and an area were lent to the queue.
 pub tree_builds : (s t : RigState) (c : QueueCounts) → HasFrames s

@@ -87,7 +87,7 @@ fn print_chain<D: Device>(
     Ok(())
 }
 
-/// Prints a circuit's header and its three chains.
+/// Prints a circuit's header and its four chains.
 fn print_parts<D: Device>(rt: &HostRuntime, rig: &mut Rig<'_, D>, parts: &Parts) -> Result<(), Fail>
     requires sound { Sound (seen D.state rig.old) }
     requires parts { IsParts (seen D.state rig.old) parts.now }
@@ -96,12 +96,15 @@ fn print_parts<D: Device>(rt: &HostRuntime, rig: &mut Rig<'_, D>, parts: &Parts)
 {
     let (m, i, l) = (parts.header.max, parts.header.inputs, parts.header.latches);
     let (o, a) = (parts.header.outputs, parts.header.gates);
-    print!(rt; "{m} {i} {l} {o} {a}\n  Defs:")?;
+    let (b, c) = (parts.header.bads, parts.header.constraints);
+    print!(rt; "{m} {i} {l} {o} {a} {b} {c}\n  Defs:")?;
     print_chain(rt, rig, &parts.defs, Kind::Words)?;
     print!(rt; "  Gates:")?;
     print_chain(rt, rig, &parts.gates, Kind::Words)?;
     print!(rt; "  Uses:")?;
-    print_chain(rt, rig, &parts.uses, Kind::Words)
+    print_chain(rt, rig, &parts.uses, Kind::Words)?;
+    print!(rt; "  Resets:")?;
+    print_chain(rt, rig, &parts.resets, Kind::Words)
 }
 
 /// Prints the header and the chains of the circuit in the first slot; or its fault.
@@ -117,7 +120,7 @@ pub(crate) fn print_chains<D: Device>(
 {
     print!(rt; "{title}: ")?;
     let mut feed = Feed::new(Slot::First);
-    match read_either(rig, &mut feed, shelf) {
+    match read_either(rig, &mut feed, shelf, None) {
         Ok(parts) => print_parts(rt, rig, &parts),
         Err(stop) => print_stop(rt, unread(stop)),
     }

@@ -21,7 +21,7 @@ pub(crate) const BLOCKS: u64 = 1000;
 /// What is printed of a row.
 #[derive(Clone, Copy)]
 pub(crate) enum Part {
-    /// The circuit's header and its three chains.
+    /// The circuit's header and its four chains.
     Chains,
     /// Its edges between ranks.
     Edges,

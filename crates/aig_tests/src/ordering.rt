@@ -53,7 +53,7 @@ pub(crate) fn read_ordered<D: Device, H: Shelf>(
     ensures leaves { LeavesFrames (seen D.state rig.old) (seen D.state rig.new) }
     ensures is { IfOk result (IsOrdered (seen D.state rig.new)) }
 {
-    let parts = read_either(rig, feed, shelf)?;
+    let parts = read_either(rig, feed, shelf, None)?;
     let graph = build(rig, parts)?;
     rank(rig, graph)
 }

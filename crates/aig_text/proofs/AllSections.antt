@@ -56,7 +56,8 @@ listed_more all h i d a b low x y = record {
   counts = counts_appended x.counts y.counts
       (sym (total_more (λ s. (share s).defs * lines_in s h) i all d low))
       (sym (total_more (λ s. (share s).gates * lines_in s h) i all d low))
-      (sym (total_more (λ s. (share s).uses * lines_in s h) i all d low));
+      (sym (total_more (λ s. (share s).uses * lines_in s h) i all d low))
+      (sym (total_more (λ s. (share s).resets * lines_in s h) i all d low));
   rows = subst (λ sections. HasAllRows sections h (appended a b)) (sym (taken_more i all d low))
       (section_more (take i all) (get_or all i d) h a b x.rows y.rows);
 }
@@ -68,15 +69,18 @@ pub sections_begin : {tells : Bool} {k : ℕ} {m : Moment} (form : Form) (h : He
     (listed_size form (drop 0 order) h)
     (HasSections (take 0 order) h) m m
 sections_begin form h can = fills_none (listed form order h) (listed_size form order h) (HasSections [] h) can
-    (record { counts = record { defs = refl; gates = refl; uses = refl }; rows = refl })
+    (record { counts = record { defs = refl; gates = refl; uses = refl; resets = refl }; rows = refl })
 
 room_by : (i : ℕ) (h : Header) (a : Listing) → i < 4 → IsHeader h → HasSections (take i order) h a
-    → record_count a + 2 * lines_in (get_or order i Inputs) h ≤ 2 ^ 43
-room_by zero h a low k l = omega (arith, l.counts.defs, l.counts.gates, l.counts.uses)
-room_by (suc zero) h a low k l = omega (arith, l.counts.defs, l.counts.gates, l.counts.uses)
-room_by (suc (suc zero)) h a low k l = omega (arith, l.counts.defs, l.counts.gates, l.counts.uses)
+    → record_count a + 3 * lines_in (get_or order i Inputs) h ≤ 2 ^ 44
+room_by zero h a low k l =
+    omega (arith, l.counts.defs, l.counts.gates, l.counts.uses, l.counts.resets)
+room_by (suc zero) h a low k l =
+    omega (arith, l.counts.defs, l.counts.gates, l.counts.uses, l.counts.resets)
+room_by (suc (suc zero)) h a low k l =
+    omega (arith, l.counts.defs, l.counts.gates, l.counts.uses, l.counts.resets)
 room_by (suc (suc (suc zero))) h a low k l =
-    omega (arith, l.counts.defs, l.counts.gates, l.counts.uses)
+    omega (arith, l.counts.defs, l.counts.gates, l.counts.uses, l.counts.resets)
 room_by (suc (suc (suc (suc i)))) h a low k l = absurd (omega arith)
 
 -- All sections were read, and then the tail.
@@ -120,8 +124,8 @@ module _ {tells : Bool} {old mid : Moment} (form : Form) (h : Header) (i : ℕ)
     (listed_size form (drop i order) h)
     (HasSections (take i order) h) old mid) where
   -- The next one can be read,
-  pub sections_can : i < 4 → IsHeader h → CanFill (2 ^ 43) old
-      → CanFill (2 * lines_in (get_or order i Inputs) h) mid
+  pub sections_can : i < 4 → IsHeader h → CanFill (2 ^ 44) old
+      → CanFill (3 * lines_in (get_or order i Inputs) h) mid
   sections_can low k can = can_fill can s.advances s.adds (room_by i h s.lists low k s.like)
 
   next_split : i < 4 → Splits (listed form (drop i order) h) (listed_size form (drop i order) h)

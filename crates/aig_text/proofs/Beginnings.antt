@@ -1,4 +1,4 @@
--- A draft is made of three writers.
+-- A draft is made of four writers.
 use Rattle.std.proofs.Common.{◌≡◌, length, refl, sym, ◌∙◌, arith}
 use Rattle.em_frames.specs.Pool.{HasFrames}
 use Rattle.em_space.specs.Rig.{RigState}
@@ -36,33 +36,41 @@ begins_packed b = record {
   filled_is = b.filled_is ∙ sym b.count;
 }
 
-three_out : {s a b t : RigState} (w : Writer) → LendsFrame s a → LendsFrame a b → LendsFrame b t
-    → Begins t w → HasFrames 3 (length w.frame) t.pool
-three_out {s} {t = t} w x y z k =
-    let shape : t.pool.shape ≡ s.pool.shape = z.frames.shape ∙ y.frames.shape ∙ x.frames.shape in
+four_out : {s a b m t : RigState} (w : Writer) → LendsFrame s a → LendsFrame a b → LendsFrame b m
+    → LendsFrame m t → Begins t w → HasFrames 4 (length w.frame) t.pool
+four_out {s} {t = t} w x y z l k =
+    let shape : t.pool.shape ≡ s.pool.shape =
+    l.frames.shape ∙ z.frames.shape ∙ y.frames.shape ∙ x.frames.shape in
     record {
       len_is = k.is.frame.len_is;
-      out = rw shape (omega (arith, x.frames.free, y.frames.free, z.frames.free, x.within));
+      out = rw shape
+          (omega (arith, x.frames.free, y.frames.free, z.frames.free, l.frames.free, x.within));
     }
 
-pub begins_three : {s a b t : RigState} (d : Draft) → LendsFrame s a → LendsFrame a b
-    → LendsFrame b t → Begins a d.defs → Begins b d.gates → Begins t d.uses → BeginsDraft t d
-begins_three d x y z i j k =
-    let f = begins_lent (begins_lent i y) z in
-    let g = begins_lent j z in
+pub begins_four : {s a b m t : RigState} (d : Draft) → LendsFrame s a → LendsFrame a b
+    → LendsFrame b m → LendsFrame m t → Begins a d.defs → Begins b d.gates → Begins m d.uses
+    → Begins t d.resets → BeginsDraft t d
+begins_four d x y z l i j k n =
+    let f = begins_lent (begins_lent (begins_lent i y) z) l in
+    let g = begins_lent (begins_lent j z) l in
+    let u = begins_lent k l in
     record {
       is = record {
         defs = begins_packed f;
         gates = begins_packed g;
-        uses = begins_packed k;
+        uses = begins_packed u;
+        resets = begins_packed n;
         frames = record {
-          defs = three_out d.defs x y z f;
-          gates = three_out d.gates x y z g;
-          uses = three_out d.uses x y z k;
+          defs = four_out d.defs x y z l f;
+          gates = four_out d.gates x y z l g;
+          uses = four_out d.uses x y z l u;
+          resets = four_out d.resets x y z l n;
         };
-        holds = λ u. rw (f.held, g.held, k.held) (record { in_use = tt; distinct = λ v. tt });
+        holds = λ w. rw (f.held, g.held, u.held, n.held)
+            (record { in_use = tt; distinct = λ v. tt });
       };
       defs = f;
       gates = g;
-      uses = k;
+      uses = u;
+      resets = n;
     }

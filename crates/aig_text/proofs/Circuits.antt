@@ -19,10 +19,10 @@ use Rattle.aig_defs.specs.Begun.{circuit_size, counts_after, sections_size}
 use Rattle.aig_defs.specs.Circuit.{Circuit, IsHeader}
 use Rattle.aig_defs.specs.Items.{Reading, Reads, Fails, and_then}
 use Rattle.aig_defs.specs.Order.{after_magic, header_line, sections}
-use Rattle.aig_defs.proofs.Begun.{size_most}
+use Rattle.aig_defs.proofs.Begun.{sections_all, size_most}
 use Rattle.aig_defs.proofs.Order.{sections_end, sections_read}
 use Rattle.aig_text.specs.Ascii.{CompletesReading, FullOnlyIf, GivesCircuit, GivesParts, IfEm, IfEmStop, IsPackedOf, OwesAfter, TakesAtMost, enough_for, size_given}
-use Rattle.aig_text.specs.Draft.{IsPackedChain, LeavesDraft, WritesThree, draft_room}
+use Rattle.aig_text.specs.Draft.{IsPackedChain, LeavesDraft, WritesFour, draft_room}
 use Rattle.aig_text.specs.Listing.{Listing, listing_of, record_count}
 use Rattle.aig_text.specs.Reads.{Advances, OnShelfFault, OnShelfStop, ReadCause, ReadsItem, StopsAs}
 use Rattle.aig_text.specs.Sections.{listed_size, order}
@@ -31,10 +31,10 @@ use Rattle.aig_text.specs.Listed.{ReadsListing, LeavesListing, WritesListing}
 use Rattle.aig_text.specs.declared.parts.Parts.{Parts}
 use Rattle.aig_text.specs.declared.stop.AigStop.{AigStop}
 use Rattle.aig_text.specs.declared.stop.AigStop.TheVariants as stop
-use Rattle.em_chain.proofs.Counts.{ceiling_three}
+use Rattle.aig_text.proofs.Ceilings.{ceiling_twice, room_by}
 use Rattle.aig_text.proofs.Fillings.{stops_as, stops_then}
 use Rattle.aig_text.proofs.Lines.{of_error}
-use Rattle.aig_text.proofs.Listings.{listed_is, listed_size_is}
+use Rattle.aig_text.proofs.Listings.{listed_is, listed_most}
 use Rattle.aig_text.proofs.SectionRows.{listed_rows}
 use Rattle.aig_text.proofs.Steadies.{advances_then}
 use Rattle.aig_text.proofs.Whole.{never_gives_up}
@@ -118,10 +118,14 @@ module _ (form : Form) {tells : Bool} {old mid : Source} {h : Header}
       ≡ sections form h mid.feed.place (left mid)
   after_header z = ap (λ r. and_then r (sections form)) (header.gives z)
 
+  given_after : IsTrue tells → (given : ℕ)
+      → size_given form old given ≡ sections_size form given h mid.feed.place (left mid)
+  given_after z given = ap (λ r. counts_after r (sections_size form given)) (header.gives z)
+
   size_after : IsTrue tells → (given : ℕ)
-      → size_given form old given ≡ listed_size form order h given mid.feed.place (left mid)
-  size_after z given = ap (λ r. counts_after r (sections_size form given)) (header.gives z)
-      ∙ sym (listed_size_is form h given mid.feed.place (left mid))
+      → listed_size form order h given mid.feed.place (left mid) ≤ 2 * size_given form old given
+  size_after z given =
+      omega (arith, given_after z given, listed_most form h given mid.feed.place (left mid))
 
   -- A circuit that is spelled has this header, and no more was read than its size.
   size_within : IsTrue tells → (c : Circuit) (q given : ℕ)
@@ -149,19 +153,21 @@ payload_low s t g =
     omega arith
 
 -- Records that were to be written until the sections stopped are within the size of what was read.
-left_takes : (s t : RigState) (n size : ℕ) → n ≤ size → LeavesDraft s t n → TakesAtMost size s t
+left_takes : (s t : RigState) (n size : ℕ) → n ≤ 2 * size → LeavesDraft s t n
+    → TakesAtMost size s t
 left_takes s t n size few h =
-    let r = ceiling_rises n size (payload_in s) (payload_low s t h.goes) few in
+    let p = payload_low s t h.goes in
+    let r = ceiling_rises n (2 * size) (payload_in s) p few in
     record {
-      moves = omega (arith, h.moves, r);
+      moves = omega (arith, h.moves, r, ceiling_twice size (payload_in s) p);
       used = omega (arith, h.used, r);
       most = omega (arith, h.most, r);
     }
 
-within_enough : (s t : RigState) (n size : ℕ) → n ≤ size → Goes [] s t
+within_enough : (s t : RigState) (n size : ℕ) → n ≤ 2 * size → Goes [] s t
     → draft_room s n ≤ enough_for s size
 within_enough s t n size few g =
-    omega (arith, ceiling_rises n (2 * size) (payload_in s) (payload_low s t g) (omega arith))
+    omega (arith, ceiling_rises n (2 * size) (payload_in s) (payload_low s t g) few)
 
 -- what holds of every stop of the sections
 left_by : (old new : Source) (s t : RigState) (n : ℕ) (e : AigStop) → LeavesListing n old new s t e
@@ -183,7 +189,7 @@ stop_cause old new s t n (stop.Fault kind place) h = tt
 stop_cause old new s t n stop.Read h = tt
 stop_cause old new s t n (stop.Em fault) h = h.cause
 
-stop_full : (old new : Source) (s t : RigState) (n size : ℕ) (e : AigStop) → n ≤ size
+stop_full : (old new : Source) (s t : RigState) (n size : ℕ) (e : AigStop) → n ≤ 2 * size
     → LeavesListing n old new s t e
     → IfEmStop e (λ fault. IfFull fault (λ _. s.blocks < s.used + enough_for s size))
 stop_full old new s t n size (stop.Fault kind place) few h = tt
@@ -212,7 +218,7 @@ module _ (form : Form) {tells : Bool} {old mid new : Source} {h : Header} {s t :
       let k = r.by in
       let l = left_by mid new s t k.written e k.stops in
       let few : IsTrue tells → (given : ℕ) → new.feed.place ≤ given
-      → k.written ≤ size_given form old given =
+      → k.written ≤ 2 * size_given form old given =
       λ z given far. omega (arith, k.counted z given far, size_after form header z given) in
       let fails : IsTrue tells → StopsAs e (after_magic form old.feed.place (left old)) =
       λ z. stops_as e _ _ (after_header form header z)
@@ -271,41 +277,40 @@ packed_of {t} {c} {xs} {n} e k = record {
 }
 
 -- Records that were written are within the size that counts them.
-written_takes : (s t : RigState) (f g k : Chain) (a : Listing) (size : ℕ) → size ≡ record_count a
-    → WritesThree s t f g k a.defs a.gates a.uses → TakesAtMost size s t
-written_takes s t f g k a size e w =
+written_takes : (s t : RigState) (f g k r : Chain) (a : Listing) (size : ℕ)
+    → record_count a ≤ 2 * size → WritesFour s t f g k r a.defs a.gates a.uses a.resets
+    → TakesAtMost size s t
+written_takes s t f g k r a size few w =
     let p = payload_low s t w.goes in
-    let sum = ceiling_three (length a.defs) (length a.gates) (length a.uses) (payload_in s) p in
     let kept = payload_kept [] s t w.goes.touches in
-    let x : f.blocks ≡ ceiling (length a.defs) (payload_in s) = w.defs.blocks_is
-    ∙ ap (λ j. ceiling (length a.defs) j) kept in
-    let y : g.blocks ≡ ceiling (length a.gates) (payload_in s) = w.gates.blocks_is
-    ∙ ap (λ j. ceiling (length a.gates) j) kept in
-    let z : k.blocks ≡ ceiling (length a.uses) (payload_in s) = w.uses.blocks_is
-    ∙ ap (λ j. ceiling (length a.uses) j) kept in
-    let all : ceiling size (payload_in s) ≡ ceiling (record_count a) (payload_in s) =
-    ap (λ j. ceiling j (payload_in s)) e in
+    let sum = room_by (length a.defs) (length a.gates) (length a.uses) (length a.resets) (2 * size)
+    (payload_in s) p
+    (w.defs.blocks_is ∙ ap (λ j. ceiling (length a.defs) j) kept)
+    (w.gates.blocks_is ∙ ap (λ j. ceiling (length a.gates) j) kept)
+    (w.uses.blocks_is ∙ ap (λ j. ceiling (length a.uses) j) kept)
+    (w.resets.blocks_is ∙ ap (λ j. ceiling (length a.resets) j) kept) few in
     record {
-      moves = omega (arith, w.moves);
-      used = omega (arith, w.used);
-      most = omega (arith, w.most, w.used);
+      moves = omega (arith, w.moves, sum, ceiling_twice size (payload_in s) p);
+      used = omega (arith, w.used, sum);
+      most = omega (arith, w.most, w.used, sum);
     }
 
 module _ (form : Form) {tells : Bool} {old mid new : Source} {h : Header} {s t : RigState}
     (header : ReadsItem tells (header_line form) old mid (Ok h)) (is : IsHeader h) where
   -- All was read.
-  pub circuit_read : (f g k : Chain) → Advances tells mid new
-      → WritesListing tells form h mid new s t f g k
-      → ReadsCircuit form tells old new s t (Ok (record { header = h; defs = f; gates = g; uses = k }))
-  circuit_read f g k on w =
+  pub circuit_read : (f g k r : Chain) → Advances tells mid new
+      → WritesListing tells form h mid new s t f g k r
+      → ReadsCircuit form tells old new s t
+      (Ok (record { header = h; defs = f; gates = g; uses = k; resets = r }))
+  circuit_read f g k r on w =
       let a = w.lists in
       let at : IsTrue tells → ListedCircuit (sections form h mid.feed.place (left mid)) a
       new.feed.place (left new) =
       λ z. listed_circuit (sections form h mid.feed.place (left mid)) a new.feed.place (left new)
       (sym (listed_is form h mid.feed.place (left mid)) ∙ w.reads z) in
       let all : IsTrue tells → (given : ℕ) → new.feed.place ≤ given
-      → size_given form old given ≡ record_count a =
-      λ z given far. size_after form header z given ∙ w.counted z given far in
+      → record_count a ≤ 2 * size_given form old given =
+      λ z given far. omega (arith, size_after form header z given, w.counted z given far) in
       record {
         goes = w.writes.goes;
         parts = record {
@@ -313,6 +318,7 @@ module _ (form : Form) {tells : Bool} {old mid new : Source} {h : Header} {s t :
           defs = packed_of (omega (arith, w.like.counts.defs)) w.writes.defs;
           gates = packed_of (omega (arith, w.like.counts.gates)) w.writes.gates;
           uses = packed_of (omega (arith, w.like.counts.uses)) w.writes.uses;
+          resets = packed_of (omega (arith, w.like.counts.resets)) w.writes.resets;
           blocks = w.writes.session;
           used = w.writes.used;
           stands = λ told.
@@ -325,6 +331,8 @@ module _ (form : Form) {tells : Bool} {old mid new : Source} {h : Header} {s t :
                   defs = w.writes.defs.items told ∙ ap (λ (l : Listing). l.defs) (sym c.lists);
                   gates = w.writes.gates.items told ∙ ap (λ (l : Listing). l.gates) (sym c.lists);
                   uses = w.writes.uses.items told ∙ ap (λ (l : Listing). l.uses) (sym c.lists);
+                  resets = w.writes.resets.items told
+                      ∙ ap (λ (l : Listing). l.resets) (sym c.lists);
                 };
               };
         };
@@ -338,21 +346,31 @@ module _ (form : Form) {tells : Bool} {old mid new : Source} {h : Header} {s t :
               defs = λ told. w.writes.defs.items told ∙ ap (λ (l : Listing). l.defs) (sym c.is);
               gates = λ told. w.writes.gates.items told ∙ ap (λ (l : Listing). l.gates) (sym c.is);
               uses = λ told. w.writes.uses.items told ∙ ap (λ (l : Listing). l.uses) (sym c.is);
-              counted = λ given far. omega (
-                arith,
-                all z given far,
-                w.writes.defs.count_is,
-                w.writes.gates.count_is,
-                w.writes.uses.count_is,
-              );
+              resets = λ told. w.writes.resets.items told
+                  ∙ ap (λ (l : Listing). l.resets) (sym c.is);
+              counted = λ given far.
+                  let whole = sections_all form given h mid.feed.place (left mid) c.circuit
+                  new.feed.place (left new) (sections_read form h mid.feed.place (left mid) c.circuit
+                  new.feed.place (left new) c.reads) far in
+                  omega (
+                    arith,
+                    given_after form header z given,
+                    whole,
+                    w.like.counts.defs,
+                    w.like.counts.gates,
+                    w.like.counts.uses,
+                    w.writes.defs.count_is,
+                    w.writes.gates.count_is,
+                    w.writes.uses.count_is,
+                  );
             };
         end = λ z. let c = at z in sections_end form h mid.feed.place (left mid) c.circuit
             new.feed.place (left new) c.reads;
         feed = advances_then header.advances on;
         read = tt;
         cause = tt;
-        takes = λ z given far. written_takes s t f g k a (size_given form old given) (all z given far)
-            w.writes;
+        takes = λ z given far. written_takes s t f g k r a (size_given form old given)
+            (all z given far) w.writes;
         full = λ z given far. tt;
         complete = λ z told calm quiet c q e room. refl;
         owes = w.writes.owes;

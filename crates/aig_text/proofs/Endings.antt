@@ -11,7 +11,7 @@ use Rattle.aig_defs.specs.declared.circuit.Header.{Header}
 use Rattle.aig_defs.specs.declared.form.Form.{Form}
 use Rattle.aig_text.specs.Draft.{BeginsDraft, FinishesDraft, GivesFrames, LendsFrames, LeavesDraft, draft_account, draft_blocks}
 use Rattle.aig_text.specs.Listing.{record_count}
-use Rattle.aig_text.specs.Moment.{AddsSome, ReadsInto, StopsFilling}
+use Rattle.aig_text.specs.Moment.{Moment, AddsSome, ReadsInto, StopsFilling}
 use Rattle.aig_text.specs.Sections.{HasSections, listed, listed_size, order}
 use Rattle.aig_text.specs.Source.{Source}
 use Rattle.aig_text.specs.Listed.{ReadsListing, LeavesListing}
@@ -29,6 +29,13 @@ ReadsAll tells form h old new a b d e result = ReadsInto tells (listed form orde
     (HasSections order h) (record { text = old; rig = a; draft = d })
     (record { text = new; rig = b; draft = e }) result
 
+-- The rig after a stop of the sections is sound.
+pub filling_sound : (n : ℕ) (old new : Moment) (e : AigStop) → StopsFilling n old new e
+    → Sound new.rig
+filling_sound n old new (stop.Fault kind place) h = h.adds.drafted.runs.session.sound
+filling_sound n old new stop.Read h = h.0.adds.drafted.runs.session.sound
+filling_sound n old new (stop.Em fault) h = h.stops.goes.sound
+
 -- More records may have been to be written.
 leaves_wider : {s t : RigState} {m : ℕ} (n : ℕ) → Sound s → m ≤ n → LeavesDraft s t m
     → LeavesDraft s t n
@@ -45,27 +52,27 @@ leaves_wider {s} {t} {m} n sound few h =
 
 -- What was written until the sections stopped.
 module _ (old new : Source) {s a b t : RigState} {d : Draft} (e : Draft) (sound : Sound s)
-    (lends : LendsFrames 3 s a) (unmoved : Unmoved s a) (begins : BeginsDraft a d) where
+    (lends : LendsFrames 4 s a) (unmoved : Unmoved s a) (begins : BeginsDraft a d) where
   some_left : (n : ℕ) → AddsSome n (record { text = old; rig = a; draft = d })
       (record { text = new; rig = b; draft = e })
-      → GivesFrames 3 [] b t → Unmoved b t → LeavesDraft s t n
+      → GivesFrames 4 [] b t → Unmoved b t → LeavesDraft s t n
   some_left n k g v =
       leaves_wider n sound k.few (drafted_left lends unmoved begins k.adds.drafted g v)
 
   stopped_by : (n : ℕ) (k : AigStop)
       → StopsFilling n (record { text = old; rig = a; draft = d })
       (record { text = new; rig = b; draft = e }) k
-      → GivesFrames 3 [] b t → Unmoved b t → LeavesListing n old new s t k
+      → GivesFrames 4 [] b t → Unmoved b t → LeavesListing n old new s t k
   stopped_by n (stop.Fault kind place) k g v = some_left n k g v
   stopped_by n stop.Read k g v = (some_left n k.0 g v, k.1)
   stopped_by n (stop.Em fault) k g v = drafted_stopped lends unmoved begins k g v
 
 module _ {tells : Bool} {form : Form} {h : Header} {old new : Source} {s a b t : RigState} {d e : Draft}
-    (lends : LendsFrames 3 s a) (unmoved : Unmoved s a) (begins : BeginsDraft a d) where
+    (lends : LendsFrames 4 s a) (unmoved : Unmoved s a) (begins : BeginsDraft a d) where
   -- They were read, and the draft was finished,
-  pub sections_written : (c : Chain × Chain × Chain) (u : Unit {0})
+  pub sections_written : (c : Chain × Chain × Chain × Chain) (u : Unit {0})
       → ReadsAll tells form h old new a b d e (Ok u)
-      → GivesFrames 3 (draft_blocks b e) b t → FinishesDraft b t e c.0 c.1 c.2
+      → GivesFrames 4 (draft_blocks b e) b t → FinishesDraft b t e c.0 c.1 c.2 c.3
       → OnlyMoves (draft_account e).unstored b t → ReadsListing tells form h old new s t (Ok c)
   sections_written c u r g f o = record {
     advances = r.advances;
@@ -80,9 +87,9 @@ module _ {tells : Bool} {form : Form} {h : Header} {old new : Source} {s a b t :
 
   -- which gave up,
   pub sections_refused : (fault : EmFault) (u : Unit {0})
-      (result : Result (Chain × Chain × Chain) AigStop)
+      (result : Result (Chain × Chain × Chain × Chain) AigStop)
       → IsErrAnd result (λ k. k ≡ stop.Em fault) → ReadsAll tells form h old new a b d e (Ok u)
-      → GivesFrames 3 (draft_blocks b e) b t → OnlyMoves (draft_account e).unstored b t
+      → GivesFrames 4 (draft_blocks b e) b t → OnlyMoves (draft_account e).unstored b t
       → DeviceCause b t fault → ReadsListing tells form h old new s t result
   sections_refused fault u result is r g o c =
       of_error (ReadsListing tells form h old new s t) result (stop.Em fault) is (record {
@@ -97,7 +104,7 @@ module _ {tells : Bool} {form : Form} {h : Header} {old new : Source} {s a b t :
 
   -- or they stopped, and it was abandoned.
   pub sections_stopped : (k : AigStop) → Sound s → ReadsAll tells form h old new a b d e (Err k)
-      → GivesFrames 3 [] b t → Unmoved b t
+      → GivesFrames 4 [] b t → Unmoved b t
       → ReadsListing tells form h old new s t (Err k)
   sections_stopped k sound r g v = record {
     advances = r.advances;

@@ -1,4 +1,4 @@
--- Items that are read into the three lists, one after another.
+-- Items that are read into the four lists, one after another.
 use Rattle.std.proofs.Common.{◌≡◌, ◌+◌, ◌≤◌, Bool, true, List, ℕ, length, refl, sym, ap, ◌∙◌, subst, arith, append_assoc}
 use Rattle.std.proofs.lemmas.List.{append-nil, length-append}
 use Rattle.em_record.specs.declared.record.Record.{Record}
@@ -18,15 +18,16 @@ use Rattle.aig_text.proofs.Steadies.{advances_then, steady_none}
 
 -- Listing after lists.
 pub appended_none : (a : Listing) → appended a no_records ≡ a
-appended_none a = rw (append-nil a.defs, append-nil a.gates, append-nil a.uses) refl
+appended_none a =
+    rw (append-nil a.defs, append-nil a.gates, append-nil a.uses, append-nil a.resets) refl
 
 pub appended_assoc : (a b c : Listing) → appended (appended a b) c ≡ appended a (appended b c)
 appended_assoc a b c =
     rw (
       append_assoc a.defs b.defs c.defs,
       append_assoc a.gates b.gates c.gates,
-      append_assoc a.uses
-          b.uses c.uses,
+      append_assoc a.uses b.uses c.uses,
+      append_assoc a.resets b.resets c.resets,
     ) refl
 
 pub count_appended : (a b : Listing) → record_count (appended a b) ≡ record_count a + record_count b
@@ -35,6 +36,7 @@ count_appended a b = omega (
   length-append a.defs b.defs,
   length-append a.gates b.gates,
   length-append a.uses b.uses,
+  length-append a.resets b.resets,
 )
 
 -- Nothing was written,
@@ -45,7 +47,8 @@ adds_none h = record { drafted = drafted_none h.sound h.draft }
 pub adds_then : {a b c : Moment} (x y : Listing) → AddsListing a b x → AddsListing b c y
     → AddsListing a c (appended x y)
 adds_then x y h g = record {
-  drafted = drafted_then x.defs x.gates x.uses y.defs y.gates y.uses h.drafted g.drafted;
+  drafted = drafted_then x.defs x.gates x.uses x.resets y.defs y.gates y.uses y.resets h.drafted
+      g.drafted;
 }
 
 -- More can be read,
@@ -70,9 +73,10 @@ can_fill h on a few = record {
 }
 
 -- One record more can be written to each list.
-pub can_add : {m : ℕ} {old : Moment} {s : RigState} {d : Draft} {xs ys zs : List Record}
-    → CanFill m old → Drafted old.rig s old.draft d xs ys zs
-    → length xs + length ys + length zs ≤ m → CanGrow d.defs × CanGrow d.gates × CanGrow d.uses
+pub can_add : {m : ℕ} {old : Moment} {s : RigState} {d : Draft} {xs ys zs ws : List Record}
+    → CanFill m old → Drafted old.rig s old.draft d xs ys zs ws
+    → length xs + length ys + length zs + length ws ≤ m
+    → CanGrow d.defs × CanGrow d.gates × CanGrow d.uses × CanGrow d.resets
 can_add h a few = draft_can_grow a.runs.session.sound (drafted_is h.draft a)
     (omega (arith, drafted_len a, h.room))
 

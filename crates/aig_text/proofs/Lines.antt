@@ -98,7 +98,7 @@ module _ {A : Type 0} {tells : Bool} {line : Item A} {k : ℕ} {old : Moment} {t
 
     -- It was read, and its records were written.
     pub line_done : Drafted old.rig rig old.draft draft (write value).defs (write value).gates
-        (write value).uses
+        (write value).uses (write value).resets
         → IsLike (write value) → record_count (write value) ≡ w
         → ReadsInto tells (line >>= λ v. Reads (write v)) (weight_begun bytes w) IsLike old
         (record { text = text; rig = rig; draft = draft }) (Ok tt)

@@ -1,5 +1,5 @@
 -- What the sections list is what stands for the circuit that they spell.
-use Rattle.std.proofs.Common.{append_assoc, ◌≡◌, ◌+◌, ◌*◌, cond, List, [], ◌∷◌, ◌++◌, ℕ, zero, suc, refl, sym, ap, ◌∙◌, arith}
+use Rattle.std.proofs.Common.{append_assoc, ◌≡◌, ◌≤◌, ◌+◌, ◌*◌, Option, cond, List, [], ◌∷◌, ◌++◌, ℕ, zero, suc, refl, sym, ap, ◌∙◌, arith}
 use Rattle.std.specs.Prelude.{nat_lt}
 use Rattle.std.proofs.lemmas.List.{append-nil}
 use Rattle.aig_defs.specs.declared.circuit.Gate.{Gate}
@@ -8,8 +8,8 @@ use Rattle.aig_defs.specs.declared.circuit.Latch.{Latch}
 use Rattle.aig_defs.specs.declared.form.Form.{Form}
 use Rattle.aig_defs.specs.declared.form.Form.TheVariants.{Ascii, Binary}
 use Rattle.aig_defs.specs.Begun.{counts_after, inputs_size, items_begun, section_size, sections_size}
-use Rattle.aig_defs.specs.Chains.{numbered, input_def, latch_def, gate_def, gate_record, latch_use, output_use}
-use Rattle.aig_defs.specs.Circuit.{Circuit}
+use Rattle.aig_defs.specs.Chains.{numbered, input_def, latch_def, gate_def, gate_record, latch_use, output_use, reset_record}
+use Rattle.aig_defs.specs.Circuit.{Circuit, columns}
 use Rattle.aig_defs.specs.Items.{Reading, Reads, Fails, Item, and_then, times}
 use Rattle.aig_defs.specs.Order.{input_row, latch_row, output_row, gate_row, sections}
 use Rattle.aig_defs.specs.Tail.{tail}
@@ -17,8 +17,9 @@ use Rattle.aig_text.specs.Listing.{Listing, no_records, appended, listing_of}
 use Rattle.aig_text.specs.Moment.{onto}
 use Rattle.aig_text.specs.Sections.{of_input, of_latch, of_output, of_gate, section_line, section_lines, lines_in, order, listed, listed_size, lines_size, weight}
 use Rattle.aig_text.specs.declared.section.Section.{Section}
-use Rattle.aig_text.specs.declared.section.Section.TheVariants.{Inputs, Latches, Outputs, Gates}
+use Rattle.aig_text.specs.declared.section.Section.TheVariants.{Inputs, Latches, Columns, Gates}
 use Rattle.aig_text.proofs.Fillings.{appended_none, onto_none, onto_onto}
+use Rattle.std.proofs.Math.Nat.{mul-le-mul_right, mul_assoc}
 
 and_then_is : {A B : Type 0} (r : Reading A) (f g : A → Item B)
     → ((a : A) (p : ℕ) (x : List ℕ) → f a p x ≡ g a p x)
@@ -111,35 +112,45 @@ module _ {A : Type 0} (form : Form) (section : Section) (h : Header) (item : ℕ
 
 -- what the lines of each section list
 abbrev pub all_inputs : ℕ → List ℕ → Listing
-all_inputs i vs = record { defs = numbered input_def i vs; gates = []; uses = [] }
+all_inputs i vs = record {
+  defs = numbered input_def i vs;
+  gates = [];
+  uses = [];
+  resets = [];
+}
 
 abbrev pub all_latches : ℕ → List Latch → Listing
 all_latches i vs = record {
   defs = numbered latch_def i vs;
   gates = [];
-  uses = numbered latch_use i
-      vs;
+  uses = numbered latch_use i vs;
+  resets = numbered reset_record i vs;
 }
 
 abbrev pub all_outputs : ℕ → List ℕ → Listing
-all_outputs i vs = record { defs = []; gates = []; uses = numbered output_use i vs }
+all_outputs i vs = record {
+  defs = [];
+  gates = [];
+  uses = numbered output_use i vs;
+  resets = [];
+}
 
 abbrev pub all_gates : ℕ → List Gate → Listing
 all_gates i vs = record {
   defs = numbered gate_def i vs;
   gates = numbered gate_record i vs;
-  uses =
-      [];
+  uses = [];
+  resets = [];
 }
 
 -- inputs without bytes are read where they stand
-free_counts : (h : Header) (m : ℕ → List ℕ → ℕ) (n i p : ℕ) (x : List ℕ)
-    → counts_after (times n i (input_row Binary h) p x) (λ _. m) ≡ m p x
-free_counts h m zero i p x = refl
-free_counts h m (suc n) i p x =
-    after_is (times n (i + 1) (input_row Binary h) p x) (λ vs. 2 * (i + 1) ∷ vs) m m
+free_counts : (u : Option ℕ) (h : Header) (m : ℕ → List ℕ → ℕ) (n i p : ℕ) (x : List ℕ)
+    → counts_after (times n i (input_row (Binary u) h) p x) (λ _. m) ≡ m p x
+free_counts u h m zero i p x = refl
+free_counts u h m (suc n) i p x =
+    after_is (times n (i + 1) (input_row (Binary u) h) p x) (λ vs. 2 * (i + 1) ∷ vs) m m
     (λ p x. refl)
-    ∙ free_counts h m n (i + 1) p x
+    ∙ free_counts u h m n (i + 1) p x
 
 -- The size of the inputs, with that of what comes after them.
 inputs_size_is : (form : Form) (h : Header) (given : ℕ) (m k : ℕ → List ℕ → ℕ)
@@ -147,17 +158,40 @@ inputs_size_is : (form : Form) (h : Header) (given : ℕ) (m k : ℕ → List �
     → lines_size form Inputs h h.inputs 0 given p x
     + counts_after (section_lines form Inputs h h.inputs 0 p x) (λ _. m)
     ≡ inputs_size form given h k p x
-inputs_size_is Ascii h given m k e p x =
-    size_is Ascii Inputs h (input_row Ascii h) of_input all_inputs (λ i p x. refl) (λ i. refl)
+inputs_size_is (Ascii u) h given m k e p x =
+    size_is (Ascii u) Inputs h (input_row (Ascii u) h) of_input all_inputs (λ i p x. refl) (λ i. refl)
     (λ i v vs. refl) given h.inputs m k e p x
-inputs_size_is Binary h given m k e p x =
-    ap (λ r. lines_size Binary Inputs h h.inputs 0 given p x + counts_after r (λ _. m))
-    (lines_are Binary Inputs h (input_row Binary h) of_input all_inputs (λ i p x. refl) (λ i. refl)
+inputs_size_is (Binary u) h given m k e p x =
+    ap (λ r. lines_size (Binary u) Inputs h h.inputs 0 given p x + counts_after r (λ _. m))
+    (lines_are (Binary u) Inputs h (input_row (Binary u) h) of_input all_inputs (λ i p x. refl) (λ i. refl)
     (λ i v vs. refl) h.inputs 0 p x)
-    ∙ ap (λ j. lines_size Binary Inputs h h.inputs 0 given p x + j)
-    (after_is (times h.inputs 0 (input_row Binary h) p x) (all_inputs 0) m k e
-    ∙ free_counts h k h.inputs 0 p x)
+    ∙ ap (λ j. lines_size (Binary u) Inputs h h.inputs 0 given p x + j)
+    (after_is (times h.inputs 0 (input_row (Binary u) h) p x) (all_inputs 0) m k e
+    ∙ free_counts u h k h.inputs 0 p x)
     ∙ omega arith
+
+-- Sizes of a section if a line weighs at most twice as much, and so does what comes after it.
+after_twice : {A : Type 0} (r : Reading A) (m k : ℕ → List ℕ → ℕ)
+    → ((p : ℕ) (x : List ℕ) → m p x ≤ 2 * k p x)
+    → counts_after r (λ _. m) ≤ 2 * counts_after r (λ _. k)
+after_twice (Reads a p x) m k h = h p x
+after_twice (Fails kind place) m k h = omega arith
+
+section_twice : {A : Type 0} (given w v n : ℕ) (item : ℕ → Item A) (m k : ℕ → List ℕ → ℕ)
+    → w ≤ 2 * v → ((p : ℕ) (x : List ℕ) → m p x ≤ 2 * k p x) → (p : ℕ) (x : List ℕ)
+    → section_size given w n item m p x ≤ 2 * section_size given v n item k p x
+section_twice given w v n item m k few h p x =
+    let begun = items_begun given n 0 item p x in
+    let more : w * begun ≤ 2 * v * begun = mul-le-mul_right {m = w} {n = 2 * v} begun few in
+    let same : 2 * v * begun ≡ 2 * (v * begun) = mul_assoc 2 v begun in
+    omega (arith, more, same, after_twice (times n 0 item p x) m k h)
+
+inputs_twice : (form : Form) (given : ℕ) (h : Header) (m k : ℕ → List ℕ → ℕ)
+    → ((p : ℕ) (x : List ℕ) → m p x ≤ 2 * k p x) → (p : ℕ) (x : List ℕ)
+    → inputs_size form given h m p x ≤ 2 * inputs_size form given h k p x
+inputs_twice (Ascii u) given h m k e p x =
+    section_twice given 1 1 h.inputs (input_row (Ascii u) h) m k (omega arith) e p x
+inputs_twice (Binary u) given h m k e p x = omega (arith, e p x)
 
 module _ (form : Form) (h : Header) where
   tail_listed : (acc : Listing) (c : Circuit) → acc ≡ listing_of c → (r : Reading (Unit {0}))
@@ -172,11 +206,11 @@ module _ (form : Form) (h : Header) where
   listed_is p x = onto_none (listed form order h p x)
       ∙ section_listed form Inputs h (input_row form h) of_input all_inputs (λ i p x. refl) (λ i. refl)
       (λ i v vs. refl)
-      (Latches ∷ Outputs ∷ Gates ∷ []) no_records _ (λ inputs.
+      (Latches ∷ Columns ∷ Gates ∷ []) no_records _ (λ inputs.
       section_listed form Latches h (latch_row form h) of_latch all_latches (λ i p x. refl) (λ i. refl)
       (λ i v vs. refl)
-      (Outputs ∷ Gates ∷ []) (all_inputs 0 inputs) _ (λ latches.
-      section_listed form Outputs h (output_row h) of_output all_outputs (λ i p x. refl) (λ i. refl)
+      (Columns ∷ Gates ∷ []) (all_inputs 0 inputs) _ (λ latches.
+      section_listed form Columns h (output_row h) of_output all_outputs (λ i p x. refl) (λ i. refl)
       (λ i v vs. refl)
       (Gates ∷ []) (appended (all_inputs 0 inputs) (all_latches 0 latches)) _ (λ outputs.
       section_listed form Gates h (gate_row form h) of_gate all_gates (λ i p x. refl) (λ i. refl)
@@ -187,8 +221,7 @@ module _ (form : Form) (h : Header) where
         header = h;
         inputs = inputs;
         latches = latches;
-        outputs =
-            outputs;
+        columns = outputs;
         gates = gates;
       })
       (rw (
@@ -196,17 +229,36 @@ module _ (form : Form) (h : Header) where
         append_assoc (numbered input_def 0 inputs) (numbered latch_def 0 latches)
             (numbered gate_def 0 gates),
         append-nil (numbered latch_use 0 latches ++ numbered output_use 0 outputs),
+        append-nil (numbered reset_record 0 latches ++ []),
+        append-nil (numbered reset_record 0 latches),
       ) refl) (tail h q y))))) p x
 
-  -- and count for its size.
-  pub listed_size_is : (given p : ℕ) (x : List ℕ) → listed_size form order h given p x
-      ≡ sections_size form given h p x
-  listed_size_is given =
+  -- the size of what was written: three records of a latch
+  abbrev gates_written : ℕ → ℕ → List ℕ → ℕ
+  gates_written given = section_size given 2 h.gates (gate_row form h) (λ p x. 0)
+
+  abbrev columns_written : ℕ → ℕ → List ℕ → ℕ
+  columns_written given = section_size given 1 (columns h) (output_row h) (gates_written given)
+
+  abbrev latches_written : ℕ → ℕ → List ℕ → ℕ
+  latches_written given = section_size given 3 h.latches (latch_row form h) (columns_written given)
+
+  written_is : (given p : ℕ) (x : List ℕ) → listed_size form order h given p x
+      ≡ inputs_size form given h (latches_written given) p x
+  written_is given =
       inputs_size_is form h given _ _
       (size_is form Latches h (latch_row form h) of_latch all_latches (λ i p x. refl) (λ i. refl)
       (λ i v vs. refl) given h.latches _ _
-      (size_is form Outputs h (output_row h) of_output all_outputs (λ i p x. refl) (λ i. refl)
-      (λ i v vs. refl) given h.outputs _ _
+      (size_is form Columns h (output_row h) of_output all_outputs (λ i p x. refl) (λ i. refl)
+      (λ i v vs. refl) given (columns h) _ _
       (size_is form Gates h (gate_row form h) of_gate all_gates (λ i p x. refl) (λ i. refl)
       (λ i v vs. refl) given h.gates _ _
       (λ p x. refl))))
+
+  -- and are at most twice as many records as its size says.
+  pub listed_most : (given p : ℕ) (x : List ℕ) → listed_size form order h given p x
+      ≤ 2 * sections_size form given h p x
+  listed_most given p x =
+      let latches = section_twice given 3 2 h.latches (latch_row form h) (columns_written given)
+      (columns_written given) (omega arith) (λ p x. omega arith) in
+      omega (arith, written_is given p x, inputs_twice form given h _ _ latches p x)

@@ -1,20 +1,35 @@
 -- A circuit's parts: as they were read, and over a call that leaves their blocks alone.
-use Rattle.std.proofs.Common.{◌≡◌, ℕ, List, ◌++◌, IsTrue, sym, ap, subst, ◌∙◌}
+use Rattle.std.proofs.Common.{◌≡◌, ℕ, List, ◌++◌, IsTrue, sym, refl, ap, subst, ◌∙◌}
+use Rattle.em_record.specs.Shape.{ShapeNumbers, payload_of}
 use Rattle.em_space.specs.Held.{Apart, Holds}
 use Rattle.em_space.specs.Rig.{RigState, Touches}
 use Rattle.em_space.proofs.Held.{holds_kept}
 use Rattle.em_space.proofs.Lists.{apart_left, apart_right}
 use Rattle.em_chain.specs.Chain.{ChainStays, chain_blocks}
+use Rattle.em_chain.specs.Counts.{ceiling}
 use Rattle.em_chain.specs.declared.chain.Chain.{Chain}
 use Rattle.em_chain.proofs.Laws.{chain_stays}
 use Rattle.aig_defs.specs.Circuit.{Circuit}
 use Rattle.aig_text.specs.Ascii.{ArePartsOf, GivesParts, IsPackedOf, OfSomeCircuit}
-use Rattle.aig_text.specs.Draft.{chains_blocks}
-use Rattle.aig_text.specs.Parts.{IsChainOf, IsParts, PartsStay, parts_blocks}
+use Rattle.aig_text.specs.Draft.{four_blocks}
+use Rattle.aig_text.specs.Parts.{IsChainOf, IsCompactOf, IsParts, PartsStay, parts_blocks}
 use Rattle.aig_text.specs.declared.parts.Parts.{Parts}
 
 chain_of : {s : RigState} {n : ℕ} {c : Chain} → IsPackedOf s n c → IsChainOf s n c
 chain_of h = record { is = h.is; count_is = h.count_is }
+
+compact_of : {s : RigState} {n : ℕ} {c : Chain} → IsPackedOf s n c → IsCompactOf s n c
+compact_of h = record { is = h.is; count_is = h.count_is; blocks_is = h.blocks_is }
+
+-- A chain with no spare block over a call that leaves its blocks alone.
+pub compact_stays : {s t : RigState} {n : ℕ} {c : Chain} → IsCompactOf s n c
+    → t.pool.shape ≡ s.pool.shape → ChainStays s t c → IsCompactOf t n c
+compact_stays {n = n} i shape w = record {
+  is = w.is;
+  count_is = i.count_is;
+  blocks_is = i.blocks_is
+      ∙ ap (λ (x : ShapeNumbers). ceiling n (payload_of x)) (sym shape);
+}
 
 -- The parts that were read are those that a call may take.
 pub parts_of : {old new : RigState} {p : Parts} → GivesParts old new p → IsParts new p
@@ -23,34 +38,42 @@ parts_of h = record {
   defs = chain_of h.defs;
   gates = chain_of h.gates;
   uses = chain_of h.uses;
+  resets = compact_of h.resets;
   blocks = λ told. h.blocks.holds (sym h.blocks.touches.told ∙ told);
   stands = h.stands;
 }
 
--- three chains over a call that leaves their blocks alone
-record ThreeStay (s t : RigState) (f g k : Chain) : Type 0 where
+-- four chains over a call that leaves their blocks alone
+record FourStay (s t : RigState) (f g k r : Chain) : Type 0 where
   first : ChainStays s t f
   second : ChainStays s t g
   third : ChainStays s t k
+  fourth : ChainStays s t r
 
-three_stay : (held : List ℕ) (s t : RigState) (p : Parts) → Touches held s t
+four_stay : (held : List ℕ) (s t : RigState) (p : Parts) → Touches held s t
     → (IsTrue s.device.told → Apart (parts_blocks s p) held) → IsParts s p
-    → ThreeStay s t p.defs p.gates p.uses
-three_stay held s t p h a i =
+    → FourStay s t p.defs p.gates p.uses p.resets
+four_stay held s t p h a i =
     let ds = chain_blocks s p.defs in
     let gs = chain_blocks s p.gates in
     let us = chain_blocks s p.uses in
-    let first = λ (told : IsTrue s.device.told). apart_left ds (gs ++ us) held (a told) in
-    let rest = λ (told : IsTrue s.device.told). apart_right ds (gs ++ us) held (a told) in
+    let rs = chain_blocks s p.resets in
+    let lists = λ (told : IsTrue s.device.told).
+    apart_right rs (ds ++ (gs ++ us)) held (a told) in
+    let fourth = λ (told : IsTrue s.device.told).
+    apart_left rs (ds ++ (gs ++ us)) held (a told) in
+    let first = λ (told : IsTrue s.device.told). apart_left ds (gs ++ us) held (lists told) in
+    let rest = λ (told : IsTrue s.device.told). apart_right ds (gs ++ us) held (lists told) in
     let second = λ (told : IsTrue s.device.told). apart_left gs us held (rest told) in
     let third = λ (told : IsTrue s.device.told). apart_right gs us held (rest told) in
     record {
       first = chain_stays held s t p.defs h first i.defs.is;
       second = chain_stays held s t p.gates h second i.gates.is;
       third = chain_stays held s t p.uses h third i.uses.is;
+      fourth = chain_stays held s t p.resets h fourth i.resets.is;
     }
 
-still_are : {s t : RigState} {p : Parts} → ThreeStay s t p.defs p.gates p.uses
+still_are : {s t : RigState} {p : Parts} → FourStay s t p.defs p.gates p.uses p.resets
     → IsTrue s.device.told → (c : Circuit) → ArePartsOf s p c → ArePartsOf t p c
 still_are w told c k = record {
   header = k.header;
@@ -58,24 +81,23 @@ still_are w told c k = record {
   defs = w.first.items told ∙ k.defs;
   gates = w.second.items told ∙ k.gates;
   uses = w.third.items told ∙ k.uses;
+  resets = w.fourth.items told ∙ k.resets;
 }
 
-of_some : {s t : RigState} {p : Parts} → ThreeStay s t p.defs p.gates p.uses
+of_some : {s t : RigState} {p : Parts} → FourStay s t p.defs p.gates p.uses p.resets
     → IsTrue s.device.told → OfSomeCircuit s p → OfSomeCircuit t p
 of_some w told o = record { circuit = o.circuit; are = still_are w told o.circuit o.are }
 
-three_blocks : {s t : RigState} {f g k : Chain} → ThreeStay s t f g k → IsTrue s.device.told
-    → chains_blocks t f g k ≡ chains_blocks s f g k
-three_blocks {s} {t} {f} {g} {k} w told =
-    ap (λ ks. ks ++ (chain_blocks t g ++ chain_blocks t k)) (w.first.blocks told)
-    ∙ ap (λ ks. chain_blocks s f ++ (ks ++ chain_blocks t k)) (w.second.blocks told)
-    ∙ ap (λ ks. chain_blocks s f ++ (chain_blocks s g ++ ks)) (w.third.blocks told)
+four_stayed : {s t : RigState} {f g k r : Chain} → FourStay s t f g k r → IsTrue s.device.told
+    → four_blocks t f g k r ≡ four_blocks s f g k r
+four_stayed {s} {t} {f} {g} {k} {r} w told =
+    rw (w.first.blocks told, w.second.blocks told, w.third.blocks told, w.fourth.blocks told) refl
 
 -- A circuit's parts over a call that leaves their blocks alone.
 pub parts_stay : (held : List ℕ) (s t : RigState) (p : Parts) → Touches held s t
     → (IsTrue s.device.told → Apart (parts_blocks s p) held) → IsParts s p → PartsStay s t p
 parts_stay held s t p h a i =
-    let w = three_stay held s t p h a i in
+    let w = four_stay held s t p h a i in
     let back = λ (told : IsTrue t.device.told). sym h.told ∙ told in
     record {
       is = record {
@@ -83,11 +105,12 @@ parts_stay held s t p h a i =
         defs = record { is = w.first.is; count_is = i.defs.count_is };
         gates = record { is = w.second.is; count_is = i.gates.count_is };
         uses = record { is = w.third.is; count_is = i.uses.count_is };
-        blocks = λ told. held_still t (three_blocks w (back told))
+        resets = compact_stays i.resets h.shape w.fourth;
+        blocks = λ told. held_still t (four_stayed w (back told))
             (holds_kept held s t (parts_blocks s p) h a (i.blocks (back told)));
         stands = λ told. of_some w (back told) (i.stands (back told));
       };
-      blocks = three_blocks w;
+      blocks = four_stayed w;
       are = still_are w;
     }
   where

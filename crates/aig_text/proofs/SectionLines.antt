@@ -15,7 +15,7 @@ use Rattle.aig_text.specs.Moment.{Moment, CanFill, Fills, FillsSome, ReadsInto, 
 use Rattle.aig_text.specs.Sections.{of_input, of_latch, of_output, of_gate, section_line, section_lines, has_bytes, line_begun, line_size, lines_begun, lines_size, share, weight, HasLines}
 use Rattle.aig_text.specs.Source.{left}
 use Rattle.aig_text.specs.declared.section.Section.{Section}
-use Rattle.aig_text.specs.declared.section.Section.TheVariants.{Inputs, Latches, Outputs, Gates}
+use Rattle.aig_text.specs.declared.section.Section.TheVariants.{Inputs, Latches, Columns, Gates}
 use Rattle.aig_text.specs.declared.stop.AigStop.{AigStop}
 use Rattle.aig_text.proofs.Drafts.{drafted_is}
 use Rattle.aig_text.proofs.Fillings.{Splits, can_fill, fills_none, fills_next, fills_stops, fills_all}
@@ -25,55 +25,61 @@ use Rattle.aig_text.proofs.Steadies.{advances_then}
 -- Each line has a byte or more,
 pub line_takes : (form : Form) (section : Section) (h : Header) (i : ℕ)
     → has_bytes form section ≡ true → TakesBytes (section_line form section h i)
-line_takes Ascii Inputs h i b =
-    bytes_then (ascii_input_takes h i) (λ v. value_takes (of_input i v))
-line_takes Binary Inputs h i b = cc
+line_takes (Ascii u) Inputs h i b =
+    bytes_then (ascii_input_takes u h i) (λ v. value_takes (of_input i v))
+line_takes (Binary u) Inputs h i b = cc
 line_takes form Latches h i b =
     bytes_then (latch_row_takes form h i) (λ v. value_takes (of_latch i v))
-line_takes form Outputs h i b = bytes_then (output_row_takes h i) (λ v. value_takes (of_output i v))
+line_takes form Columns h i b = bytes_then (output_row_takes h i) (λ v. value_takes (of_output i v))
 line_takes form Gates h i b = bytes_then (gate_row_takes form h i) (λ v. value_takes (of_gate i v))
 
 -- or none.
 line_still : (form : Form) (section : Section) (h : Header) (i : ℕ) → has_bytes form section ≡ false
     → (p : ℕ) (x : List ℕ) (a : Listing) (q : ℕ) (y : List ℕ)
     → section_line form section h i p x ≡ Reads a q y → p ≡ q
-line_still Ascii Inputs h i b p x a q y e = cc
-line_still Binary Inputs h i b p x a q y e = cc
+line_still (Ascii u) Inputs h i b p x a q y e = cc
+line_still (Binary u) Inputs h i b p x a q y e = cc
 line_still form Latches h i b p x a q y e = cc
-line_still form Outputs h i b p x a q y e = cc
+line_still form Columns h i b p x a q y e = cc
 line_still form Gates h i b p x a q y e = cc
 
 no_line_counts : (section : Section) → HasCounts no_records ((share section).defs * 0)
-    ((share section).gates * 0) ((share section).uses * 0)
-no_line_counts Inputs = record { defs = refl; gates = refl; uses = refl }
-no_line_counts Latches = record { defs = refl; gates = refl; uses = refl }
-no_line_counts Outputs = record { defs = refl; gates = refl; uses = refl }
-no_line_counts Gates = record { defs = refl; gates = refl; uses = refl }
+    ((share section).gates * 0) ((share section).uses * 0) ((share section).resets * 0)
+no_line_counts Inputs = record { defs = refl; gates = refl; uses = refl; resets = refl }
+no_line_counts Latches = record { defs = refl; gates = refl; uses = refl; resets = refl }
+no_line_counts Columns = record { defs = refl; gates = refl; uses = refl; resets = refl }
+no_line_counts Gates = record { defs = refl; gates = refl; uses = refl; resets = refl }
 
 -- no line gives no record,
 pub no_lines : (section : Section) (h : Header) → HasLines section h 0 0 no_records
 no_lines section h = record { counts = no_line_counts section; rows = no_rows section h 0 }
 
-pub counts_appended : {a b : Listing} {d g u d2 g2 u2 d3 g3 u3 : ℕ} → HasCounts a d g u
-    → HasCounts b d2 g2 u2 → d + d2 ≡ d3 → g + g2 ≡ g3 → u + u2 ≡ u3
-    → HasCounts (appended a b) d3 g3 u3
-counts_appended {a} {b} h k x y z = record {
+pub counts_appended : {a b : Listing} {d g u r d2 g2 u2 r2 d3 g3 u3 r3 : ℕ}
+    → HasCounts a d g u r → HasCounts b d2 g2 u2 r2 → d + d2 ≡ d3 → g + g2 ≡ g3 → u + u2 ≡ u3
+    → r + r2 ≡ r3 → HasCounts (appended a b) d3 g3 u3 r3
+counts_appended {a} {b} h k x y z w = record {
   defs = omega (arith, length-append a.defs b.defs, h.defs, k.defs);
   gates = omega (arith, length-append a.gates b.gates, h.gates, k.gates);
   uses = omega (arith, length-append a.uses b.uses, h.uses, k.uses);
+  resets = omega (arith, length-append a.resets b.resets, h.resets, k.resets);
 }
 
 -- and one line more gives its records.
 abbrev LineCounts : Section → ℕ → Listing → Type 0
 LineCounts section n a =
     HasCounts a ((share section).defs * n) ((share section).gates * n) ((share section).uses * n)
+    ((share section).resets * n)
 
 counts_more : (section : Section) (i : ℕ) (a b : Listing) → LineCounts section i a
     → LineCounts section 1 b → LineCounts section (i + 1) (appended a b)
 counts_more Inputs i a b h k = counts_appended h k (omega arith) (omega arith) (omega arith)
+    (omega arith)
 counts_more Latches i a b h k = counts_appended h k (omega arith) (omega arith) (omega arith)
-counts_more Outputs i a b h k = counts_appended h k (omega arith) (omega arith) (omega arith)
+    (omega arith)
+counts_more Columns i a b h k = counts_appended h k (omega arith) (omega arith) (omega arith)
+    (omega arith)
 counts_more Gates i a b h k = counts_appended h k (omega arith) (omega arith) (omega arith)
+    (omega arith)
 
 pub lines_more : (section : Section) (h : Header) (i : ℕ) (a b : Listing)
     → HasLines section h 0 i a → HasLines section h i 1 b
@@ -86,16 +92,16 @@ lines_more section h i a b x y = record {
 -- n lines give the records that they count for
 lines_weigh : (section : Section) (n : ℕ) (a : Listing) → LineCounts section n a
     → record_count a ≡ weight section * n
-lines_weigh Inputs n a h = omega (arith, h.defs, h.gates, h.uses)
-lines_weigh Latches n a h = omega (arith, h.defs, h.gates, h.uses)
-lines_weigh Outputs n a h = omega (arith, h.defs, h.gates, h.uses)
-lines_weigh Gates n a h = omega (arith, h.defs, h.gates, h.uses)
+lines_weigh Inputs n a h = omega (arith, h.defs, h.gates, h.uses, h.resets)
+lines_weigh Latches n a h = omega (arith, h.defs, h.gates, h.uses, h.resets)
+lines_weigh Columns n a h = omega (arith, h.defs, h.gates, h.uses, h.resets)
+lines_weigh Gates n a h = omega (arith, h.defs, h.gates, h.uses, h.resets)
 
--- and that are two at most for a line
-weight_most : (section : Section) (i : ℕ) → weight section * i ≤ 2 * i
+-- and that are three at most for a line
+weight_most : (section : Section) (i : ℕ) → weight section * i ≤ 3 * i
 weight_most Inputs i = omega arith
 weight_most Latches i = omega arith
-weight_most Outputs i = omega arith
+weight_most Columns i = omega arith
 weight_most Gates i = omega arith
 
 -- a line counts no more than it and those after it
@@ -217,7 +223,7 @@ module _ {tells : Bool} {old mid : Moment} (form : Form) (section : Section) (h 
     (section_lines form section h (n - i) i)
     (lines_size form section h (n - i) i) (HasLines section h 0 i) old mid) where
   -- The next one can be read,
-  pub lines_can : i < n → CanFill (2 * n) old → CanFill 2 mid
+  pub lines_can : i < n → CanFill (3 * n) old → CanFill 3 mid
   lines_can low can = can_fill can s.advances s.adds
       (omega (arith, lines_weigh section i s.lists s.like.counts, weight_most section i))
 

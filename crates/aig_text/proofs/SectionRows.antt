@@ -1,5 +1,5 @@
 -- The lines of sections by what they spell, and the circuit that they are of.
-use Rattle.std.proofs.Common.{◌≡◌, ◌+◌, ◌*◌, ◌%◌, ◌≤◌, Bool, true, false, cond, ltb, eqb, ◌||◌, List, [], ◌∷◌, ◌++◌, ℕ, sym, ap, ap₂, ◌∙◌, refl, arith, length, Some, None}
+use Rattle.std.proofs.Common.{◌≡◌, ◌+◌, ◌*◌, ◌%◌, ◌≤◌, Bool, true, false, cond, ltb, eqb, ◌||◌, List, [], ◌∷◌, ◌++◌, ℕ, sym, ap, ap₂, ◌∙◌, refl, arith, length, Some, None, subst}
 use Rattle.std.proofs.lemmas.Bool.{ltb-false, eqb-false, or_parts}
 use Rattle.std.proofs.lemmas.List.{append-nil, length-append}
 use Rattle.std.proofs.lemmas.List.Elements.{All-nil, All-cons, All-append}
@@ -8,13 +8,17 @@ use Rattle.aig_defs.specs.declared.circuit.Header.{Header}
 use Rattle.aig_defs.specs.declared.circuit.Latch.{Latch}
 use Rattle.aig_defs.specs.declared.fault.AigKind.TheVariants.{LiteralRange, OddDefinition}
 use Rattle.aig_defs.specs.declared.form.Limit.TheVariants.{Defining, Used}
-use Rattle.aig_defs.specs.Chains.{numbered, gate_def, gate_record, output_use}
+use Rattle.aig_defs.specs.Chains.{numbered, gate_def, gate_record, output_use, reset_record, bit}
 use Rattle.aig_defs.specs.Circuit.{Circuit, IsCircuit, IsDefining, IsGate, IsHeader, IsLatch, IsUsed}
 use Rattle.aig_defs.specs.Items.{number_fault}
+use mir.Val.{bool_byte}
+use Rattle.em_space.specs.Rig.{RigState}
+use Rattle.aig_text.specs.Draft.{Drafted}
+use Rattle.aig_text.specs.declared.draft.Draft.{Draft}
 use Rattle.aig_text.specs.Listing.{HasCounts, Listing, no_records, appended, listing_of}
 use Rattle.aig_text.specs.Sections.{HasAllRows, HasLines, HasRows, IsRow, Row, lines_in, of_row, of_rows, order, share}
 use Rattle.aig_text.specs.declared.section.Section.{Section}
-use Rattle.aig_text.specs.declared.section.Section.TheVariants.{Inputs, Latches, Outputs, Gates}
+use Rattle.aig_text.specs.declared.section.Section.TheVariants.{Inputs, Latches, Columns, Gates}
 use Rattle.aig_text.proofs.Fillings.{appended_assoc, appended_none}
 use Rattle.aig_text.proofs.Listings.{all_inputs, all_latches, all_outputs, all_gates}
 
@@ -58,6 +62,18 @@ gate_within h gate l r0 r1 = record {
   rhs1 = used_within h gate.rhs1 r1;
 }
 
+-- the record of a reset, whose bit was written as a number
+pub bit_number : (b : Bool) → bool_byte b ≡ bit b
+bit_number true = refl
+bit_number false = refl
+
+pub reset_drafted : {s t : RigState} {d e : Draft} (i : ℕ) (latch : Latch) (n : ℕ)
+    → n ≡ bit latch.reset
+    → Drafted s t d e [] [] [] (record { a = i; b = 0; c = n; d = 0 } ∷ [])
+    → Drafted s t d e [] [] [] (reset_record i latch ∷ [])
+reset_drafted {s} {t} {d} {e} i latch n is h = subst
+    (λ m. Drafted s t d e [] [] [] (record { a = i; b = 0; c = m; d = 0 } ∷ [])) is h
+
 pub ruleset ranges = (latch_within)
 
 -- No line was read,
@@ -72,11 +88,11 @@ no_rows section h i = record {
 -- one line was read,
 one_counts : (section : Section) (i : ℕ) (row : Row section)
     → HasCounts (of_row section i row) ((share section).defs * 1) ((share section).gates * 1)
-    ((share section).uses * 1)
-one_counts Inputs i row = record { defs = refl; gates = refl; uses = refl }
-one_counts Latches i row = record { defs = refl; gates = refl; uses = refl }
-one_counts Outputs i row = record { defs = refl; gates = refl; uses = refl }
-one_counts Gates i row = record { defs = refl; gates = refl; uses = refl }
+    ((share section).uses * 1) ((share section).resets * 1)
+one_counts Inputs i row = record { defs = refl; gates = refl; uses = refl; resets = refl }
+one_counts Latches i row = record { defs = refl; gates = refl; uses = refl; resets = refl }
+one_counts Columns i row = record { defs = refl; gates = refl; uses = refl; resets = refl }
+one_counts Gates i row = record { defs = refl; gates = refl; uses = refl; resets = refl }
 
 pub one_row : (section : Section) (h : Header) (i : ℕ) (row : Row section) → IsRow section h row
     → HasLines section h i 1 (of_row section i row)
@@ -145,9 +161,9 @@ latches_are : (i : ℕ) (vs : List Latch) → of_rows Latches i vs ≡ all_latch
 latches_are i [] = refl
 latches_are i (v ∷ vs) = ap (appended (of_row Latches i v)) (latches_are (i + 1) vs)
 
-outputs_are : (i : ℕ) (vs : List ℕ) → of_rows Outputs i vs ≡ all_outputs i vs
+outputs_are : (i : ℕ) (vs : List ℕ) → of_rows Columns i vs ≡ all_outputs i vs
 outputs_are i [] = refl
-outputs_are i (v ∷ vs) = ap (appended (of_row Outputs i v)) (outputs_are (i + 1) vs)
+outputs_are i (v ∷ vs) = ap (appended (of_row Columns i v)) (outputs_are (i + 1) vs)
 
 gates_are : (i : ℕ) (vs : List Gate) → of_rows Gates i vs ≡ all_gates i vs
 gates_are i [] = refl
@@ -155,12 +171,13 @@ gates_are i (v ∷ vs) = ap (appended (of_row Gates i v)) (gates_are (i + 1) vs)
 
 all_are : (c : Circuit)
     → appended (all_inputs 0 c.inputs) (appended (all_latches 0 c.latches)
-    (appended (all_outputs 0 c.outputs) (appended (all_gates 0 c.gates) no_records)))
+    (appended (all_outputs 0 c.columns) (appended (all_gates 0 c.gates) no_records)))
     ≡ listing_of c
 all_are c = rw (
   append-nil (numbered gate_def 0 c.gates),
   append-nil (numbered gate_record 0 c.gates),
-  append-nil (numbered output_use 0 c.outputs),
+  append-nil (numbered output_use 0 c.columns),
+  append-nil (numbered reset_record 0 c.latches),
 ) refl
 
 -- The circuit of all lines.
@@ -180,7 +197,7 @@ listed_rows h a is x =
       header = h;
       inputs = i.rows;
       latches = l.rows;
-      outputs = o.rows;
+      columns = o.rows;
       gates = g.rows;
     } in
     let gates = x.rest_is.rest_is.rest_is.lists
@@ -196,12 +213,12 @@ listed_rows h a is x =
         lengths = record {
           inputs = i.count_is;
           latches = l.count_is;
-          outputs = o.count_is;
+          columns = o.count_is;
           gates = g.count_is;
         };
         inputs = i.in_range;
         latches = l.in_range;
-        outputs = o.in_range;
+        columns = o.in_range;
         gates = g.in_range;
       };
       lists = sym (inputs ∙ all_are c);

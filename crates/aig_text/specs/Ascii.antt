@@ -9,11 +9,11 @@ use Rattle.em_chain.specs.Counts.{ceiling}
 use Rattle.em_chain.specs.declared.chain.Chain.{Chain}
 use Rattle.aig_defs.specs.declared.form.Form.{Form}
 use Rattle.aig_defs.specs.Begun.{circuit_size, size_read}
-use Rattle.aig_defs.specs.Chains.{defs_of, gates_of, uses_of}
-use Rattle.aig_defs.specs.Circuit.{Circuit, IsCircuit, IsHeader}
+use Rattle.aig_defs.specs.Chains.{defs_of, gates_of, uses_of, resets_of}
+use Rattle.aig_defs.specs.Circuit.{Circuit, IsCircuit, IsHeader, columns}
 use Rattle.aig_defs.specs.Items.{Reads}
 use Rattle.aig_defs.specs.Order.{after_magic}
-use Rattle.aig_text.specs.Draft.{chains_blocks}
+use Rattle.aig_text.specs.Draft.{four_blocks}
 use Rattle.aig_text.specs.Reads.{StopsAs}
 use Rattle.aig_text.specs.Source.{Source, left}
 use Rattle.aig_text.specs.declared.parts.Parts.{Parts}
@@ -44,29 +44,32 @@ pub record ArePartsOf (s : RigState) (p : Parts) (c : Circuit) : Type 0 where
   pub defs : chain_items s p.defs ≡ defs_of c
   pub gates : chain_items s p.gates ≡ gates_of c
   pub uses : chain_items s p.uses ≡ uses_of c
+  pub resets : chain_items s p.resets ≡ resets_of c
 
 -- They are those of some circuit.
 pub record OfSomeCircuit (s : RigState) (p : Parts) : Type 0 where
   pub circuit : Circuit
   pub are : ArePartsOf s p circuit
 
--- Three packed chains, as long as the header says, whose blocks weren't in use and are apart. If
+-- Four packed chains, as long as the header says, whose blocks weren't in use and are apart. If
 -- the device tells, they are those of a circuit, even if the shelf doesn't tell.
 pub record GivesParts (old new : RigState) (p : Parts) : Type 0 where
   pub header : IsHeader p.header
   pub defs : IsPackedOf new (p.header.inputs + p.header.latches + p.header.gates) p.defs
   pub gates : IsPackedOf new p.header.gates p.gates
-  pub uses : IsPackedOf new (p.header.latches + p.header.outputs) p.uses
-  pub blocks : Session [] old new (chains_blocks new p.defs p.gates p.uses)
-  pub used : new.used ≡ old.used + (p.defs.blocks + p.gates.blocks + p.uses.blocks)
+  pub uses : IsPackedOf new (p.header.latches + columns p.header) p.uses
+  pub resets : IsPackedOf new p.header.latches p.resets
+  pub blocks : Session [] old new (four_blocks new p.defs p.gates p.uses p.resets)
+  pub used : new.used
+      ≡ old.used + (p.defs.blocks + p.gates.blocks + p.uses.blocks + p.resets.blocks)
   pub stands : IsTrue new.device.told → OfSomeCircuit new p
 
 -- the size of what was read after the magic, if `given` bytes of the text were given
 abbrev pub size_given : Form → Source → ℕ → ℕ
 size_given form text given = size_read form given text.feed.place (left text)
 
--- The text spells a circuit. The parts have its header, their chains its records, and these are as
--- many as its size says.
+-- The text spells a circuit. The parts have its header, their chains its records; those of definitions,
+-- gates and uses are as many as its size says.
 pub record StandsFor (form : Form) (old new : Source) (s : RigState) (p : Parts) : Type 0 where
   pub circuit : Circuit
   pub reads : after_magic form old.feed.place (left old)
@@ -75,6 +78,7 @@ pub record StandsFor (form : Form) (old new : Source) (s : RigState) (p : Parts)
   pub defs : IsTrue s.device.told → chain_items s p.defs ≡ defs_of circuit
   pub gates : IsTrue s.device.told → chain_items s p.gates ≡ gates_of circuit
   pub uses : IsTrue s.device.told → chain_items s p.uses ≡ uses_of circuit
+  pub resets : IsTrue s.device.told → chain_items s p.resets ≡ resets_of circuit
   pub counted : (given : ℕ) → new.feed.place ≤ given
       → size_given form old given ≡ p.defs.count + p.gates.count + p.uses.count
 
@@ -86,8 +90,8 @@ GivesCircuit form old new s (Err e) = StopsAs e (after_magic form old.feed.place
 -- What reading a circuit of this size takes at most.
 pub record TakesAtMost (size : ℕ) (old new : RigState) : Type 0 where
   pub moves : new.moves ≤ old.moves + 4 * (ceiling size (payload_in old) + 6)
-  pub used : new.used ≤ old.used + (ceiling size (payload_in old) + 2)
-  pub most : new.most ≤ max old.most (old.used + (ceiling size (payload_in old) + 2))
+  pub used : new.used ≤ old.used + (ceiling (2 * size) (payload_in old) + 3)
+  pub most : new.most ≤ max old.most (old.used + (ceiling (2 * size) (payload_in old) + 3))
 
 -- free blocks that are enough for a circuit of this size
 abbrev pub enough_for : RigState → ℕ → ℕ
@@ -106,8 +110,8 @@ CompletesReading form old new s t result = IsTrue s.device.told
     → (c : Circuit) (q : ℕ) → after_magic form old.feed.place (left old) ≡ Reads c q []
     → s.used + enough_for s (circuit_size c.header) ≤ s.blocks → IsOk result
 
--- The blocks in use rose by at most the moves made, after a stop by at most three more. Or the
+-- The blocks in use rose by at most the moves made, after a stop by at most four more. Or the
 -- count of moves stands at its end.
 abbrev pub OwesAfter : {A : Type 0} → RigState → RigState → Result A AigStop → Type 0
 OwesAfter old new (Ok value) = Owes 0 old new
-OwesAfter old new (Err e) = Owes 3 old new
+OwesAfter old new (Err e) = Owes 4 old new

@@ -1,4 +1,4 @@
--- The three lists of a circuit that is being read, and what calls on them do.
+-- The four lists of a circuit that is being read, and what calls on them do.
 use Rattle.std.specs.Prelude.{◌≡◌, ◌↔◌, ℕ, ◌+◌, ◌*◌, ◌<◌, ◌≤◌, max, List, [], ◌++◌, length, IsTrue, Result, Ok, Err}
 use Rattle.em_record.specs.declared.record.Record.{Record}
 use Rattle.em_frames.specs.Pool.{LentFrames, GivenFrames, HasFrames}
@@ -44,64 +44,70 @@ pub record IsPackedChain (s : RigState) (c : Chain) (xs : List Record) : Type 0 
   pub count_is : c.count ≡ length xs
   pub blocks_is : c.blocks ≡ ceiling (length xs) (payload_in s)
 
--- the blocks of the three lists, one after another
+-- the blocks of the lists, one after another
 abbrev pub draft_blocks : RigState → Draft → List ℕ
-draft_blocks s d = writer_blocks s d.defs ++ (writer_blocks s d.gates ++ writer_blocks s d.uses)
+draft_blocks s d = writer_blocks s d.resets
+    ++ (writer_blocks s d.defs ++ (writer_blocks s d.gates ++ writer_blocks s d.uses))
 
--- the accounts of the three writers together
+-- the accounts of the writers together
 abbrev pub draft_account : Draft → Account
-draft_account d = both (writer_account d.defs)
-    (both (writer_account d.gates) (writer_account d.uses))
+draft_account d = both (writer_account d.resets) (both (writer_account d.defs)
+    (both (writer_account d.gates) (writer_account d.uses)))
 
--- the records of the three lists
+-- the records of the lists
 abbrev pub draft_len : Draft → ℕ
-draft_len d = d.defs.count + d.gates.count + d.uses.count
+draft_len d = d.defs.count + d.gates.count + d.uses.count + d.resets.count
 
--- the most blocks that n records take in three packed lists
+-- the most blocks that n records take in four packed lists
 abbrev pub draft_room : RigState → ℕ → ℕ
-draft_room s n = ceiling n (payload_in s) + 2
+draft_room s n = ceiling n (payload_in s) + 3
 
--- The three frames are the pool's: what is left to ask after a fault.
+-- The four frames are the pool's: what is left to ask after a fault.
 pub record HasDraftFrames (s : RigState) (d : Draft) : Type 0 where
-  pub defs : HasFrames 3 (length d.defs.frame) s.pool
-  pub gates : HasFrames 3 (length d.gates.frame) s.pool
-  pub uses : HasFrames 3 (length d.uses.frame) s.pool
+  pub defs : HasFrames 4 (length d.defs.frame) s.pool
+  pub gates : HasFrames 4 (length d.gates.frame) s.pool
+  pub uses : HasFrames 4 (length d.uses.frame) s.pool
+  pub resets : HasFrames 4 (length d.resets.frame) s.pool
 
--- Three writers of packed lists, with three frames and with blocks apart from each other.
+-- Four writers of packed lists, with four frames and with blocks apart from each other.
 pub record IsDraft (s : RigState) (d : Draft) : Type 0 where
   pub defs : IsPackedWriter s d.defs
   pub gates : IsPackedWriter s d.gates
   pub uses : IsPackedWriter s d.uses
+  pub resets : IsPackedWriter s d.resets
   pub frames : HasDraftFrames s d
   pub holds : IsTrue s.device.told → Holds s (draft_blocks s d)
 
--- Three lists with no record and no block.
+-- Four lists with no record and no block.
 pub record BeginsDraft (s : RigState) (d : Draft) : Type 0 where
   pub is : IsDraft s d
   pub defs : Begins s d.defs
   pub gates : Begins s d.gates
   pub uses : Begins s d.uses
+  pub resets : Begins s d.resets
 
--- These records were written to the three lists, by calls one after another.
-pub record Drafted (s t : RigState) (d e : Draft) (xs ys zs : List Record) : Type 0 where
+-- These records were written to the four lists, by calls one after another.
+pub record Drafted (s t : RigState) (d e : Draft) (xs ys zs ws : List Record) : Type 0 where
   pub runs : Runs (draft_account e).blocks (draft_blocks s d) (draft_blocks t e)
       (draft_account d) (draft_account e) s t
   pub defs : Wrote s t d.defs e.defs xs
   pub gates : Wrote s t d.gates e.gates ys
   pub uses : Wrote s t d.uses e.uses zs
+  pub resets : Wrote s t d.resets e.resets ws
   pub grows : (draft_account d).blocks ≤ (draft_account e).blocks
 
 -- Calls gave up that were to write at most n records. No more blocks came into use than all records
--- may take, with two moves at most for each block, and three of them at most aren't stored.
+-- may take, with two moves at most for each block, and four of them at most aren't stored.
 pub record StopsDraft (s t : RigState) (d : Draft) (n : ℕ) (fault : EmFault) : Type 0 where
-  pub stops : Stops (draft_room s (draft_len d + n)) (2 * draft_room s (draft_len d + n)) 3
+  pub stops : Stops (draft_room s (draft_len d + n)) (2 * draft_room s (draft_len d + n)) 4
       (draft_blocks s d) (draft_account d) s t fault
 
 -- what a call did that was to write these records, by its result
 abbrev pub DraftsTo : {T : Type 0} → RigState → RigState → Draft → Draft → List Record
-    → List Record → List Record → Result T EmFault → Type 0
-DraftsTo s t d e xs ys zs (Ok x) = Drafted s t d e xs ys zs
-DraftsTo s t d e xs ys zs (Err fault) = StopsDraft s t d (length xs + length ys + length zs) fault
+    → List Record → List Record → List Record → Result T EmFault → Type 0
+DraftsTo s t d e xs ys zs ws (Ok x) = Drafted s t d e xs ys zs ws
+DraftsTo s t d e xs ys zs ws (Err fault) =
+    StopsDraft s t d (length xs + length ys + length zs + length ws) fault
 
 -- It is refused as full exactly if the list needs a block and all are in use.
 abbrev pub FullExactly : {T : Type 0} → RigState → Writer → Result T EmFault → Type 0
@@ -111,41 +117,47 @@ FullExactly s w result = (result ≡ Err (Full s.used)) ↔ (NeedsBlock s w × (
 abbrev pub chains_blocks : RigState → Chain → Chain → Chain → List ℕ
 chains_blocks s f g h = chain_blocks s f ++ (chain_blocks s g ++ chain_blocks s h)
 
+-- the blocks of a circuit's four chains: those of the resets, and then those of the others
+abbrev pub four_blocks : RigState → Chain → Chain → Chain → Chain → List ℕ
+four_blocks s f g h k = chain_blocks s k ++ chains_blocks s f g h
+
 -- The list of a packed writer is a packed chain.
 pub record FinishesPacked (s t : RigState) (w : Writer) (c : Chain) : Type 0 where
   pub finishes : Finishes s t w c
   pub packed : IsTrue s.device.told → IsPacked t c
   pub blocks_are : c.blocks ≡ ceiling c.count (payload_in t)
 
--- The three lists are chains, in the blocks that the writers had, all of which are stored.
-pub record FinishesDraft (s t : RigState) (d : Draft) (f g h : Chain) : Type 0 where
+-- The lists are chains, in the blocks that the writers had, all of which are stored.
+pub record FinishesDraft (s t : RigState) (d : Draft) (f g h k : Chain) : Type 0 where
   pub defs : FinishesPacked s t d.defs f
   pub gates : FinishesPacked s t d.gates g
   pub uses : FinishesPacked s t d.uses h
-  pub session : Session (draft_blocks s d) s t (chains_blocks t f g h)
+  pub resets : FinishesPacked s t d.resets k
+  pub session : Session (draft_blocks s d) s t (four_blocks t f g h k)
   pub pays : Pays (draft_account d).unstored 0 s t
 
--- A draft was made, these records were written, and it was finished: three packed chains, in blocks
+-- A draft was made, these records were written, and it was finished: four packed chains, in blocks
 -- that weren't in use, all of which are stored.
-pub record WritesThree (s t : RigState) (f g h : Chain) (xs ys zs : List Record) : Type 0 where
+pub record WritesFour (s t : RigState) (f g h k : Chain) (xs ys zs ws : List Record) : Type 0 where
   pub goes : Goes [] s t
-  pub session : Session [] s t (chains_blocks t f g h)
+  pub session : Session [] s t (four_blocks t f g h k)
   pub defs : IsPackedChain t f xs
   pub gates : IsPackedChain t g ys
   pub uses : IsPackedChain t h zs
-  pub used : t.used ≡ s.used + (f.blocks + g.blocks + h.blocks)
+  pub resets : IsPackedChain t k ws
+  pub used : t.used ≡ s.used + (f.blocks + g.blocks + h.blocks + k.blocks)
   pub most : t.most ≡ max s.most t.used
-  pub moves : t.moves ≤ s.moves + 2 * (f.blocks + g.blocks + h.blocks) + 3
+  pub moves : t.moves ≤ s.moves + 2 * (f.blocks + g.blocks + h.blocks + k.blocks) + 4
   pub owes : Owes 0 s t
 
 -- A draft was made, at most n records were to be written, and its frames are back. Its blocks may
--- still be in use, and three of them at most aren't stored.
+-- still be in use, and four of them at most aren't stored.
 pub record LeavesDraft (s t : RigState) (n : ℕ) : Type 0 where
   pub goes : Goes [] s t
   pub used : t.used ≤ s.used + draft_room s n
   pub most : t.most ≤ max s.most (s.used + draft_room s n)
-  pub moves : t.moves ≤ s.moves + 2 * draft_room s n + 3
-  pub owes : Owes 3 s t
+  pub moves : t.moves ≤ s.moves + 2 * draft_room s n + 4
+  pub owes : Owes 4 s t
 
 -- The same after a fault. Full comes only if fewer blocks were free at first than n records may
 -- take.

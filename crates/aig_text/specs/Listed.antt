@@ -6,7 +6,7 @@ use Rattle.em_chain.specs.declared.chain.Chain.{Chain}
 use Rattle.aig_defs.specs.declared.circuit.Header.{Header}
 use Rattle.aig_defs.specs.declared.form.Form.{Form}
 use Rattle.aig_defs.specs.Items.{Reads}
-use Rattle.aig_text.specs.Draft.{GivesUpDraft, LeavesDraft, WritesThree}
+use Rattle.aig_text.specs.Draft.{GivesUpDraft, LeavesDraft, WritesFour}
 use Rattle.aig_text.specs.Listing.{Listing, record_count}
 use Rattle.aig_text.specs.Reads.{Advances, StopsAs}
 use Rattle.aig_text.specs.Sections.{HasSections, listed, listed_size, order}
@@ -14,13 +14,13 @@ use Rattle.aig_text.specs.Source.{Source, left}
 use Rattle.aig_text.specs.declared.stop.AigStop.{AigStop}
 use Rattle.aig_text.specs.declared.stop.AigStop.TheVariants as stop
 
--- The sections were read, and three chains have their records.
+-- The sections were read, and four chains have their records.
 pub record WritesListing (tells : Bool) (form : Form) (h : Header) (old new : Source)
     (s t : RigState)
-    (f g k : Chain) : Type 0 where
+    (f g k r : Chain) : Type 0 where
   pub lists : Listing
   pub like : HasSections order h lists
-  pub writes : WritesThree s t f g k lists.defs lists.gates lists.uses
+  pub writes : WritesFour s t f g k r lists.defs lists.gates lists.uses lists.resets
   pub reads : IsTrue tells
       → listed form order h old.feed.place (left old) ≡ Reads lists new.feed.place (left new)
   pub counted : IsTrue tells → (given : ℕ) → new.feed.place ≤ given
@@ -43,13 +43,14 @@ pub record StopsListing (tells : Bool) (form : Form) (h : Header) (old new : Sou
       → written ≤ listed_size form order h given old.feed.place (left old)
 
 abbrev pub ListingBy : Bool → Form → Header → Source → Source → RigState → RigState
-    → Result (Chain × Chain × Chain) AigStop → Type 0
-ListingBy tells form h old new s t (Ok c) = WritesListing tells form h old new s t c.0 c.1 c.2
+    → Result (Chain × Chain × Chain × Chain) AigStop → Type 0
+ListingBy tells form h old new s t (Ok c) =
+    WritesListing tells form h old new s t c.0 c.1 c.2 c.3
 ListingBy tells form h old new s t (Err e) = StopsListing tells form h old new s t e
 
 -- What the reader of all sections promises.
 pub record ReadsListing (tells : Bool) (form : Form) (h : Header) (old new : Source)
     (s t : RigState)
-    (result : Result (Chain × Chain × Chain) AigStop) : Type 0 where
+    (result : Result (Chain × Chain × Chain × Chain) AigStop) : Type 0 where
   pub advances : Advances tells old new
   pub by : ListingBy tells form h old new s t result

@@ -1,4 +1,4 @@
--- A circuit that is being read into three lists.
+-- A circuit that is being read into four lists.
 use Rattle.std.specs.Prelude.{◌≡◌, ◌≤◌, ◌<◌, ◌+◌, ◌^◌, Bool, ℕ, List, Result, Ok, Err, IsTrue}
 use Rattle.em_io.specs.Feed.{Fed}
 use Rattle.em_io.specs.declared.shelf.Shelf.{Ghosts}
@@ -36,11 +36,12 @@ pub record CanFill (n : ℕ) (m : Moment) : Type 0 where
   pub sound : Sound m.rig
   pub draft : IsDraft m.rig m.draft
   pub free : 0 < m.rig.pool.free
-  pub room : draft_len m.draft + n ≤ 2 ^ 43
+  pub room : draft_len m.draft + n ≤ 2 ^ 44
 
 -- These records were written, and nothing but them.
 pub record AddsListing (old new : Moment) (lists : Listing) : Type 0 where
   pub drafted : Drafted old.rig new.rig old.draft new.draft lists.defs lists.gates lists.uses
+      lists.resets
 
 -- Some records were written, and at most n.
 pub record AddsSome (n : ℕ) (old new : Moment) : Type 0 where

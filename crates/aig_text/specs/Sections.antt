@@ -5,37 +5,48 @@ use Rattle.aig_defs.specs.declared.circuit.Header.{Header}
 use Rattle.aig_defs.specs.declared.circuit.Latch.{Latch}
 use Rattle.aig_defs.specs.declared.form.Form.{Form}
 use Rattle.aig_defs.specs.Begun.{counts_after, items_begun}
-use Rattle.aig_defs.specs.Chains.{input_def, latch_def, gate_def, gate_record, latch_use, output_use}
-use Rattle.aig_defs.specs.Circuit.{IsDefining, IsGate, IsLatch, IsUsed}
+use Rattle.aig_defs.specs.Chains.{input_def, latch_def, gate_def, gate_record, latch_use, output_use, reset_record}
+use Rattle.aig_defs.specs.Circuit.{IsDefining, IsGate, IsLatch, IsUsed, columns}
 use Rattle.aig_defs.specs.Items.{Reads, Item, ◌>>=◌, ◌>>◌}
 use Rattle.aig_defs.specs.Order.{is_ascii, input_row, latch_row, output_row, gate_row}
 use Rattle.aig_defs.specs.Tail.{tail}
 use Rattle.aig_text.specs.declared.section.Section.{Section}
-use Rattle.aig_text.specs.declared.section.Section.TheVariants.{Inputs, Latches, Outputs, Gates}
+use Rattle.aig_text.specs.declared.section.Section.TheVariants.{Inputs, Latches, Columns, Gates}
 use Rattle.aig_text.specs.Listing.{Listing, no_records, appended, HasCounts}
 
--- what is written of an input, a latch, an output, a gate
+-- what is written of an input, a latch, a column, a gate
 abbrev pub of_input : ℕ → ℕ → Listing
-of_input i literal = record { defs = input_def i literal ∷ []; gates = []; uses = [] }
+of_input i literal = record { defs = input_def i literal ∷ []; gates = []; uses = []; resets = [] }
 
 abbrev pub of_latch : ℕ → Latch → Listing
 of_latch i latch = record {
   defs = latch_def i latch ∷ [];
   gates = [];
   uses = latch_use i latch ∷ [];
+  resets = reset_record i latch ∷ [];
 }
 
 abbrev pub of_output : ℕ → ℕ → Listing
-of_output i literal = record { defs = []; gates = []; uses = output_use i literal ∷ [] }
+of_output i literal = record {
+  defs = [];
+  gates = [];
+  uses = output_use i literal ∷ [];
+  resets = [];
+}
 
 abbrev pub of_gate : ℕ → Gate → Listing
-of_gate i gate = record { defs = gate_def i gate ∷ []; gates = gate_record i gate ∷ []; uses = [] }
+of_gate i gate = record {
+  defs = gate_def i gate ∷ [];
+  gates = gate_record i gate ∷ [];
+  uses = [];
+  resets = [];
+}
 
 -- line i of a section; in the binary form an input takes no byte
 abbrev pub section_line : Form → Section → Header → ℕ → Item Listing
 section_line form Inputs h i = input_row form h i >>= λ literal. Reads (of_input i literal)
 section_line form Latches h i = latch_row form h i >>= λ latch. Reads (of_latch i latch)
-section_line form Outputs h i = output_row h i >>= λ literal. Reads (of_output i literal)
+section_line form Columns h i = output_row h i >>= λ literal. Reads (of_output i literal)
 section_line form Gates h i = gate_row form h i >>= λ gate. Reads (of_gate i gate)
 
 -- n lines of a section, the first with number i
@@ -50,7 +61,7 @@ section_lines form section h (suc n) i = do
 abbrev pub lines_in : Section → Header → ℕ
 lines_in Inputs h = h.inputs
 lines_in Latches h = h.latches
-lines_in Outputs h = h.outputs
+lines_in Columns h = columns h
 lines_in Gates h = h.gates
 
 -- how many records of each list are written of a line
@@ -58,22 +69,24 @@ pub record Share : Type 0 where
   pub defs : ℕ
   pub gates : ℕ
   pub uses : ℕ
+  pub resets : ℕ
 
 abbrev pub share : Section → Share
-share Inputs = record { defs = 1; gates = 0; uses = 0 }
-share Latches = record { defs = 1; gates = 0; uses = 1 }
-share Outputs = record { defs = 0; gates = 0; uses = 1 }
-share Gates = record { defs = 1; gates = 1; uses = 0 }
+share Inputs = record { defs = 1; gates = 0; uses = 0; resets = 0 }
+share Latches = record { defs = 1; gates = 0; uses = 1; resets = 1 }
+share Columns = record { defs = 0; gates = 0; uses = 1; resets = 0 }
+share Gates = record { defs = 1; gates = 1; uses = 0; resets = 0 }
 
 -- and how many in all
 abbrev pub weight : Section → ℕ
-weight section = (share section).defs + (share section).gates + (share section).uses
+weight section =
+    (share section).defs + (share section).gates + (share section).uses + (share section).resets
 
 -- whether the lines of a section have bytes
 abbrev pub has_bytes : Form → Section → Bool
 has_bytes form Inputs = is_ascii form
 has_bytes form Latches = true
-has_bytes form Outputs = true
+has_bytes form Columns = true
 has_bytes form Gates = true
 
 -- whether a line at this place was begun: its first byte was given, or all bytes before it
@@ -90,21 +103,21 @@ line_size form section given p x =
 abbrev pub Row : Section → Type 0
 Row Inputs = ℕ
 Row Latches = Latch
-Row Outputs = ℕ
+Row Columns = ℕ
 Row Gates = Gate
 
 -- its literals are in their ranges
 abbrev pub IsRow : (section : Section) → Header → Row section → Type 0
 IsRow Inputs h literal = IsDefining h literal
 IsRow Latches h latch = IsLatch h latch
-IsRow Outputs h literal = IsUsed h literal
+IsRow Columns h literal = IsUsed h literal
 IsRow Gates h gate = IsGate h gate
 
 -- what is written of line i,
 abbrev pub of_row : (section : Section) → ℕ → Row section → Listing
 of_row Inputs i literal = of_input i literal
 of_row Latches i latch = of_latch i latch
-of_row Outputs i literal = of_output i literal
+of_row Columns i literal = of_output i literal
 of_row Gates i gate = of_gate i gate
 
 -- and of some lines, the first with number i
@@ -123,6 +136,7 @@ pub record HasRows (section : Section) (h : Header) (i n : ℕ) (a : Listing) : 
 pub record HasLines (section : Section) (h : Header) (i n : ℕ) (a : Listing) : Type 0 where
   pub counts :
       HasCounts a ((share section).defs * n) ((share section).gates * n) ((share section).uses * n)
+      ((share section).resets * n)
   pub rows : HasRows section h i n a
 
 -- The first lists are like this, and those after them like that.
@@ -145,11 +159,12 @@ pub record HasSections (sections : List Section) (h : Header) (a : Listing) : Ty
       (sum_by (λ section. (share section).defs * lines_in section h) sections)
       (sum_by (λ section. (share section).gates * lines_in section h) sections)
       (sum_by (λ section. (share section).uses * lines_in section h) sections)
+      (sum_by (λ section. (share section).resets * lines_in section h) sections)
   pub rows : HasAllRows sections h a
 
 -- the sections as they stand in the text
 abbrev pub order : List Section
-order = Inputs ∷ Latches ∷ Outputs ∷ Gates ∷ []
+order = Inputs ∷ Latches ∷ Columns ∷ Gates ∷ []
 
 -- these sections, and the tail after them
 abbrev pub listed : Form → List Section → Header → Item Listing

@@ -21,19 +21,19 @@ use em_frames::Device;
 use em_io::{Feed, Shelf};
 use em_space::Rig;
 
-/// Reads all sections into three chains: definitions, gates and uses of literals.
+/// Reads all sections into four chains: definitions, gates, uses of literals, and resets.
 fn read_lists<R: Rows, D: Device, H: Shelf>(
     rows: &R,
     header: &Header,
     rig: &mut Rig<'_, D>,
     feed: &mut Feed,
     shelf: &mut H,
-) -> Result<(Chain, Chain, Chain), AigStop>
+) -> Result<(Chain, Chain, Chain, Chain), AigStop>
     requires header { IsHeader header.now }
     requires text { CanRead (source H.Shelf feed.old shelf.old) }
     requires sound { Sound (seen D.state rig.old) }
-    requires free { 3 < (seen D.state rig.old).pool.free }
-    ensures { ReadsListing H.tells R.form header.now (source H.Shelf feed.old shelf.old)
+    requires free { 4 < (seen D.state rig.old).pool.free }
+    ensures { ReadsListing H.tells (R.form rows.now) header.now (source H.Shelf feed.old shelf.old)
         (source H.Shelf feed.new shelf.new) (seen D.state rig.old) (seen D.state rig.new) result }
 {
     let mut draft = Draft::new(rig);
@@ -60,7 +60,7 @@ pub fn read_circuit<R: Rows, D: Device, H: Shelf>(
     requires free { 5 < (seen D.state rig.old).pool.free }
     ensures goes { Goes [] (seen D.state rig.old) (seen D.state rig.new) }
     ensures parts { IfOk result (GivesParts (seen D.state rig.old) (seen D.state rig.new)) }
-    ensures gives { IsTrue H.tells → GivesCircuit R.form (source H.Shelf feed.old shelf.old)
+    ensures gives { IsTrue H.tells → GivesCircuit (R.form rows.now) (source H.Shelf feed.old shelf.old)
         (source H.Shelf feed.new shelf.new) (seen D.state rig.new) result }
     ensures end { IsTrue H.tells → OnOk result (left (source H.Shelf feed.new shelf.new) ≡ []) }
     ensures feed { Advances H.tells (source H.Shelf feed.old shelf.old)
@@ -68,21 +68,22 @@ pub fn read_circuit<R: Rows, D: Device, H: Shelf>(
     ensures read { OnShelfFault result (Rose (H.faults shelf.old) (H.faults shelf.new)) }
     ensures cause { IfEm result (Cause (seen D.state rig.old) (seen D.state rig.new)) }
     ensures takes { IsTrue H.tells → (given : ℕ) → feed.new.place ≤ given
-        → TakesAtMost (size_given R.form (source H.Shelf feed.old shelf.old) given)
+        → TakesAtMost (size_given (R.form rows.now) (source H.Shelf feed.old shelf.old) given)
         (seen D.state rig.old) (seen D.state rig.new) }
     ensures full { IsTrue H.tells → (given : ℕ) → feed.new.place ≤ given
-        → FullOnlyIf (size_given R.form (source H.Shelf feed.old shelf.old) given)
+        → FullOnlyIf (size_given (R.form rows.now) (source H.Shelf feed.old shelf.old) given)
         (seen D.state rig.old) result }
-    ensures complete { IsTrue H.tells → CompletesReading R.form (source H.Shelf feed.old shelf.old)
+    ensures complete { IsTrue H.tells → CompletesReading (R.form rows.now) (source H.Shelf feed.old shelf.old)
         (source H.Shelf feed.new shelf.new) (seen D.state rig.old) (seen D.state rig.new) result }
     ensures owes { OwesAfter (seen D.state rig.old) (seen D.state rig.new) result }
 {
     let header = header_line(feed, shelf, rows.which())?;
-    let (defs, gates, uses) = read_lists(rows, &header, rig, feed, shelf)?;
+    let (defs, gates, uses, resets) = read_lists(rows, &header, rig, feed, shelf)?;
     Ok(Parts {
         header,
         defs,
         gates,
         uses,
+        resets,
     })
 }

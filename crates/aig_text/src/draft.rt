@@ -1,12 +1,13 @@
-//! The three lists of a circuit that is being read, side by side on one rig. A header `h` leads to
+//! The four lists of a circuit that is being read, side by side on one rig. A header `h` leads to
 //! the next block, and the last block of each list stands in a frame:
 //!
 //!     defs     [h d d d] -> [h d d d] -> (h d - -)    what inputs, latches and gates define
 //!     gates    [h g g g] -> (h g g -)
-//!     uses     (h u - -)                              what latches and outputs use
+//!     uses     (h u - -)                              what latches and columns use
+//!     resets   (h r - -)                              how latches start
 //!
 //! Kept here: each list is packed from its begin, so that n records take ceil(n/P) blocks; no
-//! block is of two lists; and three frames of the pool are out, at a fault too. Left to the
+//! block is of two lists; and four frames of the pool are out, at a fault too. Left to the
 //! writers: how a list lies in its blocks.
 
 ghost use Rattle.std.specs.Prelude.{◌≡◌, ◌<◌, [], ◌∷◌, ◌+◌, min, IfOk, IfErr};
@@ -20,23 +21,24 @@ use em_frames::Device;
 use em_record::Record;
 use em_space::{EmFault, Rig};
 
-/// The three lists of a circuit that is being read, each at its end. It holds their blocks and
-/// three frames, and can't be dropped: `finish` makes chains of the lists, and `abandon` gives the
+/// The four lists of a circuit that is being read, each at its end. It holds their blocks and
+/// four frames, and can't be dropped: `finish` makes chains of the lists, and `abandon` gives the
 /// frames back.
 pub(crate) struct Draft {
     defs: Writer,
     gates: Writer,
     uses: Writer,
+    resets: Writer,
 }
 
 impl Draft {
     ghost use Rattle.aig_text.specs.Draft.{BeginsDraft, DraftsTo, FinishesDraft, FullExactly, GivesFrames, HasDraftFrames, IsDraft, LendsFrames, draft_account, draft_blocks};
 
-    /// Three lists with no record. They take no block yet.
+    /// Four lists with no record. They take no block yet.
     pub(crate) fn new<D: Device>(rig: &mut Rig<'_, D>) -> Draft
         requires sound { Sound (seen D.state rig.old) }
-        requires free { 3 < (seen D.state rig.old).pool.free }
-        ensures lends { LendsFrames 3 (seen D.state rig.old) (seen D.state rig.new) }
+        requires free { 4 < (seen D.state rig.old).pool.free }
+        ensures lends { LendsFrames 4 (seen D.state rig.old) (seen D.state rig.new) }
         ensures unmoved { Unmoved (seen D.state rig.old) (seen D.state rig.new) }
         ensures begins { BeginsDraft (seen D.state rig.new) result }
     {
@@ -44,6 +46,7 @@ impl Draft {
             defs: Writer::new(rig),
             gates: Writer::new(rig),
             uses: Writer::new(rig),
+            resets: Writer::new(rig),
         }
     }
 
@@ -60,7 +63,7 @@ impl Draft {
         requires room { CanGrow self.old.defs }
         ensures frames { HasDraftFrames (seen D.state rig.new) self.new }
         ensures drafts { DraftsTo (seen D.state rig.old) (seen D.state rig.new)
-            self.old self.new (item ∷ []) [] [] result }
+            self.old self.new (item ∷ []) [] [] [] result }
         ensures full { FullExactly (seen D.state rig.old) self.old.defs result }
         ensures complete { (seen D.state rig.old).used < (seen D.state rig.old).blocks
             → Completes (seen D.state rig.old) (seen D.state rig.new) result }
@@ -80,7 +83,7 @@ impl Draft {
         requires room { CanGrow self.old.gates }
         ensures frames { HasDraftFrames (seen D.state rig.new) self.new }
         ensures drafts { DraftsTo (seen D.state rig.old) (seen D.state rig.new)
-            self.old self.new [] (item ∷ []) [] result }
+            self.old self.new [] (item ∷ []) [] [] result }
         ensures full { FullExactly (seen D.state rig.old) self.old.gates result }
         ensures complete { (seen D.state rig.old).used < (seen D.state rig.old).blocks
             → Completes (seen D.state rig.old) (seen D.state rig.new) result }
@@ -100,7 +103,7 @@ impl Draft {
         requires room { CanGrow self.old.uses }
         ensures frames { HasDraftFrames (seen D.state rig.new) self.new }
         ensures drafts { DraftsTo (seen D.state rig.old) (seen D.state rig.new)
-            self.old self.new [] [] (item ∷ []) result }
+            self.old self.new [] [] (item ∷ []) [] result }
         ensures full { FullExactly (seen D.state rig.old) self.old.uses result }
         ensures complete { (seen D.state rig.old).used < (seen D.state rig.old).blocks
             → Completes (seen D.state rig.old) (seen D.state rig.new) result }
@@ -108,40 +111,72 @@ impl Draft {
         self.uses.append(rig, item)
     }
 
-    /// The lists of definitions, of gates and of uses, as chains. Each list's last block is stored,
+    /// Adds one record to the list of resets, likewise.
+    pub(crate) fn add_reset<D: Device>(
+        &mut self,
+        rig: &mut Rig<'_, D>,
+        item: Record,
+    ) -> Result<(), EmFault>
+        requires sound { Sound (seen D.state rig.old) }
+        requires is { IsDraft (seen D.state rig.old) self.old }
+        requires free { 0 < (seen D.state rig.old).pool.free }
+        requires room { CanGrow self.old.resets }
+        ensures frames { HasDraftFrames (seen D.state rig.new) self.new }
+        ensures drafts { DraftsTo (seen D.state rig.old) (seen D.state rig.new)
+            self.old self.new [] [] [] (item ∷ []) result }
+        ensures full { FullExactly (seen D.state rig.old) self.old.resets result }
+        ensures complete { (seen D.state rig.old).used < (seen D.state rig.old).blocks
+            → Completes (seen D.state rig.old) (seen D.state rig.new) result }
+    {
+        self.resets.append(rig, item)
+    }
+
+    /// The lists of definitions, of gates, of uses and of resets, as chains. Each list's last block is stored,
     /// by one move; a list with no block moves nothing. It is never `Full`, and the frames are back
     /// at a fault too.
     pub(crate) fn finish<D: Device>(
         self,
         rig: &mut Rig<'_, D>,
-    ) -> Result<(Chain, Chain, Chain), EmFault>
+    ) -> Result<(Chain, Chain, Chain, Chain), EmFault>
         requires sound { Sound (seen D.state rig.old) }
         requires is { IsDraft (seen D.state rig.old) self }
         requires free { 0 < (seen D.state rig.old).pool.free }
-        ensures gives { GivesFrames 3 (draft_blocks (seen D.state rig.old) self)
+        ensures gives { GivesFrames 4 (draft_blocks (seen D.state rig.old) self)
             (seen D.state rig.old) (seen D.state rig.new) }
         ensures finishes { IfOk result (λ c.
-            FinishesDraft (seen D.state rig.old) (seen D.state rig.new) self c.0 c.1 c.2) }
+            FinishesDraft (seen D.state rig.old) (seen D.state rig.new) self c.0 c.1 c.2 c.3) }
         ensures only { OnlyMoves (draft_account self).unstored
             (seen D.state rig.old) (seen D.state rig.new) }
         ensures complete { Completes (seen D.state rig.old) (seen D.state rig.new) result }
         ensures cause { IfErr result (DeviceCause (seen D.state rig.old) (seen D.state rig.new)) }
     {
-        let Draft { defs, gates, uses } = self;
+        let Draft {
+            defs,
+            gates,
+            uses,
+            resets,
+        } = self;
+        let resets = resets.finish(rig);
         let defs = defs.finish(rig);
         let gates = gates.finish(rig);
         let uses = uses.finish(rig);
-        Ok((defs?, gates?, uses?))
+        Ok((defs?, gates?, uses?, resets?))
     }
 
     /// Gives the frames back, also after a fault. The blocks stay in use, and nothing is moved.
     pub(crate) fn abandon<D: Device>(self, rig: &mut Rig<'_, D>)
         requires sound { Sound (seen D.state rig.old) }
         requires frames { HasDraftFrames (seen D.state rig.old) self }
-        ensures gives { GivesFrames 3 [] (seen D.state rig.old) (seen D.state rig.new) }
+        ensures gives { GivesFrames 4 [] (seen D.state rig.old) (seen D.state rig.new) }
         ensures unmoved { Unmoved (seen D.state rig.old) (seen D.state rig.new) }
     {
-        let Draft { defs, gates, uses } = self;
+        let Draft {
+            defs,
+            gates,
+            uses,
+            resets,
+        } = self;
+        resets.abandon(rig);
         defs.abandon(rig);
         gates.abandon(rig);
         uses.abandon(rig);

@@ -1,6 +1,6 @@
 // The items that lines are made of: a byte, a separator, a number.
 ghost use Rattle.std.specs.Prelude.{◌≡◌, ◌+◌, ◌^◌, ◌<◌, ◌≤◌, ◌∷◌, length, drop, IfOk, IfErr, OnOk, OnSome};
-ghost use Rattle.aig_defs.specs.Items.{look, space, line_end, last_end, number, number_fault};
+ghost use Rattle.aig_defs.specs.Items.{look, space, line_end, last_end, goes_on, number, number_fault};
 ghost use Rattle.aig_text.specs.Source.{CanRead, source};
 ghost use Rattle.aig_text.specs.Reads.{ReadsItem};
 ghost use Rattle.aig_text.specs.Limits.{IsLimit};
@@ -63,7 +63,8 @@ pub fn line_end<H: Shelf>(feed: &mut Feed, shelf: &mut H) -> Result<(), AigStop>
     }
 }
 
-/// The end of a line that AIGER 1.9 would let go on after a space.
+/// The end of a line to which no number may be added: of a header with nine numbers, and of a latch with a
+/// reset. A space there is Extension.
 #[tactic(auto, using(crate::proofs::Steadies::steadies))]
 pub fn last_end<H: Shelf>(feed: &mut Feed, shelf: &mut H) -> Result<(), AigStop>
     requires { CanRead (source H.Shelf feed.old shelf.old) }
@@ -77,6 +78,27 @@ pub fn last_end<H: Shelf>(feed: &mut Feed, shelf: &mut H) -> Result<(), AigStop>
             Ok(())
         }
         Some(b' ') => fault(AigKind::Extension, feed.place()),
+        Some(_) => fault(AigKind::BadSeparator, feed.place()),
+    }
+}
+
+/// Whether a line goes on: a space, or its end.
+#[tactic(auto, using(crate::proofs::Steadies::steadies))]
+pub fn goes_on<H: Shelf>(feed: &mut Feed, shelf: &mut H) -> Result<bool, AigStop>
+    requires { CanRead (source H.Shelf feed.old shelf.old) }
+    ensures { ReadsItem H.tells goes_on (source H.Shelf feed.old shelf.old)
+        (source H.Shelf feed.new shelf.new) result }
+{
+    match look(feed, shelf)? {
+        None => Ok(false),
+        Some(b'\n') => {
+            feed.take();
+            Ok(false)
+        }
+        Some(b' ') => {
+            feed.take();
+            Ok(true)
+        }
         Some(_) => fault(AigKind::BadSeparator, feed.place()),
     }
 }
@@ -109,6 +131,32 @@ fn within(limit: Limit, value: u128) -> Result<u64, AigKind>
         Limit::Position(count) => {
             if value >= count as u128 {
                 return Err(AigKind::BadSymbol);
+            }
+        }
+        Limit::NoJustice => {
+            if value > 1 << 40 {
+                return Err(AigKind::TooLarge);
+            }
+            if value != 0 {
+                return Err(AigKind::Justice);
+            }
+        }
+        Limit::NoFairness => {
+            if value > 1 << 40 {
+                return Err(AigKind::TooLarge);
+            }
+            if value != 0 {
+                return Err(AigKind::Fairness);
+            }
+        }
+        Limit::Reset(own, given) => {
+            if value >= 2 {
+                if value != own as u128 {
+                    return Err(AigKind::BadReset);
+                }
+                if !given {
+                    return Err(AigKind::Uninit);
+                }
             }
         }
     }

@@ -1,4 +1,4 @@
-//! Reads circuits of the AIGER format: a text becomes three chains of records, or the text's first
+//! Reads circuits of the AIGER format: a text becomes four chains of records, or the text's first
 //! fault is found, unless the shelf or the rig gives up first. The rows of the ASCII form stand
 //! here. A crate of another form has its rows by the trait `Rows`, and reads by `read_circuit`.
 #![tactic(auto)]
@@ -18,7 +18,8 @@ mod tail;
 pub use aig_defs::{AigKind, Header};
 pub use ascii::read_ascii;
 pub use circuit::read_circuit;
-pub use item::{last_end, look, number};
+pub use item::{look, number};
+pub use line::latch_end;
 pub use magic::read_magic;
 pub use parts::Parts;
 pub use rows::Rows;

@@ -1,7 +1,7 @@
 use aig_defs::Header;
 use em_chain::Chain;
 
-/// A circuit as three chains of records: docs/FORMATS.md, "Records of circuits". The chains hold
+/// A circuit as four chains of records: docs/FORMATS.md, "Records of circuits". The chains hold
 /// their blocks, and no frame.
 #[derive(Drop)]
 pub struct Parts {
@@ -11,6 +11,8 @@ pub struct Parts {
     pub defs: Chain,
     /// A record for each gate, in the order of the text.
     pub gates: Chain,
-    /// A record for each literal that a latch has next, and then for each output.
+    /// A record for each literal that a latch has next, and then for each column.
     pub uses: Chain,
+    /// A record for each latch, with the bit with which it starts.
+    pub resets: Chain,
 }

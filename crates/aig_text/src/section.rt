@@ -1,10 +1,10 @@
-// The sections of a circuit's text, read line by line into the three lists.
+// The sections of a circuit's text, read line by line into the four lists.
 ghost use Rattle.std.specs.Prelude.{◌≡◌, ◌*◌, ◌<◌, ◌^◌};
 ghost use Rattle.em_space.specs.Seen.{seen};
-ghost use Rattle.aig_defs.specs.Circuit.{IsHeader};
+ghost use Rattle.aig_defs.specs.Circuit.{IsHeader, columns};
 ghost use Rattle.aig_text.specs.Moment.{CanFill, ReadsInto, moment};
 ghost use Rattle.aig_text.specs.Sections.{HasSections, HasLines, listed, listed_size, order, section_line, section_lines, line_size, lines_size, lines_in};
-ghost use Rattle.aig_text.specs.declared.section.Section.TheVariants.{Inputs, Latches, Outputs, Gates};
+ghost use Rattle.aig_text.specs.declared.section.Section.TheVariants.{Inputs, Latches, Columns, Gates};
 
 use crate::draft::Draft;
 use crate::line::literal_line;
@@ -34,7 +34,7 @@ const AS_OUTPUT: u64 = 1;
 pub(crate) enum Section {
     Inputs,
     Latches,
-    Outputs,
+    Columns,
     Gates,
 }
 
@@ -42,19 +42,20 @@ pub(crate) enum Section {
 const ORDER: [Section; 4] = [
     Section::Inputs,
     Section::Latches,
-    Section::Outputs,
+    Section::Columns,
     Section::Gates,
 ];
 
 impl Section {
     /// How many rows it has.
     fn lines(self, header: &Header) -> u64
+        requires { IsHeader header.now }
         ensures { result ≡ lines_in self header.now }
     {
         match self {
             Section::Inputs => header.inputs,
             Section::Latches => header.latches,
-            Section::Outputs => header.outputs,
+            Section::Columns => header.outputs + header.bads + header.constraints,
             Section::Gates => header.gates,
         }
     }
@@ -72,9 +73,9 @@ fn read_input<R: Rows, D: Device, H: Shelf>(
 ) -> Result<(), AigStop>
     requires header { IsHeader header.now }
     requires before { before < header.now.inputs }
-    requires fill { CanFill 2 (moment H.Shelf feed.old shelf.old (seen D.state rig.old) draft.old) }
-    ensures { ReadsInto H.tells (section_line R.form Inputs header.now before)
-        (line_size R.form Inputs)
+    requires fill { CanFill 3 (moment H.Shelf feed.old shelf.old (seen D.state rig.old) draft.old) }
+    ensures { ReadsInto H.tells (section_line (R.form rows.now) Inputs header.now before)
+        (line_size (R.form rows.now) Inputs)
         (HasLines Inputs header.now before 1)
         (moment H.Shelf feed.old shelf.old (seen D.state rig.old) draft.old)
         (moment H.Shelf feed.new shelf.new (seen D.state rig.new) draft.new) result }
@@ -104,9 +105,9 @@ fn read_latch<R: Rows, D: Device, H: Shelf>(
 ) -> Result<(), AigStop>
     requires header { IsHeader header.now }
     requires before { before < header.now.latches }
-    requires fill { CanFill 2 (moment H.Shelf feed.old shelf.old (seen D.state rig.old) draft.old) }
-    ensures { ReadsInto H.tells (section_line R.form Latches header.now before)
-        (line_size R.form Latches)
+    requires fill { CanFill 3 (moment H.Shelf feed.old shelf.old (seen D.state rig.old) draft.old) }
+    ensures { ReadsInto H.tells (section_line (R.form rows.now) Latches header.now before)
+        (line_size (R.form rows.now) Latches)
         (HasLines Latches header.now before 1)
         (moment H.Shelf feed.old shelf.old (seen D.state rig.old) draft.old)
         (moment H.Shelf feed.new shelf.new (seen D.state rig.new) draft.new) result }
@@ -130,11 +131,20 @@ fn read_latch<R: Rows, D: Device, H: Shelf>(
             d: 0,
         },
     )?;
+    draft.add_reset(
+        rig,
+        Record {
+            a: before,
+            b: 0,
+            c: latch.reset as u64,
+            d: 0,
+        },
+    )?;
     Ok(())
 }
 
-/// The row of an output, of which this many stand before it.
-fn read_output<R: Rows, D: Device, H: Shelf>(
+/// The row of a column, of which this many stand before it.
+fn read_column<R: Rows, D: Device, H: Shelf>(
     rows: &R,
     header: &Header,
     before: u64,
@@ -144,11 +154,11 @@ fn read_output<R: Rows, D: Device, H: Shelf>(
     draft: &mut Draft,
 ) -> Result<(), AigStop>
     requires header { IsHeader header.now }
-    requires before { before < header.now.outputs }
-    requires fill { CanFill 2 (moment H.Shelf feed.old shelf.old (seen D.state rig.old) draft.old) }
-    ensures { ReadsInto H.tells (section_line R.form Outputs header.now before)
-        (line_size R.form Outputs)
-        (HasLines Outputs header.now before 1)
+    requires before { before < columns header.now }
+    requires fill { CanFill 3 (moment H.Shelf feed.old shelf.old (seen D.state rig.old) draft.old) }
+    ensures { ReadsInto H.tells (section_line (R.form rows.now) Columns header.now before)
+        (line_size (R.form rows.now) Columns)
+        (HasLines Columns header.now before 1)
         (moment H.Shelf feed.old shelf.old (seen D.state rig.old) draft.old)
         (moment H.Shelf feed.new shelf.new (seen D.state rig.new) draft.new) result }
 {
@@ -177,9 +187,9 @@ fn read_gate<R: Rows, D: Device, H: Shelf>(
 ) -> Result<(), AigStop>
     requires header { IsHeader header.now }
     requires before { before < header.now.gates }
-    requires fill { CanFill 2 (moment H.Shelf feed.old shelf.old (seen D.state rig.old) draft.old) }
-    ensures { ReadsInto H.tells (section_line R.form Gates header.now before)
-        (line_size R.form Gates)
+    requires fill { CanFill 3 (moment H.Shelf feed.old shelf.old (seen D.state rig.old) draft.old) }
+    ensures { ReadsInto H.tells (section_line (R.form rows.now) Gates header.now before)
+        (line_size (R.form rows.now) Gates)
         (HasLines Gates header.now before 1)
         (moment H.Shelf feed.old shelf.old (seen D.state rig.old) draft.old)
         (moment H.Shelf feed.new shelf.new (seen D.state rig.new) draft.new) result }
@@ -220,9 +230,9 @@ fn read_row<R: Rows, D: Device, H: Shelf>(
 ) -> Result<(), AigStop>
     requires header { IsHeader header.now }
     requires before { before < lines_in section header.now }
-    requires fill { CanFill 2 (moment H.Shelf feed.old shelf.old (seen D.state rig.old) draft.old) }
-    ensures { ReadsInto H.tells (section_line R.form section header.now before)
-        (line_size R.form section)
+    requires fill { CanFill 3 (moment H.Shelf feed.old shelf.old (seen D.state rig.old) draft.old) }
+    ensures { ReadsInto H.tells (section_line (R.form rows.now) section header.now before)
+        (line_size (R.form rows.now) section)
         (HasLines section header.now before 1)
         (moment H.Shelf feed.old shelf.old (seen D.state rig.old) draft.old)
         (moment H.Shelf feed.new shelf.new (seen D.state rig.new) draft.new) result }
@@ -230,7 +240,7 @@ fn read_row<R: Rows, D: Device, H: Shelf>(
     match section {
         Section::Inputs => read_input(rows, header, before, rig, feed, shelf, draft),
         Section::Latches => read_latch(rows, header, before, rig, feed, shelf, draft),
-        Section::Outputs => read_output(rows, header, before, rig, feed, shelf, draft),
+        Section::Columns => read_column(rows, header, before, rig, feed, shelf, draft),
         Section::Gates => read_gate(rows, header, before, rig, feed, shelf, draft),
     }
 }
@@ -246,11 +256,11 @@ fn read_rows<R: Rows, D: Device, H: Shelf>(
     draft: &mut Draft,
 ) -> Result<(), AigStop>
     requires header { IsHeader header.now }
-    requires fill { CanFill (2 * lines_in section header.now)
+    requires fill { CanFill (3 * lines_in section header.now)
         (moment H.Shelf feed.old shelf.old (seen D.state rig.old) draft.old) }
     ensures { ReadsInto H.tells
-        (section_lines R.form section header.now (lines_in section header.now) 0)
-        (lines_size R.form section header.now (lines_in section header.now) 0)
+        (section_lines (R.form rows.now) section header.now (lines_in section header.now) 0)
+        (lines_size (R.form rows.now) section header.now (lines_in section header.now) 0)
         (HasLines section header.now 0 (lines_in section header.now))
         (moment H.Shelf feed.old shelf.old (seen D.state rig.old) draft.old)
         (moment H.Shelf feed.new shelf.new (seen D.state rig.new) draft.new) result }
@@ -274,10 +284,10 @@ pub(crate) fn read_sections<R: Rows, D: Device, H: Shelf>(
     draft: &mut Draft,
 ) -> Result<(), AigStop>
     requires header { IsHeader header.now }
-    requires fill { CanFill (2 ^ 43)
+    requires fill { CanFill (2 ^ 44)
         (moment H.Shelf feed.old shelf.old (seen D.state rig.old) draft.old) }
-    ensures { ReadsInto H.tells (listed R.form order header.now)
-        (listed_size R.form order header.now)
+    ensures { ReadsInto H.tells (listed (R.form rows.now) order header.now)
+        (listed_size (R.form rows.now) order header.now)
         (HasSections order header.now)
         (moment H.Shelf feed.old shelf.old (seen D.state rig.old) draft.old)
         (moment H.Shelf feed.new shelf.new (seen D.state rig.new) draft.new) result }

@@ -68,6 +68,7 @@ fn positions(header: &Header, byte: u8) -> Option<u64>
         b'i' => Some(header.inputs),
         b'l' => Some(header.latches),
         b'o' => Some(header.outputs),
+        b'b' => Some(header.bads),
         _ => None,
     }
 }

@@ -1,5 +1,5 @@
 -- A circuit's text in the first slot, and how much of it was read.
-use Rattle.std.proofs.Common.{◌≡◌, ℕ, ◌-◌, ◌≤◌, Bool, true, cond, List, [], ◌∷◌, ◌++◌, length, ap, subst, ◌∙◌, arith, IsTrue}
+use Rattle.std.proofs.Common.{◌≡◌, ℕ, ◌-◌, ◌≤◌, Bool, true, cond, List, [], ◌∷◌, ◌++◌, length, ap, subst, ◌∙◌, arith, IsTrue, Option}
 use Rattle.std.proofs.lemmas.List.{length-append}
 use Rattle.em_io.specs.Feed.{Fed, rest}
 use Rattle.em_io.specs.Shelf.{Leaves}
@@ -20,8 +20,8 @@ abbrev pub text_of : Source → List ℕ
 text_of a = (a.stand.slot First).left
 
 -- the size of what was read of that text
-abbrev pub read_of : Source → Source → ℕ
-read_of a d = circuit_read (d.stand.slot First) (text_of a)
+abbrev pub read_of : Option ℕ → Source → Source → ℕ
+read_of start a d = circuit_read start (d.stand.slot First) (text_of a)
 
 -- The open first slot was read, from its first byte on.
 pub record ReadsFrom (tells : Bool) (a d : Source) : Type 0 where

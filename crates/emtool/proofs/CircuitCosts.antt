@@ -9,7 +9,7 @@ use Rattle.em_chain.specs.Counts.{ceiling}
 use Rattle.em_chain.proofs.Sessions.{ceiling_rises}
 use Rattle.aig_defs.specs.declared.circuit.Header.{Header}
 use Rattle.aig_defs.specs.Begun.{circuit_size}
-use Rattle.aig_defs.specs.Circuit.{IsHeader}
+use Rattle.aig_defs.specs.Circuit.{IsHeader, columns}
 use Rattle.aig_text.specs.declared.parts.Parts.{Parts}
 use Rattle.aig_edges.specs.BuildGraph.{sort_calls, sort_moves, sort_run}
 use Rattle.aig_edges.specs.Graph.{edge_count}
@@ -32,7 +32,7 @@ ceiling_twice n p some =
 pub record ListsFit (p : ℕ) (h : Header) : Type 0 where
   pub defs : ceiling (h.inputs + h.latches + h.gates) p ≤ ceiling (circuit_size h) p
   pub gates : ceiling h.gates p ≤ ceiling (circuit_size h) p
-  pub uses : ceiling (h.latches + h.outputs) p ≤ ceiling (circuit_size h) p
+  pub uses : ceiling (h.latches + columns h) p ≤ ceiling (circuit_size h) p
   pub edges : ceiling (edge_count h) p ≤ ceiling (circuit_size h) p
   pub sources : ceiling (h.inputs + h.latches) p ≤ ceiling (circuit_size h) p
   pub inputs : ceiling h.inputs p ≤ ceiling (circuit_size h) p
@@ -43,7 +43,7 @@ pub lists_fit : (p : ℕ) (h : Header) → 0 < p → ListsFit p h
 lists_fit p h some = record {
   defs = ceiling_rises (h.inputs + h.latches + h.gates) (circuit_size h) p some (omega arith);
   gates = ceiling_rises h.gates (circuit_size h) p some (omega arith);
-  uses = ceiling_rises (h.latches + h.outputs) (circuit_size h) p some (omega arith);
+  uses = ceiling_rises (h.latches + columns h) (circuit_size h) p some (omega arith);
   edges = ceiling_rises (edge_count h) (circuit_size h) p some (omega arith);
   sources = ceiling_rises (h.inputs + h.latches) (circuit_size h) p some (omega arith);
   inputs = ceiling_rises h.inputs (circuit_size h) p some (omega arith);
@@ -65,7 +65,7 @@ pub record PartsFill (u : RigState) (p : Parts) : Type 0 where
   pub defs : p.defs.blocks
       ≡ ceiling (p.header.inputs + p.header.latches + p.header.gates) (payload_in u)
   pub gates : p.gates.blocks ≡ ceiling p.header.gates (payload_in u)
-  pub uses : p.uses.blocks ≡ ceiling (p.header.latches + p.header.outputs) (payload_in u)
+  pub uses : p.uses.blocks ≡ ceiling (p.header.latches + columns p.header) (payload_in u)
 
 -- The moves of making a graph, beside those of the queue.
 pub sort_lists : (s : RigState) (p : Parts) → 0 < payload_in s → PartsFill s p
@@ -116,7 +116,7 @@ sort_few h = omega arith
 
 -- which are few in any case,
 pub sort_low : (h : Header) → IsHeader h → sort_calls h < 2 ^ 50
-sort_low h i = omega (arith, i.inputs, i.latches, i.outputs, i.gates)
+sort_low h i = omega (arith, i.inputs, i.latches, i.outputs, i.bads, i.constraints, i.gates)
 
 -- between two moments at which it is empty,
 pub sort_run_few : (h : Header) → sort_run h ≤ 2 * circuit_size h

@@ -1,5 +1,5 @@
 -- How the reading of a circuit ends: with edges between ranks, or a stop.
-use Rattle.std.proofs.Common.{◌≡◌, ℕ, ◌+◌, ◌-◌, ◌≤◌, ◌^◌, ◌⊎◌, inl, inr, ⊎_elim, Bool, List, [], ◌++◌, ap, sym, ◌∙◌, arith, IsTrue, Result, Ok, Err, IsErrAnd}
+use Rattle.std.proofs.Common.{◌≡◌, ℕ, ◌+◌, ◌-◌, ◌≤◌, ◌^◌, ◌⊎◌, inl, inr, ⊎_elim, Bool, List, [], ◌++◌, ap, sym, ◌∙◌, arith, IsTrue, Result, Ok, Err, IsErrAnd, Option}
 use Rattle.em_record.specs.Shape.{ShapeNumbers, payload_of}
 use Rattle.em_io.specs.Feed.{Fed}
 use Rattle.em_io.specs.declared.shelf.Shelf.{Ghosts as ShelfGhosts}
@@ -29,16 +29,17 @@ use Rattle.emtool.specs.declared.stop.Stop.{Stop}
 use Rattle.emtool.proofs.Circuit.{ReadsFrom, reads_all, reads_first, text_of}
 use Rattle.emtool.proofs.CircuitMade.{HasGraph, StopsAt, used_up_stops}
 use Rattle.emtool.proofs.CircuitMoves.{KeepsCircuit}
+use Rattle.em_chain.specs.declared.chain.Chain.{Chain}
 
 -- A stop is handed on.
-pub stopped_by : {H : Type 0} (h : ShelfGhosts H) (feed last : Fed) (shelf after : H)
+pub stopped_by : {start : Option ℕ} {H : Type 0} (h : ShelfGhosts H) (feed last : Fed) (shelf after : H)
     (s t : RigState) (stop : Stop) (result : Result Ordered Stop) → IsErrAnd result (λ f. f ≡ stop)
     → ReadsFrom h.tells (source h feed shelf) (source h last after)
-    → StopsAt h.tells (source h feed shelf) (source h last after) s t stop
-    → KeepsCircuit h.tells (source h feed shelf) (source h last after) s t
-    → ReadsCircuit h s t shelf after result
-stopped_by h feed last shelf after s t stop result is r stops moves =
-    of_error (λ (k : Result Ordered Stop). ReadsCircuit h s t shelf after k) result stop is (record {
+    → StopsAt start h.tells (source h feed shelf) (source h last after) s t stop
+    → KeepsCircuit start h.tells (source h feed shelf) (source h last after) s t
+    → ReadsCircuit start h s t shelf after result
+stopped_by {start} h feed last shelf after s t stop result is r stops moves =
+    of_error (λ (k : Result Ordered Stop). ReadsCircuit start h s t shelf after k) result stop is (record {
       answers = record { cause = stops.cause; full = stops.full };
       moves = moves;
       reads = reads_first r;
@@ -46,15 +47,15 @@ stopped_by h feed last shelf after s t stop result is r stops moves =
     })
 
 -- no edges were made of the graph
-pub order_stops : {tells : Bool} {a d : Source} {s w x : RigState} {g : Graph} {held : List ℕ}
-    {ks : List ℕ} (c : QueueCounts) (e : AigStop) → IsUnused s → HasGraph tells a d s w g c ks
+pub order_stops : {start : Option ℕ} {tells : Bool} {a d : Source} {s w x : RigState} {g : Graph} {held : List ℕ}
+    {ks : List ℕ} (c : QueueCounts) (e : AigStop) → IsUnused s → HasGraph start tells a d s w g c ks
     → UsesUp held c w x → StopsOrdering w g (Err e)
     → IfEm {A = Ordered} (Err e) (Cause w x) → Pays c.unstored (w.pool.shape.frames + 2) w x
-    → StopsAt tells a d s x (circuit_stop e)
-order_stops {a = a} c (stop.Fault kind place) unused h up stops cause pays = record {
+    → StopsAt start tells a d s x (circuit_stop e)
+order_stops {start = start} {a = a} c (stop.Fault kind place) unused h up stops cause pays = record {
   cause = λ z told.
       let sp = h.spells z in
-      text_faulty (text_of a) sp.circuit sp.place [] kind place sp.reads
+      text_faulty start (text_of a) sp.circuit sp.place [] kind place sp.reads
       (stops.found (h.session.touches.told ∙ told) sp.circuit (sp.is told) (sp.defined told));
   full = tt;
 }
@@ -70,15 +71,15 @@ edges_paid {s} {w} unused pays =
     ⊎_elim (λ (x : 2 ^ 64 - 1 ≤ w.moves). inl x)
     (λ (x : w.used + s.moves + 0 ≤ s.used + w.moves + 0). inr (omega (arith, x, none))) pays.is
 
-module _ {H : Type 0} (h : ShelfGhosts H) (feed last : Fed) (shelf after : H)
+module _ {start : Option ℕ} {H : Type 0} (h : ShelfGhosts H) (feed last : Fed) (shelf after : H)
     {s w : RigState} {g : Graph} {ks : List ℕ} (x : RigState) (o : Ordered) (c : QueueCounts)
     (unused : IsUnused s) (r : ReadsFrom h.tells (source h feed shelf) (source h last after))
     (end : IsTrue h.tells → left (source h last after) ≡ [])
-    (k : HasGraph h.tells (source h feed shelf) (source h last after) s w g c ks)
+    (k : HasGraph start h.tells (source h feed shelf) (source h last after) s w g c ks)
     (up : UsesUp (ks ++ graph_blocks w g) c w x)
     (orders : OrdersGraph (ks ++ graph_blocks w g) w x g o)
     (stores : StoresOrdered c w x g (Ok o))
-    (moves : KeepsCircuit h.tells (source h feed shelf) (source h last after) s x) where
+    (moves : KeepsCircuit start h.tells (source h feed shelf) (source h last after) s x) where
   abbrev a : Source
   a = source h feed shelf
 
@@ -86,7 +87,7 @@ module _ {H : Type 0} (h : ShelfGhosts H) (feed last : Fed) (shelf after : H)
   d = source h last after
 
   -- the edges are those of the circuit that the text spells
-  edges_spelled : IsTrue h.tells → SpellsEdges s.device.told (text_of a) x o
+  edges_spelled : IsTrue h.tells → SpellsEdges start s.device.told (text_of a) x o
   edges_spelled z =
       let sp = k.spells z in
       record {
@@ -99,12 +100,14 @@ module _ {H : Type 0} (h : ShelfGhosts H) (feed last : Fed) (shelf after : H)
       }
 
   -- Edges between ranks were made.
-  pub edges_made : ReadsCircuit h s x shelf after (Ok o)
+  pub edges_made : ReadsCircuit start h s x shelf after (Ok o)
   edges_made = record {
     answers = record {
       is = orders.is;
       blocks = session_trans k.session orders.blocks;
-      used = omega (arith, stores.0, k.used);
+      used =
+          let resets = ap (λ (y : Chain). y.blocks) orders.resets in
+          omega (arith, stores.0, k.used, resets);
       paid = edges_paid unused (pays_then k.pays stores.1 up.touches.moves);
       spells = edges_spelled;
       all_read = reads_all r end;

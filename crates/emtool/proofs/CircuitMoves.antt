@@ -32,9 +32,9 @@ use Rattle.emtool.proofs.CircuitCosts.{order_few, order_lists, order_run_few, so
 use Rattle.emtool.proofs.CircuitMade.{HasGraph, HasParts, takes_first}
 
 -- The moves so far are those of a circuit of the size that was read.
-abbrev pub KeepsCircuit : Bool → Source → Source → RigState → RigState → Type 0
-KeepsCircuit tells a d s t = IsTrue tells → IsTrue s.device.told → t.moves ≤ s.moves
-    + circuit_moves s.pool.shape (read_of a d) (passes_read (text_of a))
+abbrev pub KeepsCircuit : Option ℕ → Bool → Source → Source → RigState → RigState → Type 0
+KeepsCircuit start tells a d s t = IsTrue tells → IsTrue s.device.told → t.moves ≤ s.moves
+    + circuit_moves s.pool.shape (read_of start a d) (passes_read start (text_of a))
 
 -- the moves of a used-up queue within what it is allowed
 used_by : (spent before made after own x y : ℕ) → after + spent ≤ made + x + own → x ≤ y
@@ -91,26 +91,26 @@ passes_whole c n (Some (Undefined, v)) e defined =
     absurd (defined.undefined v (fault_found c Undefined v e).1.is)
 passes_whole c n fault e defined = refl
 
-module _ {tells : Bool} {a d : Source} {s t : RigState} (r : ReadsFrom tells a d) where
+module _ {start : Option ℕ} {tells : Bool} {a d : Source} {s t : RigState} (r : ReadsFrom tells a d) where
   -- Reading stopped, or a queue was made after it, or refused.
-  pub read_moves : {result : Result Parts AigStop} (u : RigState) → ReadsEither tells a d s t result
-      → u.moves ≤ t.moves + 4 → KeepsCircuit tells a d s u
+  pub read_moves : {result : Result Parts AigStop} (u : RigState) → ReadsEither tells start a d s t result
+      → u.moves ≤ t.moves + 4 → KeepsCircuit start tells a d s u
   read_moves u h few = λ z told.
-      let size = read_of a d in
-      let passes = passes_read (text_of a) in
+      let size = read_of start a d in
+      let passes = passes_read start (text_of a) in
       after_reading passes (ceiling size (payload_of s.pool.shape))
       (queue_share s.pool.shape (6 * size) (2 * size))
       (queue_share s.pool.shape (2 * (passes + 4) * size) (2 * size)) s.moves t.moves u.moves
-      (takes_first r h.takes z).moves few
+      (takes_first start r h.takes z).moves few
 
   module _ {u : RigState} (v : RigState) {p : Parts} {c : QueueCounts} {ks : List ℕ}
-      (read : ReadsEither tells a d s t (Ok p)) (parts : HasParts tells a d s u p c ks)
+      (read : ReadsEither tells start a d s t (Ok p)) (parts : HasParts start tells a d s u p c ks)
       (built : IsTrue u.device.told → (n k : ℕ) → sort_calls p.header ≤ n → sort_run p.header ≤ k
       → v.moves ≤ t.moves + queue_share u.pool.shape n k + sort_moves u p) where
     -- what making the graph moved
     built_most : IsTrue tells → IsTrue s.device.told → v.moves ≤ t.moves
-        + queue_share s.pool.shape (6 * read_of a d) (2 * read_of a d)
-        + (22 * ceiling (read_of a d) (payload_of s.pool.shape) + 7)
+        + queue_share s.pool.shape (6 * read_of start a d) (2 * read_of start a d)
+        + (22 * ceiling (read_of start a d) (payload_of s.pool.shape) + 7)
     built_most z told =
         let size = circuit_size p.header in
         let low = parts.sound.shape.block_low in
@@ -119,38 +119,38 @@ module _ {tells : Bool} {a d : Source} {s t : RigState} (r : ReadsFrom tells a d
         let all = built (parts.session.touches.told ∙ told) (6 * size) (2 * size)
         (sort_few p.header) (sort_run_few p.header) in
         let share : queue_share u.pool.shape (6 * size) (2 * size)
-        ≡ queue_share s.pool.shape (6 * read_of a d) (2 * read_of a d) =
+        ≡ queue_share s.pool.shape (6 * read_of start a d) (2 * read_of start a d) =
         ap (λ (x : ShapeNumbers). queue_share x (6 * size) (2 * size)) shape
         ∙ ap (λ (n : ℕ). queue_share s.pool.shape (6 * n) (2 * n)) (sym (parts.size z)) in
-        let blocks : ceiling size (payload_in u) ≡ ceiling (read_of a d) (payload_of s.pool.shape) =
+        let blocks : ceiling size (payload_in u) ≡ ceiling (read_of start a d) (payload_of s.pool.shape) =
         ap (λ (x : ShapeNumbers). ceiling size (payload_of x)) shape
         ∙ ap (λ (n : ℕ). ceiling n (payload_of s.pool.shape)) (sym (parts.size z)) in
-        let lists : sort_moves u p ≤ 22 * ceiling (read_of a d) (payload_of s.pool.shape) + 7 =
+        let lists : sort_moves u p ≤ 22 * ceiling (read_of start a d) (payload_of s.pool.shape) + 7 =
         subst (λ (k : ℕ). sort_moves u p ≤ 22 * k + 7) blocks (sort_lists u p some parts.fill) in
         no_more v.moves t.moves (queue_share u.pool.shape (6 * size) (2 * size))
-        (queue_share s.pool.shape (6 * read_of a d) (2 * read_of a d)) (sort_moves u p)
-        (22 * ceiling (read_of a d) (payload_of s.pool.shape) + 7) all share lists
+        (queue_share s.pool.shape (6 * read_of start a d) (2 * read_of start a d)) (sort_moves u p)
+        (22 * ceiling (read_of start a d) (payload_of s.pool.shape) + 7) all share lists
 
     -- No graph was made, or another queue was made after it, or refused.
-    pub build_moves : (w : RigState) → w.moves ≤ v.moves + 4 → KeepsCircuit tells a d s w
+    pub build_moves : (w : RigState) → w.moves ≤ v.moves + 4 → KeepsCircuit start tells a d s w
     build_moves w few = λ z told.
-        let size = read_of a d in
-        let passes = passes_read (text_of a) in
+        let size = read_of start a d in
+        let passes = passes_read start (text_of a) in
         after_building passes (ceiling size (payload_of s.pool.shape))
         (queue_share s.pool.shape (6 * size) (2 * size))
         (queue_share s.pool.shape (2 * (passes + 4) * size) (2 * size)) s.moves t.moves v.moves
-        w.moves (takes_first r read.takes z).moves (built_most z told) few
+        w.moves (takes_first start r read.takes z).moves (built_most z told) few
 
     module _ {Q : Type 0} {queue : QueueGhosts Q} {q : Q} {w x : RigState} {g : Graph} {js : List ℕ}
         (allowed : queue.allowance ≡ Some queue_share) (makes : MakesQueue queue v w q)
         (since : (queue.counts q).since ≤ (queue.counts q).k)
-        (graph : HasGraph tells a d s w g (queue.counts q) js)
+        (graph : HasGraph start tells a d s w g (queue.counts q) js)
         (costs : OrderCosts queue (queue.counts q) w x g) where
       -- the passes that were made are at most those of the circuit
-      passes_most : IsTrue tells → IsTrue s.device.told → costs.passes ≤ passes_read (text_of a)
+      passes_most : IsTrue tells → IsTrue s.device.told → costs.passes ≤ passes_read start (text_of a)
       passes_most z told =
           let sp = graph.spells z in
-          let known : passes_read (text_of a) ≡ passes_of sp.circuit =
+          let known : passes_read start (text_of a) ≡ passes_of sp.circuit =
           ap (λ (y : Reading Circuit). passes_after y) sp.reads
           ∙ passes_whole sp.circuit (passes_of sp.circuit) (circuit_fault sp.circuit) refl
           (sp.defined told) in
@@ -159,13 +159,13 @@ module _ {tells : Bool} {a d : Source} {s t : RigState} (r : ReadsFrom tells a d
 
       -- what ordering it moved
       ordered_most : IsTrue tells → IsTrue s.device.told → x.moves ≤ v.moves
-          + queue_share s.pool.shape (2 * (passes_read (text_of a) + 4) * read_of a d)
-          (2 * read_of a d)
-          + ((10 * passes_read (text_of a) + 36)
-          * ceiling (read_of a d) (payload_of s.pool.shape) + passes_read (text_of a) + 9)
+          + queue_share s.pool.shape (2 * (passes_read start (text_of a) + 4) * read_of start a d)
+          (2 * read_of start a d)
+          + ((10 * passes_read start (text_of a) + 36)
+          * ceiling (read_of start a d) (payload_of s.pool.shape) + passes_read start (text_of a) + 9)
       ordered_most z told =
           let size = circuit_size g.header in
-          let r = passes_read (text_of a) in
+          let r = passes_read start (text_of a) in
           let few = passes_most z told in
           let low = graph.sound.shape.block_low in
           let some : 0 < payload_in w = omega (arith, low) in
@@ -174,35 +174,35 @@ module _ {tells : Bool} {a d : Source} {s t : RigState} (r : ReadsFrom tells a d
           let all = used_moves x (2 * (r + 4) * size) (2 * size) allowed makes since costs.costs here
           (order_few g.header costs.passes r few) (order_run_few g.header) in
           let share : queue_share w.pool.shape (2 * (r + 4) * size) (2 * size)
-          ≡ queue_share s.pool.shape (2 * (r + 4) * read_of a d) (2 * read_of a d) =
+          ≡ queue_share s.pool.shape (2 * (r + 4) * read_of start a d) (2 * read_of start a d) =
           ap (λ (y : ShapeNumbers). queue_share y (2 * (r + 4) * size) (2 * size)) shape
           ∙ ap (λ (n : ℕ). queue_share s.pool.shape (2 * (r + 4) * n) (2 * n))
           (sym (graph.size z)) in
           let blocks : ceiling size (payload_in w)
-          ≡ ceiling (read_of a d) (payload_of s.pool.shape) =
+          ≡ ceiling (read_of start a d) (payload_of s.pool.shape) =
           ap (λ (y : ShapeNumbers). ceiling size (payload_of y)) shape
           ∙ ap (λ (n : ℕ). ceiling n (payload_of s.pool.shape)) (sym (graph.size z)) in
           let lists : order_moves costs.passes w g + costs.looked
-          ≤ (10 * r + 36) * ceiling (read_of a d) (payload_of s.pool.shape) + r + 9 =
+          ≤ (10 * r + 36) * ceiling (read_of start a d) (payload_of s.pool.shape) + r + 9 =
           subst (λ (k : ℕ). order_moves costs.passes w g + costs.looked ≤ (10 * r + 36) * k + r + 9)
           blocks
           (none_looked (order_moves costs.passes w g) costs.looked
           ((10 * r + 36) * ceiling size (payload_in w) + r + 9) (costs.unlooked here)
           (order_lists w g costs.passes r some graph.fill few)) in
           no_more x.moves v.moves (queue_share w.pool.shape (2 * (r + 4) * size) (2 * size))
-          (queue_share s.pool.shape (2 * (r + 4) * read_of a d) (2 * read_of a d))
+          (queue_share s.pool.shape (2 * (r + 4) * read_of start a d) (2 * read_of start a d))
           (order_moves costs.passes w g + costs.looked)
-          ((10 * r + 36) * ceiling (read_of a d) (payload_of s.pool.shape) + r + 9) all share lists
+          ((10 * r + 36) * ceiling (read_of start a d) (payload_of s.pool.shape) + r + 9) all share lists
         where
           none_looked : (m n k : ℕ) → n ≡ 0 → m ≤ k → m + n ≤ k
           none_looked m n k e h = omega (arith, e, h)
 
       -- Its gates were ordered, or not.
-      pub order_keeps : KeepsCircuit tells a d s x
+      pub order_keeps : KeepsCircuit start tells a d s x
       order_keeps = λ z told.
-          let size = read_of a d in
-          let passes = passes_read (text_of a) in
+          let size = read_of start a d in
+          let passes = passes_read start (text_of a) in
           after_ordering passes (ceiling size (payload_of s.pool.shape))
           (queue_share s.pool.shape (6 * size) (2 * size))
           (queue_share s.pool.shape (2 * (passes + 4) * size) (2 * size)) s.moves t.moves v.moves
-          x.moves (takes_first r read.takes z).moves (built_most z told) (ordered_most z told)
+          x.moves (takes_first start r read.takes z).moves (built_most z told) (ordered_most z told)

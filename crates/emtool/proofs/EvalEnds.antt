@@ -1,5 +1,5 @@
 -- How the steps of an evaluation end: its rig, what went out, and why it stopped.
-use Rattle.std.proofs.Common.{◌≡◌, ℕ, ◌+◌, ◌-◌, ◌*◌, ◌≤◌, ◌^◌, ◌⊎◌, false, replicate, List, [], ◌++◌, length, ap, sym, subst, ◌∙◌, refl, arith, IsTrue, inl, inr, ⊎_elim, Result, Ok, Err, IfErr, OnOk}
+use Rattle.std.proofs.Common.{◌≡◌, ℕ, ◌+◌, ◌-◌, ◌*◌, ◌≤◌, ◌^◌, ◌⊎◌, List, [], ◌++◌, ap, sym, subst, ◌∙◌, refl, arith, IsTrue, inl, inr, ⊎_elim, Result, Ok, Err, IfErr, OnOk}
 use Rattle.em_record.specs.Count.{Rose}
 use Rattle.em_record.specs.Shape.{ShapeNumbers, fan_of}
 use Rattle.em_io.specs.Sink.{IsRule, Sent, SentPart}
@@ -14,21 +14,19 @@ use Rattle.em_space.specs.Rig.{RigState, Cause, Goes, Sound, Touches}
 use Rattle.em_space.specs.declared.fault.EmFault.{EmFault}
 use Rattle.em_space.specs.declared.fault.EmFault.TheVariants as em
 use Rattle.em_space.specs.declared.queue.Queue.{Ghosts as QueueGhosts}
-use Rattle.em_space.proofs.Held.{apart_none}
 use Rattle.em_space.proofs.Paying.{pays_more, pays_then}
 use Rattle.em_space.proofs.Sessions.{session_none, session_trans}
 use Rattle.em_space.proofs.Steps.{cause_after, touches_then}
 use Rattle.em_space.proofs.Within.{goes_wider, touches_within}
-use Rattle.em_chain.specs.Chain.{ChainStays, chain_blocks}
-use Rattle.em_chain.proofs.Laws.{chain_stays}
 use Rattle.aig_defs.specs.declared.circuit.Gate.{Gate}
 use Rattle.aig_defs.specs.declared.circuit.Header.{Header}
 use Rattle.aig_defs.specs.Begun.{circuit_size}
-use Rattle.aig_defs.specs.Circuit.{Circuit}
+use Rattle.aig_defs.specs.Circuit.{Circuit, resets}
 use Rattle.aig_defs.specs.Stimulus.{output_lines, stimulus_of}
 use Rattle.aig_defs.specs.Value.{run_of}
 use Rattle.aig_edges.specs.Graph.{IsOrdered, IsOrderedOf, ordered_blocks}
 use Rattle.aig_edges.specs.declared.graph.Ordered.{Ordered}
+use Rattle.aig_edges.proofs.OrderedLaws.{OrderedStays, ordered_stays}
 use Rattle.aig_forward.specs.Evaluator.{BeginsEvaluator, BeginsFor, Evaluates, FailsToBegin, evaluator_blocks}
 use Rattle.aig_forward.specs.Outputs.{KeepsFront}
 use Rattle.aig_forward.specs.declared.evaluator.Evaluator.{Evaluator}
@@ -121,54 +119,25 @@ full_due P faults after a b (Err (Em em.DeviceFault)) x p = tt
 full_due P faults after a b (Err (Em (em.Full used))) x p = p used (x.0 ∙ sym x.1)
 full_due P faults after a b (Err (Em (em.Damaged block))) x p = tt
 
--- Edges stay as they are while a queue is made.
-pub edges_stay : {s m : RigState} {o : Ordered} → IsOrdered s o → Touches [] s m
-    → ChainStays s m o.edges
-edges_stay {s} {m} {o} is l =
-    chain_stays [] s m o.edges l (λ z. apart_none (chain_blocks s o.edges)) is.edges.is
-
--- they are still those of this circuit and order,
-pub ordered_of : {s m : RigState} {o : Ordered} (c : Circuit) (order : List Gate)
-    → IsOrdered s o → Touches [] s m → IsTrue s.device.told → IsOrderedOf s o c order
-    → IsOrderedOf m o c order
-ordered_of c order is l z i = record {
-  header = i.header;
-  is = i.is;
-  ordered = i.ordered;
-  edges = (edges_stay is l).items z ∙ i.edges;
-}
-
--- and of some one, if they were before
-pub still_ordered : {s m : RigState} {o : Ordered} → IsOrdered s o → Touches [] s m
-    → IsOrdered m o
-still_ordered is l = record {
-  header = is.header;
-  edges = record { is = (edges_stay is l).is; count_is = is.edges.count_is };
-  stands = λ z.
-      let told = sym l.told ∙ z in
-      let some = is.stands told in
-      record {
-        circuit = some.circuit;
-        order = some.order;
-        is = ordered_of some.circuit some.order is l told some.is;
-      };
-}
+-- Edges and resets stay as they are while a queue is made.
+pub still_ordered : {s m : RigState} {o : Ordered} → IsOrdered s o → Touches [] s m → OrderedStays s m o
+still_ordered {o = o} is l = ordered_stays [] o l is.holds is
 
 -- Edges, and then a queue: what an evaluator is made of.
 pub session_beside_edges : {Q : Type 0} {queue : QueueGhosts Q} {s m : RigState} {o : Ordered} {q : Q}
-    → Sound s → IsOrdered s o → MakesQueue queue s m q
+    → CanBegin s o → MakesQueue queue s m q
     → Session (ordered_blocks s o) s m (queue.blocks q m ++ ordered_blocks m o)
-session_beside_edges {queue = queue} {s = s} {m = m} {o = o} {q = q} sound is makes =
+session_beside_edges {queue = queue} {s = s} {m = m} {o = o} {q = q} can makes =
     session_made (queue.blocks q m) (ordered_blocks s o) (ordered_blocks m o)
-    (session_none s (ordered_blocks s o) sound (λ z. (is.edges.is.told z).holds)) makes.session
-    (λ z. (edges_stay is makes.session.touches).blocks z)
+    (session_none s (ordered_blocks s o) can.sound can.is.holds) makes.session
+    (still_ordered can.is makes.session.touches).blocks
 
 -- all their blocks are apart
 pub can_make : {Q : Type 0} {queue : QueueGhosts Q} {s m : RigState} {o : Ordered} {q : Q}
-    → Sound s → IsOrdered s o → MakesQueue queue s m q → IsTrue m.device.told
+    → CanBegin s o → MakesQueue queue s m q → IsTrue m.device.told
     → Holds m (queue.blocks q m ++ ordered_blocks m o)
-can_make sound is makes z =
-    (session_beside_edges sound is makes).holds (sym makes.session.touches.told ∙ z)
+can_make can makes z =
+    (session_beside_edges can makes).holds (sym makes.session.touches.told ∙ z)
 
 -- It wasn't made.
 pub record Unmade {Q : Type 0} (queue : QueueGhosts Q) (s m t : RigState) (o : Ordered) (q : Q)
@@ -189,7 +158,7 @@ module _ {Q : Type 0} {queue : QueueGhosts Q} {s m t : RigState} {o : Ordered} {
   pub unmade_goes : Goes (ordered_blocks s o) s t
   unmade_goes =
       let held = queue.blocks q m ++ ordered_blocks m o in
-      let first = session_beside_edges u.can.sound u.can.is u.makes in
+      let first = session_beside_edges u.can u.makes in
       record {
         sound = u.fails.halted.sound;
         touches = touches_within s m t (ordered_blocks s o) held first.touches first.within
@@ -240,7 +209,7 @@ module _ {Q : Type 0} {queue : QueueGhosts Q} {s m a : RigState} {o : Ordered} {
     {e : Evaluator Q} (u : Made queue s m a o q e) where
   -- what is held is the edges', or wasn't in use
   made_session : Session (ordered_blocks s o) s a (evaluator_blocks queue a e)
-  made_session = session_trans (session_beside_edges u.can.sound u.can.is u.makes)
+  made_session = session_trans (session_beside_edges u.can u.makes)
       u.begins.runs.runs.session
 
   -- only the edges' blocks may have changed
@@ -330,18 +299,13 @@ module _ {Q : Type 0} {queue : QueueGhosts Q} {s m a b t : RigState} {o : Ordere
       (2 ^ 64 - 1 ≤ z.moves) ⊎ (z.used ≤ z.moves + 2 * z.pool.shape.frames))
       (sym r.leaves.same) (rw (← r.leaves.touches.shape) at r.paid)
 
--- At first an evaluator evaluates each circuit whose edges these are, from the state of zeros.
+-- At first an evaluator evaluates each circuit whose edges these are, from the resets.
 pub evaluates_first : {Q : Type 0} {queue : QueueGhosts Q} {s m a : RigState} {o : Ordered} {q : Q}
     {e : Evaluator Q} → Made queue s m a o q e → (IsTrue m.device.told → BeginsFor queue m a o e)
     → IsTrue s.device.told → (c : Circuit) (order : List Gate) → IsOrderedOf s o c order
-    → Evaluates queue a e c order (replicate (length c.latches) false)
-evaluates_first {queue = queue} {a = a} {e = e} u meaning z c order is =
-    let latches : e.header.latches ≡ length c.latches =
-    ap (λ (h : Header). h.latches) (u.begins.header ∙ sym is.header)
-    ∙ sym is.is.lengths.latches in
-    subst (λ (n : ℕ). Evaluates queue a e c order (replicate n false)) latches
-    (meaning (u.makes.session.touches.told ∙ z) c order
-    (ordered_of c order u.can.is u.makes.session.touches z is))
+    → Evaluates queue a e c order (resets c.latches)
+evaluates_first u meaning z c order is = meaning (u.makes.session.touches.told ∙ z) c order
+    ((still_ordered u.can.is u.makes.session.touches).of z c order is)
 
 -- The moves of an evaluation are those of making its evaluator, and of the steps that were begun.
 abbrev pub KeepsSteps : {H : Type 0} → ShelfGhosts H → RigState → RigState → Ordered → H → H → Type 0
@@ -427,7 +391,7 @@ module _ {H W Q : Type 0} {h : ShelfGhosts H} {w : SinkGhosts W} {queue : QueueG
         (stimulus_of n.inputs text).steps)) (w.state out) (w.state mid) pending done)
         v.made.begins.header
         (v.steps.prints z ((made_touches v.made).told ∙ y) c order
-        (replicate (length c.latches) false) (evaluates_first v.made v.meaning y c order is)) in
+        (resets c.latches) (evaluates_first v.made v.meaning y c order is)) in
         let sent = ends_by (λ r. OnDue r (w.state out_after ≡ w.took (w.state mid) pending)
         → OnDue r (w.state out_after ≡ w.took (w.state out) lines)) done result
         (w.faults mid) (w.faults out_after) v.sends.ends

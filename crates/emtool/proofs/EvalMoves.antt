@@ -18,7 +18,7 @@ use Rattle.aig_defs.specs.declared.circuit.Header.{Header}
 use Rattle.aig_defs.specs.Begun.{circuit_size}
 use Rattle.aig_edges.specs.Graph.{edge_count}
 use Rattle.aig_edges.specs.declared.graph.Ordered.{Ordered}
-use Rattle.aig_forward.specs.Lists.{begin_moves, latch_room}
+use Rattle.aig_forward.specs.Lists.{begin_moves}
 use Rattle.aig_forward.specs.Step.{step_moves}
 use Rattle.aig_forward.specs.declared.evaluator.Evaluator.{Evaluator}
 use Rattle.emtool.specs.EvalMoves.{making_moves, steps_moves}
@@ -59,17 +59,14 @@ refused_moves h {s} {t} o shelf f = λ z told.
     t.moves (omega (arith, few))
 
 -- What making the evaluator's lists moves, by the blocks of the circuit's size.
-begins_few : {s : RigState} {o : Ordered} (m : RigState) → CanBegin s o → m.pool.shape ≡ s.pool.shape
-    → begin_moves m o ≤ 6 * ceiling (circuit_size o.header) (payload_of s.pool.shape) + 6
-begins_few {s} {o} m can shape =
+begins_few : {s : RigState} {o : Ordered} → CanBegin s o
+    → begin_moves o ≤ 6 * ceiling (circuit_size o.header) (payload_of s.pool.shape) + 6
+begins_few {s} {o} can =
     let p = payload_of s.pool.shape in
     let low = can.sound.shape.block_low in
     let some : 0 < p = omega (arith, low) in
     let fit = lists_fit p o.header some in
-    let bits : latch_room o.header m ≡ ceiling o.header.latches p =
-    ap (λ (x : ShapeNumbers). ceiling o.header.latches (payload_of x)) shape in
-    let latches : ceiling o.header.latches p ≤ ceiling (circuit_size o.header) p = fit.latches in
-    omega (arith, can.packed, fit.edges, bits, latches)
+    omega (arith, can.packed, fit.edges)
 
 -- a queue was made, and then lists
 added : (t m s n c : ℕ) → t ≤ m + n → m ≤ s + 4 → n ≤ 6 * c + 6 → t ≤ s + (6 * c + 10)
@@ -84,12 +81,12 @@ module _ {Q : Type 0} {queue : QueueGhosts Q} {s m t : RigState} {o : Ordered} {
       let size = circuit_size o.header in
       let n = steps_of o.header.inputs ((h.stand shelf).slot Second).left
       ((h.stand shelf).slot Second) in
-      let begin = begins_few m u.can u.makes.session.touches.shape in
-      let all : t.moves ≤ m.moves + begin_moves m o =
-      halts t.moves (queue.counts q).spent m.moves (begin_moves m o) u.fails.halted.moves in
+      let begin = begins_few u.can in
+      let all : t.moves ≤ m.moves + begin_moves o =
+      halts t.moves (queue.counts q).spent m.moves (begin_moves o) u.fails.halted.moves in
       without_steps (ceiling size (payload_of s.pool.shape)) (steps_moves s.pool.shape size n) s.moves
       t.moves
-      (added t.moves m.moves s.moves (begin_moves m o) (ceiling size (payload_of s.pool.shape)) all few
+      (added t.moves m.moves s.moves (begin_moves o) (ceiling size (payload_of s.pool.shape)) all few
       begin)
     where
       halts : (t c m n : ℕ) → t + (c + 0) ≤ m + (n + c) → t ≤ m + n
@@ -132,9 +129,7 @@ module _ {H W Q : Type 0} {h : ShelfGhosts H} {w : SinkGhosts W} {queue : QueueG
         let size = u.begins.size in
         let state = u.begins.is.state_blocks in
         let after = list_few (λ x. x.latches) in
-        let before : latch_room o.header m ≡ ceiling o.header.latches (payload_of s.pool.shape) =
-        ap (λ (x : ShapeNumbers). ceiling o.header.latches (payload_of x)) u.makes.session.touches.shape in
-        omega (arith, size, state, after, before)
+        omega (arith, size, state, after, u.can.is.resets.blocks_is)
 
     -- So a step moves few blocks beside its queue.
     step_few : step_moves a e
@@ -188,12 +183,12 @@ module _ {H W Q : Type 0} {h : ShelfGhosts H} {w : SinkGhosts W} {queue : QueueG
     still_moves few none =
         let u = v.made in
         let size = circuit_size o.header in
-        let all = begun_by b.moves a.moves (queue.counts q).spent m.moves (begin_moves m o) none
+        let all = begun_by b.moves a.moves (queue.counts q).spent m.moves (begin_moves o) none
         u.begins.runs.runs.spends.moves in
         without_steps (ceiling size (payload_of s.pool.shape)) (steps_moves s.pool.shape size begun)
         s.moves b.moves
-        (added b.moves m.moves s.moves (begin_moves m o) (ceiling size (payload_of s.pool.shape)) all
-        few (begins_few m u.can u.makes.session.touches.shape))
+        (added b.moves m.moves s.moves (begin_moves o) (ceiling size (payload_of s.pool.shape)) all
+        few (begins_few u.can))
       where
         begun_by : (b a c m n : ℕ) → b ≤ a → a + (c + 0) + (0 + 0) ≤ m + (0 + n) + (c + 0)
             → b ≤ m + n
@@ -212,11 +207,11 @@ module _ {H W Q : Type 0} {h : ShelfGhosts H} {w : SinkGhosts W} {queue : QueueG
         let later : IsTrue b.device.told = v.steps.touches.told ∙ ((made_touches u).told ∙ told) in
         let share = queue_share s.pool.shape (2 * size * begun) (2 * size) in
         let all = run_by (queue.counts q) (queue.counts e.queue) (queue.counts d.queue) s.moves
-        m.moves a.moves b.moves (begin_moves m o) (begun * step_moves a e) share (counts_same u)
+        m.moves a.moves b.moves (begin_moves o) (begun * step_moves a e) share (counts_same u)
         u.makes.spent u.begins.runs.runs.spends.moves r.most (spent_few z (spends later)) in
         steps_counted s.pool.shape size begun s.moves b.moves r.some
         (with_steps (ceiling size (payload_of s.pool.shape)) begun share s.moves b.moves
-        (begin_moves m o) (step_moves a e) all (begins_few m u.can u.makes.session.touches.shape)
+        (begin_moves o) (step_moves a e) all (begins_few u.can)
         step_few)
 
     -- An evaluation moves at most what making its evaluator does, and its steps.

@@ -1,7 +1,7 @@
 -- Worked evaluations: what is due of them, and their size.
-use Rattle.std.specs.Prelude.{◌≡◌, ℕ, List, [], ◌∷◌, ◌++◌, true, false, codes, map, refl}
+use Rattle.std.specs.Prelude.{◌≡◌, ℕ, List, [], ◌∷◌, ◌++◌, true, false, codes, map, refl, Option, None, Some}
 use Rattle.em_io.specs.Shelf.{SlotState}
-use Rattle.aig_defs.specs.declared.fault.AigKind.TheVariants.{BadDelta, BadSymbol, Cyclic, Extension, LiteralRange, StimLength, Twice, Undefined}
+use Rattle.aig_defs.specs.declared.fault.AigKind.TheVariants.{BadDelta, BadReset, BadSymbol, Cyclic, Extension, Fairness, Justice, LiteralRange, Short, StimLength, Twice, Undefined, Uninit}
 use Rattle.emtool.specs.EvalDue.{eval_output, eval_status}
 use Rattle.emtool.specs.EvalSize.{circuit_read, eval_cost, passes_read, steps_read}
 use Rattle.emtool.specs.declared.status.Malform.TheVariants.{Aig}
@@ -56,17 +56,25 @@ half_adder = codes "aig 5 2 0 2 3\n10\n6\n" ++ 2 ∷ 2 ∷ 3 ∷ 2 ∷ 1 ∷ 2 �
 abbrev Row : Type 0
 Row = (List ℕ × List ℕ) × (Status × List ℕ)
 
-abbrev Hold : List Row → Type 0
-Hold rows =
-    map (λ (row : Row). (eval_status row.0.0 row.0.1, eval_output row.0.0 row.0.1)) rows
+-- with this value for uninitialised latches, if one is given
+abbrev HoldFrom : Option ℕ → List Row → Type 0
+HoldFrom start rows =
+    map (λ (row : Row). (eval_status start row.0.0 row.0.1, eval_output start row.0.0 row.0.1)) rows
     ≡ map (λ (row : Row). row.1) rows
 
-evaluations : Hold (
+evaluations : HoldFrom None (
     ((conjunction, codes "00\n01\n10\n11\n"), (Done, codes "0\n0\n0\n1\n"))
     ∷ ((conjunction, codes "11\n0\n"), (Malformed (Aig StimLength) 4, codes "1\n"))
     ∷ ((conjunction, []), (Done, []))
     ∷ ((toggle, codes "\n\n\n"), (Done, codes "01\n10\n01\n"))
-    ∷ ((codes "aag 3 2 0 1 1 0\n", codes "00\n"), (Malformed (Aig Extension) 13, []))
+    ∷ ((codes "aag 3 2 0 1 1 0\n", codes "00\n"), (Malformed (Aig Short) 16, []))
+    ∷ ((codes "aag 1 0 1 1 0\n2 3 1\n2\n", codes "\n\n\n"), (Done, codes "1\n0\n1\n"))
+    ∷ ((codes "aag 1 0 1 1 0\n2 3 2\n2\n", codes "\n\n\n"), (Malformed (Aig Uninit) 18, []))
+    ∷ ((codes "aag 1 1 0 1 0 1 1\n2\n2\n3\n2\n", codes "0\n1\n"), (Done, codes "010\n101\n"))
+    ∷ ((codes "aag 1 0 1 1 0\n2 3 5\n2\n", codes "\n"), (Malformed (Aig BadReset) 18, []))
+    ∷ ((codes "aag 0 0 0 0 0 0 0 1\n", codes "\n"), (Malformed (Aig Justice) 18, []))
+    ∷ ((codes "aag 0 0 0 0 0 0 0 0 1\n", codes "\n"), (Malformed (Aig Fairness) 20, []))
+    ∷ ((codes "aag 3 2 0 1 1 0 0 0 0 0\n", codes "00\n"), (Malformed (Aig Extension) 21, []))
     ∷ ((codes "aag 3 2 0 1 1\n2\n4\n9\n6 2 4\n", []), (Malformed (Aig LiteralRange) 18, []))
     ∷ ((late_line, codes "00\n01\n10\n11\n"), (Done, codes "0\n0\n0\n1\n"))
     ∷ ((above, codes "0\n1\n0\n0\n"), (Done, codes "0\n0\n1\n1\n"))
@@ -90,26 +98,35 @@ evaluations : Hold (
     ∷ [])
 evaluations = refl
 
+-- a latch whose reset is its own literal
+evaluations_from_0 : HoldFrom (Some 0)
+    (((codes "aag 1 0 1 1 0\n2 3 2\n2\n", codes "\n\n\n"), (Done, codes "0\n1\n0\n")) ∷ [])
+evaluations_from_0 = refl
+
+evaluations_from_1 : HoldFrom (Some 1)
+    (((codes "aag 1 0 1 1 0\n2 3 2\n2\n", codes "\n\n\n"), (Done, codes "1\n0\n1\n")) ∷ [])
+evaluations_from_1 = refl
+
 -- a slot that was opened, with so much left
 abbrev slot_with : List ℕ → SlotState
 slot_with left = record { opened = true; ready = true; lost = false; left = left }
 
 -- two inputs, an output and a gate; one pass
-size_of_conjunction : circuit_read (slot_with []) conjunction ≡ 5
+size_of_conjunction : circuit_read None (slot_with []) conjunction ≡ 5
 size_of_conjunction = refl
 
-passes_of_conjunction : passes_read conjunction ≡ 1
+passes_of_conjunction : passes_read None conjunction ≡ 1
 passes_of_conjunction = refl
 
 -- Two passes find the gates if one uses a gate of a greater variable. If there is a cycle, those count
 -- that found a gate, and if a variable is used and not defined, none.
-passes_of_rows : map passes_read (greater ∷ report_adder ∷ late_line ∷ cycle ∷ cycle_beside
+passes_of_rows : map (passes_read None) (greater ∷ report_adder ∷ late_line ∷ cycle ∷ cycle_beside
     ∷ codes "aag 5 1 0 1 1\n2\n6\n6 2 10\n" ∷ []) ≡ 2 ∷ 2 ∷ 1 ∷ 0 ∷ 1 ∷ 0 ∷ []
 passes_of_rows = refl
 
 -- The report's half adder has two inputs, two outputs and three gates. At the default shape four steps
 -- and two passes cost 8 times 4096 moves at most.
-size_of_report_adder : circuit_read (slot_with []) report_adder ≡ 10
+size_of_report_adder : circuit_read None (slot_with []) report_adder ≡ 10
 size_of_report_adder = refl
 
 cost_of_report_adder : eval_cost (record { block = 1024; frames = 256 }) 10 4 2 ≡ 32768
@@ -121,12 +138,12 @@ cost_of_two_blocks : eval_cost (record { block = 128; frames = 64 }) 100 4 2 ≡
 cost_of_two_blocks = refl
 
 -- the header's line and the first byte of the next one were given: one input
-size_of_a_front : circuit_read (slot_with (codes "\n4\n6\n6 2 4\n")) conjunction ≡ 1
+size_of_a_front : circuit_read None (slot_with (codes "\n4\n6\n6 2 4\n")) conjunction ≡ 1
 size_of_a_front = refl
 
 -- In the binary form inputs count once the header was read, also if the text ends there or breaks
 -- after it; a gate is begun once the first byte of its deltas was given.
-sizes_of_binary_fronts : map (λ (text : List ℕ). circuit_read (slot_with []) text)
+sizes_of_binary_fronts : map (λ (text : List ℕ). circuit_read None (slot_with []) text)
     (codes "aig 3 2 0 1" ∷ codes "aig 3 2 0 1 2\n6" ∷ codes "aig 3 2 0 1 1" ∷ codes "aig 3 2 0 1 1\n"
     ∷ codes "aig 3 2 0 1 1\nx" ∷ codes "aig 3 2 0 1 1\n6\n"
     ∷ (codes "aig 3 2 0 1 1\n6\n" ++ 0 ∷ []) ∷ binary_conjunction ∷ [])
@@ -134,11 +151,11 @@ sizes_of_binary_fronts : map (λ (text : List ℕ). circuit_read (slot_with []) 
 sizes_of_binary_fronts = refl
 
 -- the header's line without its end was given, then its end too
-size_of_a_binary_front : map (λ left. circuit_read (slot_with left) binary_conjunction)
+size_of_a_binary_front : map (λ left. circuit_read None (slot_with left) binary_conjunction)
     ((codes "\n6\n" ++ 2 ∷ 2 ∷ []) ∷ (codes "6\n" ++ 2 ∷ 2 ∷ []) ∷ []) ≡ 0 ∷ 2 ∷ []
 size_of_a_binary_front = refl
 
 -- a line is begun once its first byte was given, and the faulty one counts
-steps_of_a_front : map (λ left. steps_read conjunction (slot_with left) (codes "11\n0\n"))
+steps_of_a_front : map (λ left. steps_read None conjunction (slot_with left) (codes "11\n0\n"))
     (codes "11\n0\n" ∷ codes "1\n0\n" ∷ codes "0\n" ∷ codes "\n" ∷ [] ∷ []) ≡ 0 ∷ 1 ∷ 1 ∷ 2 ∷ 2 ∷ []
 steps_of_a_front = refl

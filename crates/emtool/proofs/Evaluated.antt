@@ -46,10 +46,10 @@ still_there x y e u h =
     let z : y.lost ≡ true = subst (λ (v : SlotState). v.lost ≡ true) e h in cc (z, u.lost)
 
 -- The moves of a run are within its transfer cost.
-abbrev pub KeepsEval : Bool → List ℕ → List ℕ → (Slot → SlotState) → RigState → RigState → Type 0
-KeepsEval tells circuit stimulus slots a c = IsTrue tells → IsTrue a.device.told
-    → c.moves ≤ a.moves + eval_cost a.pool.shape (circuit_read (slots First) circuit)
-    (steps_read circuit (slots Second) stimulus) (passes_read circuit)
+abbrev pub KeepsEval : Option ℕ → Bool → List ℕ → List ℕ → (Slot → SlotState) → RigState → RigState → Type 0
+KeepsEval start tells circuit stimulus slots a c = IsTrue tells → IsTrue a.device.told
+    → c.moves ≤ a.moves + eval_cost a.pool.shape (circuit_read start (slots First) circuit)
+    (steps_read start circuit (slots Second) stimulus) (passes_read start circuit)
 
 -- its device was moved as often
 pub device_keeps : {a c : RigState} (n : ℕ) → Sound a → Sound c → c.moves ≤ a.moves + n
@@ -71,21 +71,21 @@ both_rise : (a b c d : ℕ) → a ≤ b → c ≤ d → a + c ≤ b + d
 both_rise a b c d h k = omega (arith, h, k)
 
 -- What a full device says: it has few blocks, since few were moved.
-pub eval_fills : (tells : Bool) (y w : List ℕ) (slots : Slot → SlotState) {a c : RigState}
+pub eval_fills : (start : Option ℕ) (tells : Bool) (y w : List ℕ) (slots : Slot → SlotState) {a c : RigState}
     (stop : Stop) → a.moves ≡ 0 → Touches [] a c → Sound c
-    → IfStopsFull stop (λ used. used ≡ c.blocks) → KeepsEval tells y w slots a c
-    → IfStopsFull stop (FillsEval c) → IfStopsFull stop (FillsRun tells (asked_of_eval y w) slots c)
-eval_fills tells y w slots (Fault kind place) none touches sound all keeps f = tt
-eval_fills tells y w slots Read none touches sound all keeps f = tt
-eval_fills tells y w slots Write none touches sound all keeps f = tt
-eval_fills tells y w slots (Em em.DeviceFault) none touches sound all keeps f = tt
-eval_fills tells y w slots (Em (em.Damaged block)) none touches sound all keeps f = tt
-eval_fills tells y w slots {a} {c} (Em (em.Full used)) none touches sound all keeps f = record {
+    → IfStopsFull stop (λ used. used ≡ c.blocks) → KeepsEval start tells y w slots a c
+    → IfStopsFull stop (FillsEval c) → IfStopsFull stop (FillsRun tells (asked_of_eval start y w) slots c)
+eval_fills start tells y w slots (Fault kind place) none touches sound all keeps f = tt
+eval_fills start tells y w slots Read none touches sound all keeps f = tt
+eval_fills start tells y w slots Write none touches sound all keeps f = tt
+eval_fills start tells y w slots (Em em.DeviceFault) none touches sound all keeps f = tt
+eval_fills start tells y w slots (Em (em.Damaged block)) none touches sound all keeps f = tt
+eval_fills start tells y w slots {a} {c} (Em (em.Full used)) none touches sound all keeps f = record {
   paid = f.paid;
   size = λ t d.
-      let size = circuit_read (slots First) y in
-      let steps = steps_read y (slots Second) w in
-      let passes = passes_read y in
+      let size = circuit_read start (slots First) y in
+      let steps = steps_read start y (slots Second) w in
+      let passes = passes_read start y in
       let few : c.moves ≤ a.moves + eval_cost c.pool.shape size steps passes =
       subst (λ (v : ShapeNumbers). c.moves ≤ a.moves + eval_cost v size steps passes)
       (sym touches.shape) (keeps t (sym touches.told ∙ d)) in
@@ -99,20 +99,20 @@ eval_fills tells y w slots {a} {c} (Em (em.Full used)) none touches sound all ke
 
 -- The circuit wasn't read, or has a fault. `x` is what the slot had left when it was opened, and `y`
 -- the file's text.
-module _ (tells : Bool) (x y stimulus : List ℕ) (e : IsTrue tells → x ≡ y) where
+module _ (start : Option ℕ) (tells : Bool) (x y stimulus : List ℕ) (e : IsTrue tells → x ≡ y) where
   pub circuit_cause : (faults later : Faults) (a c : RigState) (stop : Stop)
-      → CircuitCause tells x faults later a c stop
-      → RunCause tells (asked_of_eval y stimulus) faults later a c stop
+      → CircuitCause start tells x faults later a c stop
+      → RunCause tells (asked_of_eval start y stimulus) faults later a c stop
   circuit_cause faults later a c (Fault (Text kind) line) cause = absurd cause
   circuit_cause faults later a c (Fault (Aig kind) place) cause = λ t d.
-      fault_due y stimulus kind place
-      (subst (λ (v : List ℕ). text_fault v ≡ Some (kind, place)) (e t) (cause t d))
+      fault_due start y stimulus kind place
+      (subst (λ (v : List ℕ). text_fault start v ≡ Some (kind, place)) (e t) (cause t d))
   circuit_cause faults later a c Read cause = cause
   circuit_cause faults later a c Write cause = absurd cause
   circuit_cause faults later a c (Em fault) cause = cause
 
   pub circuit_full : (faults later : Faults) (a c : RigState) (stop : Stop)
-      → CircuitCause tells x faults later a c stop
+      → CircuitCause start tells x faults later a c stop
       → IfStopsFull stop (λ used. used ≡ c.blocks)
   circuit_full faults later a c (Fault kind place) cause = tt
   circuit_full faults later a c Read cause = tt
@@ -124,15 +124,15 @@ module _ (tells : Bool) (x y stimulus : List ℕ) (e : IsTrue tells → x ≡ y)
   -- what was moved until then, by the transfer cost
   pub circuit_keeps : (slots : Slot → SlotState) (a c : RigState) → IsShape a.pool.shape
       → (IsTrue tells → IsTrue a.device.told → c.moves ≤ a.moves
-      + circuit_moves a.pool.shape (circuit_read (slots First) x) (passes_read x))
-      → KeepsEval tells y stimulus slots a c
+      + circuit_moves a.pool.shape (circuit_read start (slots First) x) (passes_read start x))
+      → KeepsEval start tells y stimulus slots a c
   circuit_keeps slots a c is moves = λ t d.
-      let size = circuit_read (slots First) y in
-      let steps = steps_read y (slots Second) stimulus in
-      let passes = passes_read y in
+      let size = circuit_read start (slots First) y in
+      let steps = steps_read start y (slots Second) stimulus in
+      let passes = passes_read start y in
       let own : c.moves ≤ a.moves + circuit_moves a.pool.shape size passes =
       subst (λ (v : List ℕ). c.moves ≤ a.moves
-      + circuit_moves a.pool.shape (circuit_read (slots First) v) (passes_read v)) (e t) (moves t d) in
+      + circuit_moves a.pool.shape (circuit_read start (slots First) v) (passes_read start v)) (e t) (moves t d) in
       part_within c.moves a.moves (circuit_moves a.pool.shape size passes)
       (making_moves a.pool.shape size + steps_moves a.pool.shape size steps)
       (eval_cost a.pool.shape size steps passes) own
@@ -142,19 +142,19 @@ module _ (tells : Bool) (x y stimulus : List ℕ) (e : IsTrue tells → x ≡ y)
       (rule : IsRule IsState took) (old new : Outside) (ok : IsState old.output)
       (same : new.output ≡ old.output) where
     -- nothing was printed
-    part_none : SentPart took old.output (eval_output y stimulus) new.output
-    part_none = part-of (sent-nothing rule ok (eval_output y stimulus) same)
+    part_none : SentPart took old.output (eval_output start y stimulus) new.output
+    part_none = part-of (sent-nothing rule ok (eval_output start y stimulus) same)
 
     pub circuit_stopped : (faults later : Faults) (a c : RigState) (stop : Stop)
-        → old.device ≡ a.device → CircuitCause tells x faults later a c stop
-        → Stopped tells took (asked_of_eval y stimulus) old new stop
+        → old.device ≡ a.device → CircuitCause start tells x faults later a c stop
+        → Stopped tells took (asked_of_eval start y stimulus) old new stop
     circuit_stopped faults later a c (Fault (Text kind) line) before cause = absurd cause
     circuit_stopped faults later a c (Fault (Aig kind) place) before cause = record {
       fault = λ t d.
           let first = cause t (subst (λ (v : DeviceState). IsTrue v.told) before d) in
           same ∙ sym (rule.nothing old.output ok)
-          ∙ ap (took old.output) (sym (nothing_due y stimulus kind place
-          (subst (λ (v : List ℕ). text_fault v ≡ Some (kind, place)) (e t) first)));
+          ∙ ap (took old.output) (sym (nothing_due start y stimulus kind place
+          (subst (λ (v : List ℕ). text_fault start v ≡ Some (kind, place)) (e t) first)));
       part = λ t d. part_none;
     }
     circuit_stopped faults later a c Read before cause =
@@ -165,37 +165,37 @@ module _ (tells : Bool) (x y stimulus : List ℕ) (e : IsTrue tells → x ≡ y)
 
 -- The circuit was read, and steps were made: `z` is what the second slot had left when it was opened,
 -- and `w` that file's text.
-module _ (tells told : Bool) (x y z w : List ℕ) (m : RigState) (o : Ordered)
+module _ {start : Option ℕ} (tells told : Bool) (x y z w : List ℕ) (m : RigState) (o : Ordered)
     (e : IsTrue tells → x ≡ y) (f : IsTrue tells → z ≡ w)
-    (spells : IsTrue tells → SpellsEdges told x m o) where
+    (spells : IsTrue tells → SpellsEdges start told x m o) where
   reads_file : (t : IsTrue tells)
-      → either_text 0 y ≡ Reads (spells t).circuit (spells t).place []
+      → either_text start 0 y ≡ Reads (spells t).circuit (spells t).place []
   reads_file t =
-      subst (λ (v : List ℕ). either_text 0 v ≡ Reads (spells t).circuit (spells t).place []) (e t)
+      subst (λ (v : List ℕ). either_text start 0 v ≡ Reads (spells t).circuit (spells t).place []) (e t)
       (spells t).reads
 
   -- the circuit has no fault
-  pub none_first : IsTrue tells → IsTrue told → text_fault y ≡ None
-  none_first t d = text_none y (spells t).circuit (spells t).place [] (reads_file t)
+  pub none_first : IsTrue tells → IsTrue told → text_fault start y ≡ None
+  none_first t d = text_none start y (spells t).circuit (spells t).place [] (reads_file t)
       ((spells t).orders d).is.ordered.faultless
 
   -- the status is that of the stimulus's first fault, or of none
   pub status_after : (fault : Option (AigKind × ℕ)) → IsTrue tells → IsTrue told
-      → (stimulus_of o.header.inputs z).fault ≡ fault → eval_status y w ≡ aig_status fault
+      → (stimulus_of o.header.inputs z).fault ≡ fault → eval_status start y w ≡ aig_status fault
   status_after fault t d h =
       let here : (stimulus_of o.header.inputs w).fault ≡ fault =
       subst (λ (v : List ℕ). (stimulus_of o.header.inputs v).fault ≡ fault) (f t) h in
       let own : (stimulus_of (spells t).circuit.header.inputs w).fault ≡ fault =
       subst (λ (v : Header). (stimulus_of v.inputs w).fault ≡ fault) (sym (spells t).header) here in
-      steps_due y w (spells t).circuit (spells t).place [] (none_first t d) (reads_file t)
+      steps_due start y w (spells t).circuit (spells t).place [] (none_first t d) (reads_file t)
       ∙ ap aig_status own
 
   -- the output is the lines of the steps
-  pub lines_after : (t : IsTrue tells) → IsTrue told → eval_output y w
+  pub lines_after : (t : IsTrue tells) → IsTrue told → eval_output start y w
       ≡ output_lines (run_of (spells t).circuit (stimulus_of o.header.inputs z).steps)
   lines_after t d =
       let c = (spells t).circuit in
-      lines_due y w c (spells t).place [] (none_first t d) (reads_file t)
+      lines_due start y w c (spells t).place [] (none_first t d) (reads_file t)
       ∙ ap (λ (v : Header). output_lines (run_of c (stimulus_of v.inputs w).steps)) (spells t).header
       ∙ ap (λ (v : List ℕ). output_lines (run_of c (stimulus_of o.header.inputs v).steps)) (sym (f t))
 
@@ -203,7 +203,7 @@ module _ (tells told : Bool) (x y z w : List ℕ) (m : RigState) (o : Ordered)
       → a.device.told ≡ told → Touches [] a m
       → (IsTrue tells → EndsSteps (stimulus_of o.header.inputs z) (Err stop))
       → StepsCause faults later m c stop
-      → RunCause tells (asked_of_eval y w) faults later a c stop
+      → RunCause tells (asked_of_eval start y w) faults later a c stop
   steps_cause faults later a c (Fault (Text kind) line) same touches ends cause =
       λ t d. absurd (ends t)
   steps_cause faults later a c (Fault (Aig kind) place) same touches ends cause = λ t d.
@@ -224,31 +224,31 @@ module _ (tells told : Bool) (x y z w : List ℕ) (m : RigState) (o : Ordered)
 
   -- what was moved, by the transfer cost
   pub steps_keep : (slots : Slot → SlotState) (a c : RigState) → Sound a → Touches [] a m
-      → (IsTrue tells → circuit_size o.header ≤ circuit_read (slots First) x)
+      → (IsTrue tells → circuit_size o.header ≤ circuit_read start (slots First) x)
       → (IsTrue tells → IsTrue a.device.told → m.moves ≤ a.moves
-      + circuit_moves a.pool.shape (circuit_read (slots First) x) (passes_read x))
+      + circuit_moves a.pool.shape (circuit_read start (slots First) x) (passes_read start x))
       → (IsTrue tells → IsTrue m.device.told → c.moves ≤ m.moves
       + (making_moves m.pool.shape (circuit_size o.header)
       + steps_moves m.pool.shape (circuit_size o.header)
       (steps_of o.header.inputs z (slots Second))))
-      → KeepsEval tells y w slots a c
+      → KeepsEval start tells y w slots a c
   steps_keep slots a c sound touches small first then = λ t d.
       let slot = slots Second in
       let n = steps_of o.header.inputs z slot in
-      let read = circuit_read (slots First) y in
-      let passes = passes_read y in
+      let read = circuit_read start (slots First) y in
+      let passes = passes_read start y in
       let shape = a.pool.shape in
-      let count : steps_read y slot w ≡ n =
-      steps_counted y w (spells t).circuit (spells t).place [] slot (reads_file t)
+      let count : steps_read start y slot w ≡ n =
+      steps_counted start y w (spells t).circuit (spells t).place [] slot (reads_file t)
       ∙ ap (λ (v : Header). steps_begun v.inputs (given_of slot w) w) (spells t).header
       ∙ ap (λ (v : List ℕ). steps_of o.header.inputs v slot) (sym (f t)) in
       let large : circuit_size o.header ≤ read =
-      subst (λ (v : List ℕ). circuit_size o.header ≤ circuit_read (slots First) v) (e t) (small t) in
+      subst (λ (v : List ℕ). circuit_size o.header ≤ circuit_read start (slots First) v) (e t) (small t) in
       let low = sound.shape.block_low in
       let some : 0 < payload_of shape = omega (arith, low) in
       let own : m.moves ≤ a.moves + circuit_moves shape read passes =
       subst (λ (v : List ℕ). m.moves ≤ a.moves
-      + circuit_moves shape (circuit_read (slots First) v) (passes_read v)) (e t) (first t d) in
+      + circuit_moves shape (circuit_read start (slots First) v) (passes_read start v)) (e t) (first t d) in
       let size = circuit_size o.header in
       let steps : c.moves ≤ m.moves + (making_moves shape size + steps_moves shape size n) =
       subst (λ (v : ShapeNumbers). c.moves ≤ m.moves + (making_moves v size + steps_moves v size n))
@@ -271,7 +271,7 @@ module _ (tells told : Bool) (x y z w : List ℕ) (m : RigState) (o : Ordered)
     pub steps_stopped : (stop : Stop) → ((t : IsTrue tells) → IsTrue told → PrintsAll took
         (output_lines (run_of (spells t).circuit (stimulus_of o.header.inputs z).steps))
         old.output new.output (Err stop))
-        → Stopped tells took (asked_of_eval y w) old new stop
+        → Stopped tells took (asked_of_eval start y w) old new stop
     steps_stopped stop p = record {
       fault = λ t d. subst (λ (v : List ℕ). OnFault stop (new.output ≡ took old.output v))
           (sym (lines_after t (told_here old same d))) (p t (told_here old same d)).all;
@@ -284,9 +284,9 @@ module _ (tells told : Bool) (x y z w : List ℕ) (m : RigState) (o : Ordered)
         (output_lines (run_of (spells t).circuit (stimulus_of o.header.inputs z).steps))
         old.output new.output (Ok tt))
         → (IsTrue tells → EndsSteps (stimulus_of o.header.inputs z) (Ok tt))
-        → KeepsMoves tells (asked_of_eval y w) shape old new
-        → Ended tells took (asked_of_eval y w) shape blocks old new Done
-    steps_done p ends kept = ended_due (asked_of_eval y w) Done done_whole
+        → KeepsMoves tells (asked_of_eval start y w) shape old new
+        → Ended tells took (asked_of_eval start y w) shape blocks old new Done
+    steps_done p ends kept = ended_due (asked_of_eval start y w) Done done_whole
         (λ t d. sym (status_after None t (told_here old same d) (ends t)))
         (λ t d. subst (λ (v : List ℕ). new.output ≡ took old.output v)
         (sym (lines_after t (told_here old same d))) (p t (told_here old same d)).all)

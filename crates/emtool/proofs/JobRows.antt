@@ -1,5 +1,5 @@
 -- Worked words: what the definition of the job says of them.
-use Rattle.std.specs.Prelude.{◌≡◌, ℕ, List, [], ◌∷◌, ◌++◌, Bool, true, false, codes, map, refl, Ok, Result}
+use Rattle.std.specs.Prelude.{◌≡◌, ℕ, List, [], ◌∷◌, ◌++◌, Bool, true, false, codes, map, refl, Ok, Result, None, Some}
 use Rattle.emtool.specs.declared.job.Job.{Job}
 use Rattle.emtool.specs.declared.job.Origin.{Origin}
 use Rattle.emtool.specs.declared.job.Origin.TheVariants.{Files, Made}
@@ -70,13 +70,49 @@ another_command : job_of (codes "evaluate" ∷ codes "a" ∷ codes "b" ∷ []) �
 another_command = refl
 
 a_plain_evaluation : job_of (codes "eval" ∷ codes "a" ∷ codes "b" ∷ [])
-    ≡ job_of_task Eval 1024 256 1048576 false 1
+    ≡ job_of_task (Eval None) 1024 256 1048576 false 1
 a_plain_evaluation = refl
 
 an_evaluation_of_64_frames :
     job_of (codes "eval" ∷ codes "--frames=64" ∷ codes "a" ∷ codes "--stats" ∷ [])
-    ≡ job_of_task Eval 1024 64 1048576 false 2
+    ≡ job_of_task (Eval None) 1024 64 1048576 false 2
 an_evaluation_of_64_frames = refl
+
+an_evaluation_from_1 :
+    job_of (codes "eval" ∷ codes "--uninit=1" ∷ codes "a" ∷ codes "b" ∷ [])
+    ≡ job_of_task (Eval (Some true)) 1024 256 1048576 false 2
+an_evaluation_from_1 = refl
+
+an_evaluation_from_0 :
+    job_of (codes "eval" ∷ codes "--stats" ∷ codes "--uninit=0" ∷ codes "a" ∷ codes "b" ∷ [])
+    ≡ job_of_task (Eval (Some false)) 1024 256 1048576 true 3
+an_evaluation_from_0 = refl
+
+an_evaluation_from_2 : job_of (codes "eval" ∷ codes "--uninit=2" ∷ codes "a" ∷ codes "b" ∷ [])
+    ≡ refused BadValue 1
+an_evaluation_from_2 = refl
+
+an_evaluation_from_none : job_of (codes "eval" ∷ codes "--uninit" ∷ codes "a" ∷ codes "b" ∷ [])
+    ≡ refused BadValue 1
+an_evaluation_from_none = refl
+
+a_map_from_1 : map_of (codes "--uninit=1" ∷ codes "a" ∷ []) ≡ refused UnknownOption 1
+a_map_from_1 = refl
+
+-- among made texts, where it is no option, twice, and with two digits
+a_made_circuit_from_1 :
+    job_of (codes "gen" ∷ codes "--uninit=1" ∷ codes "eval" ∷ codes "1" ∷ codes "2" ∷ [])
+    ≡ refused UnknownOption 1
+a_made_circuit_from_1 = refl
+
+an_evaluation_from_both :
+    job_of (codes "eval" ∷ codes "--uninit=1" ∷ codes "--uninit=0" ∷ codes "a" ∷ codes "b" ∷ [])
+    ≡ refused RepeatedOption 2
+an_evaluation_from_both = refl
+
+an_evaluation_from_00 : job_of (codes "eval" ∷ codes "--uninit=00" ∷ codes "a" ∷ codes "b" ∷ [])
+    ≡ refused BadValue 1
+an_evaluation_from_00 = refl
 
 an_evaluation_of_one_operand : job_of (codes "eval" ∷ codes "--stats" ∷ codes "a" ∷ [])
     ≡ refused MissingOperand 3
@@ -115,7 +151,7 @@ jobs_made : MakesJobs (
       codes "stab" ∷ codes "18446744073709551615" ∷ codes "1073741824" ∷ [],
       made (Answer Stab) 18446744073709551615 1073741824,
     )
-    ∷ (codes "eval" ∷ codes "00000000000000000007" ∷ codes "02" ∷ [], made Eval 7 2)
+    ∷ (codes "eval" ∷ codes "00000000000000000007" ∷ codes "02" ∷ [], made (Eval None) 7 2)
     ∷ (
       codes "--block=128" ∷ codes "--stats" ∷ codes "map" ∷ codes "1" ∷ codes "8" ∷ [],
       job_on (Answer Map) (Made 1 8) 128 64 1048576 true 3,

@@ -16,6 +16,7 @@ use Rattle.emtool.specs.declared.status.Status.TheVariants as status
 use Rattle.emtool.specs.declared.stop.Stop.{Stop}
 use Rattle.emtool.specs.declared.stop.Stop.TheVariants.{Fault, Read, Write, Em}
 use Rattle.emtool.specs.declared.text.FileKind.{FileKind}
+use Rattle.emtool.specs.Job.{start_of}
 
 -- what holds holds at any end
 pub on_end : (s : Status) (P : Type 0) → P → OnEnd s P
@@ -54,7 +55,7 @@ module _ (tells told : Bool) (kind : FileKind) (name : List ℕ) (a b : Stand) (
         sym (ap (λ (x : Bool). x || is_none (a.text First name)) fresh.first.lost) ∙ sym (lost t) ∙ l
 
     -- It isn't there, or the shelf failed.
-    pub opens_missing : OpensNamed tells told names a b ReadFault
+    pub opens_missing : OpensNamed None tells told names a b ReadFault
     opens_missing = record {
       texts = leaves.text;
       others = others;
@@ -88,7 +89,7 @@ module _ (tells told : Bool) (kind : FileKind) (name : List ℕ) (a b : Stand) (
       some_text : IsTrue tells → IsSome (a.text First name)
       some_text t = rw (whole t) refl
 
-      pub opens_file : (s : Status) → OpensNamed tells told names a c s
+      pub opens_file : (s : Status) → OpensNamed None tells told names a c s
       opens_file s = record {
         texts = reads.leaves.text ∙ leaves.text;
         others = others;
@@ -160,16 +161,16 @@ not_done (Em (em.Full used)) P = tt
 not_done (Em (em.Damaged block)) P = tt
 
 -- What an evaluation does to a shelf, from what it does to each slot.
-pub opens_eval : (tells told : Bool) (circuit stimulus : List ℕ) (a e : Stand) (s : Status)
+pub opens_eval : (uninit : Option Bool) (tells told : Bool) (circuit stimulus : List ℕ) (a e : Stand) (s : Status)
     → e.text ≡ a.text
     → (IsTrue tells → (e.slot First).lost ≡ true → is_none (a.text First circuit) ≡ true)
     → (IsTrue tells → (e.slot Second).lost ≡ true → is_none (a.text Second stimulus) ≡ true)
     → (IsTrue tells → OnEnd s (IsSome (a.text First circuit)))
     → (IsTrue tells → OnDone s (IsSome (a.text Second stimulus)))
     → (IsTrue tells → IsTrue told → (e.slot Second).opened ≡ true
-    → text_fault (text_in a First (Some circuit)) ≡ None)
-    → OpensNamed tells told (names_of Eval circuit stimulus) a e s
-opens_eval tells told circuit stimulus a e s text first second end done faultless = record {
+    → text_fault (start_of uninit) (text_in a First (Some circuit)) ≡ None)
+    → OpensNamed (start_of uninit) tells told (names_of (Eval uninit) circuit stimulus) a e s
+opens_eval uninit tells told circuit stimulus a e s text first second end done faultless = record {
   texts = text;
   others = others;
   lost = lost_of;
@@ -178,24 +179,24 @@ opens_eval tells told circuit stimulus a e s text first second end done faultles
   second = faultless;
 }
   where
-    others : (slot : Slot) → IsNone (names_of Eval circuit stimulus slot)
+    others : (slot : Slot) → IsNone (names_of (Eval uninit) circuit stimulus slot)
         → e.slot slot ≡ a.slot slot
     others First n = cc
     others Second n = cc
 
     lost_of : (slot : Slot) → IsTrue tells → (e.slot slot).lost ≡ true
-        → IfSome (names_of Eval circuit stimulus slot) (λ n. is_none (a.text slot n) ≡ true)
+        → IfSome (names_of (Eval uninit) circuit stimulus slot) (λ n. is_none (a.text slot n) ≡ true)
     lost_of First t l = first t l
     lost_of Second t l = second t l
 
     there : (slot : Slot) → IsTrue tells
-        → IfSome (names_of Eval circuit stimulus slot) (λ n. OnDone s (IsSome (a.text slot n)))
+        → IfSome (names_of (Eval uninit) circuit stimulus slot) (λ n. OnDone s (IsSome (a.text slot n)))
     there First t = done_end s (IsSome (a.text First circuit)) (end t)
     there Second t = done t
 
 -- Both slots were read to their ends, if all was done.
-pub reads_both : (tells : Bool) (circuit stimulus : List ℕ) (e : Stand) (s : Status)
+pub reads_both : (uninit : Option Bool) (tells : Bool) (circuit stimulus : List ℕ) (e : Stand) (s : Status)
     → OnDone s (IsAllRead tells (e.slot First)) → OnDone s (IsAllRead tells (e.slot Second))
-    → ReadsNamed tells (names_of Eval circuit stimulus) e s
-reads_both tells circuit stimulus e s first second First = first
-reads_both tells circuit stimulus e s first second Second = second
+    → ReadsNamed tells (names_of (Eval uninit) circuit stimulus) e s
+reads_both uninit tells circuit stimulus e s first second First = first
+reads_both uninit tells circuit stimulus e s first second Second = second

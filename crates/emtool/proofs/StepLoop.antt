@@ -153,13 +153,13 @@ owed_more : (steps each owed now : ℕ) → owed ≡ steps * each → now ≡ ea
 owed_more steps each owed now e f = omega (arith, e, f)
 
 -- all calls are few
-calls_few : (x k n : ℕ) → x ≤ 2 ^ 43 → k ≤ 2 ^ 50 → n ≤ x * k → n + x < 2 ^ 100
+calls_few : (x k n : ℕ) → x ≤ 2 ^ 44 → k ≤ 2 ^ 50 → n ≤ x * k → n + x < 2 ^ 100
 calls_few x k n low few h =
     let more = times_rises x k (2 ^ 50) few in omega (arith, more)
 
 -- and so are those of a step
-edges_few : (h : Header) → IsHeader h → 2 * edge_count h ≤ 2 ^ 43
-edges_few h i = omega (arith, i.latches, i.outputs, i.gates)
+edges_few : (h : Header) → IsHeader h → 2 * edge_count h ≤ 2 ^ 44
+edges_few h i = omega (arith, i.latches, i.outputs, i.bads, i.constraints, i.gates)
 
 -- Calls that owed this many moves more, and owe them still.
 pub beside_owing : {i p m n owed : ℕ} {held ks : List ℕ} {c d : QueueCounts} {s t : RigState}

@@ -1,6 +1,6 @@
 -- A run that read its texts whole may hold no fewer blocks, and make no fewer moves, than one that stopped
 -- in them.
-use Rattle.std.proofs.Common.{IfSome, ℕ, zero, suc, ◌-◌, ◌≤◌, Bool, true, false, cond, List, [], ◌∷◌, length, take, arith}
+use Rattle.std.proofs.Common.{IfSome, ℕ, zero, suc, ◌-◌, ◌≤◌, Bool, true, false, cond, List, [], ◌∷◌, length, take, arith, Option}
 use Rattle.std.specs.List.{sum_by}
 use Rattle.std.proofs.lemmas.List.Sums.{sum_by-append}
 use Rattle.em_record.specs.Cost.{cost}
@@ -27,6 +27,7 @@ use Rattle.emtool.specs.declared.text.FileKind.{FileKind}
 use Rattle.emtool.specs.declared.text.FileKind.TheVariants.{Map, Queue, Stab}
 use Rattle.emtool.proofs.EvalCosts.{eval_cost_rises}
 use Rattle.emtool.proofs.ReadLaws.{within_grows}
+use Rattle.emtool.specs.Job.{start_of}
 
 -- more commands report no fewer pairs
 pairs_rise : (xs : List NumberedInterval) (cs : List Command) (m n : ℕ) → m ≤ n
@@ -84,22 +85,22 @@ file_rises kind shape text left = cost_rises shape (run_size kind text left) (ru
     (size_rises kind text left [] (omega arith))
 
 -- nor is that of an evaluation of whole texts
-eval_rises : (shape : ShapeNumbers) (circuit stimulus : List ℕ) (slots : Slot → SlotState)
-    → eval_cost shape (circuit_read (slots First) circuit)
-    (steps_read circuit (slots Second) stimulus) (passes_read circuit)
-    ≤ eval_cost shape (circuit_read read_whole circuit) (steps_read circuit read_whole stimulus)
-    (passes_read circuit)
-eval_rises shape circuit stimulus slots =
-    let size : circuit_read (slots First) circuit ≤ circuit_read read_whole circuit =
-    text_size_rises (given_of (slots First) circuit) (given_of read_whole circuit) circuit
+eval_rises : (start : Option ℕ) (shape : ShapeNumbers) (circuit stimulus : List ℕ) (slots : Slot → SlotState)
+    → eval_cost shape (circuit_read start (slots First) circuit)
+    (steps_read start circuit (slots Second) stimulus) (passes_read start circuit)
+    ≤ eval_cost shape (circuit_read start read_whole circuit) (steps_read start circuit read_whole stimulus)
+    (passes_read start circuit)
+eval_rises start shape circuit stimulus slots =
+    let size : circuit_read start (slots First) circuit ≤ circuit_read start read_whole circuit =
+    text_size_rises start (given_of (slots First) circuit) (given_of read_whole circuit) circuit
     (given_most (slots First) circuit) in
-    let steps : steps_read circuit (slots Second) stimulus
-    ≤ steps_read circuit read_whole stimulus =
-    steps_rise (either_text 0 circuit) (given_of (slots Second) stimulus)
+    let steps : steps_read start circuit (slots Second) stimulus
+    ≤ steps_read start circuit read_whole stimulus =
+    steps_rise (either_text start 0 circuit) (given_of (slots Second) stimulus)
     (given_of read_whole stimulus) stimulus (given_most (slots Second) stimulus) in
-    eval_cost_rises shape (circuit_read (slots First) circuit) (circuit_read read_whole circuit)
-    (steps_read circuit (slots Second) stimulus) (steps_read circuit read_whole stimulus)
-    (passes_read circuit) size steps
+    eval_cost_rises shape (circuit_read start (slots First) circuit) (circuit_read start read_whole circuit)
+    (steps_read start circuit (slots Second) stimulus) (steps_read start circuit read_whole stimulus)
+    (passes_read start circuit) size steps
 
 -- No fewer blocks for whole texts.
 pub most_rises : (task : Task) (texts : Slot → List ℕ) (shape : ShapeNumbers)
@@ -108,12 +109,12 @@ pub most_rises : (task : Task) (texts : Slot → List ℕ) (shape : ShapeNumbers
     ≤ (asked_of task texts).most shape (λ slot. read_whole)
 most_rises (Answer kind) texts shape slots =
     let more = file_rises kind shape (texts First) (slots First).left in omega (arith, more)
-most_rises Eval texts shape slots =
-    let more = eval_rises shape (texts First) (texts Second) slots in omega (arith, more)
+most_rises (Eval start) texts shape slots =
+    let more = eval_rises (start_of start) shape (texts First) (texts Second) slots in omega (arith, more)
 
 -- Nor fewer moves.
 pub moves_rise : (task : Task) (texts : Slot → List ℕ) (shape : ShapeNumbers)
     (slots : Slot → SlotState) → IfSome (asked_of task texts).moves
     (λ f. f shape slots ≤ f shape (λ slot. read_whole))
 moves_rise (Answer kind) texts shape slots = file_rises kind shape (texts First) (slots First).left
-moves_rise Eval texts shape slots = eval_rises shape (texts First) (texts Second) slots
+moves_rise (Eval start) texts shape slots = eval_rises (start_of start) shape (texts First) (texts Second) slots

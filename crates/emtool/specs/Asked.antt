@@ -14,6 +14,7 @@ use Rattle.emtool.specs.declared.job.Task.TheVariants.{Answer, Eval}
 use Rattle.emtool.specs.declared.status.Status.{Status}
 use Rattle.emtool.specs.declared.text.FileKind.{FileKind}
 use Rattle.emtool.specs.declared.text.FileKind.TheVariants.{Map, Queue, Stab}
+use Rattle.emtool.specs.Job.{start_of}
 
 -- The status and the output that are due at the end; the most moves that the run may make, if it is held
 -- to a number; and the most blocks that it may hold. Both are by the shape and by how far each slot was
@@ -78,19 +79,19 @@ asked_of_file kind text = asked_by by_cost kind text
 
 -- What an evaluation asks, by the texts of the circuit and of the stimulus. Whether the circuit has
 -- a fault is found from what the device gives back.
-abbrev pub asked_of_eval : List ℕ → List ℕ → Asked
-asked_of_eval circuit stimulus = record {
-  status = eval_status circuit stimulus;
+abbrev pub asked_of_eval : Option ℕ → List ℕ → List ℕ → Asked
+asked_of_eval start circuit stimulus = record {
+  status = eval_status start circuit stimulus;
   status_told = true;
-  output = eval_output circuit stimulus;
-  moves = Some (λ shape slots. eval_cost shape (circuit_read (slots First) circuit)
-      (steps_read circuit (slots Second) stimulus) (passes_read circuit));
-  most = λ shape slots. eval_cost shape (circuit_read (slots First) circuit)
-      (steps_read circuit (slots Second) stimulus) (passes_read circuit) + 2 * shape.frames;
+  output = eval_output start circuit stimulus;
+  moves = Some (λ shape slots. eval_cost shape (circuit_read start (slots First) circuit)
+      (steps_read start circuit (slots Second) stimulus) (passes_read start circuit));
+  most = λ shape slots. eval_cost shape (circuit_read start (slots First) circuit)
+      (steps_read start circuit (slots Second) stimulus) (passes_read start circuit) + 2 * shape.frames;
   most_told = true;
 }
 
 -- what a task asks, by the text of each slot
 abbrev pub asked_of : Task → (Slot → List ℕ) → Asked
 asked_of (Answer kind) texts = asked_of_file kind (texts First)
-asked_of Eval texts = asked_of_eval (texts First) (texts Second)
+asked_of (Eval start) texts = asked_of_eval (start_of start) (texts First) (texts Second)

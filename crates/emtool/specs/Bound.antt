@@ -11,14 +11,15 @@ use Rattle.emtool.specs.RunSize.{run_size}
 use Rattle.emtool.specs.declared.job.Job.{Job}
 use Rattle.emtool.specs.declared.job.Task.{Task}
 use Rattle.emtool.specs.declared.job.Task.TheVariants.{Answer, Eval}
+use Rattle.emtool.specs.Job.{start_of}
 
 -- the transfer cost of a run's size, by the text of each slot and how far it was read
 abbrev pub transfer_bound : Task → ShapeNumbers → (Slot → List ℕ) → (Slot → SlotState) → ℕ
 transfer_bound (Answer kind) shape texts slots =
     cost shape (run_size kind (texts First) (slots First).left)
-transfer_bound Eval shape texts slots =
-    eval_cost shape (circuit_read (slots First) (texts First))
-    (steps_read (texts First) (slots Second) (texts Second)) (passes_read (texts First))
+transfer_bound (Eval start) shape texts slots =
+    eval_cost shape (circuit_read (start_of start) (slots First) (texts First))
+    (steps_read (start_of start) (texts First) (slots Second) (texts Second)) (passes_read (start_of start) (texts First))
 
 -- the blocks that are enough for a run: its transfer cost, and four for each frame
 abbrev pub stated_room : Job → (Slot → List ℕ) → (Slot → SlotState) → ℕ

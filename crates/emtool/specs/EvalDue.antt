@@ -21,27 +21,27 @@ abbrev pub steps_for : Reading Circuit → List ℕ → Stimulus
 steps_for (Reads c p x) stimulus = stimulus_of c.header.inputs stimulus
 steps_for (Fails kind place) stimulus = no_steps
 
--- a line for each step: the outputs of a circuit that was read
+-- a line for each step: the columns of a circuit that was read
 abbrev pub lines_for : Reading Circuit → List (List Bool) → List ℕ
 lines_for (Reads c p x) steps = output_lines (run_of c steps)
 lines_for (Fails kind place) steps = []
 
 -- what is due, if this is the circuit's fault
-abbrev pub eval_status_for : Option (AigKind × ℕ) → List ℕ → List ℕ → Status
-eval_status_for None circuit stimulus =
-    aig_status (steps_for (either_text 0 circuit) stimulus).fault
-eval_status_for (Some fault) circuit stimulus = Malformed (Aig fault.0) fault.1
+abbrev pub eval_status_for : Option ℕ → Option (AigKind × ℕ) → List ℕ → List ℕ → Status
+eval_status_for start None circuit stimulus =
+    aig_status (steps_for (either_text start 0 circuit) stimulus).fault
+eval_status_for start (Some fault) circuit stimulus = Malformed (Aig fault.0) fault.1
 
-abbrev pub eval_output_for : Option (AigKind × ℕ) → List ℕ → List ℕ → List ℕ
-eval_output_for None circuit stimulus =
-    lines_for (either_text 0 circuit) (steps_for (either_text 0 circuit) stimulus).steps
-eval_output_for (Some fault) circuit stimulus = []
+abbrev pub eval_output_for : Option ℕ → Option (AigKind × ℕ) → List ℕ → List ℕ → List ℕ
+eval_output_for start None circuit stimulus =
+    lines_for (either_text start 0 circuit) (steps_for (either_text start 0 circuit) stimulus).steps
+eval_output_for start (Some fault) circuit stimulus = []
 
 -- the status: the circuit's first fault, else the stimulus's, else Done
-abbrev pub eval_status : List ℕ → List ℕ → Status
-eval_status circuit stimulus = eval_status_for (text_fault circuit) circuit stimulus
+abbrev pub eval_status : Option ℕ → List ℕ → List ℕ → Status
+eval_status start circuit stimulus = eval_status_for start (text_fault start circuit) circuit stimulus
 
 -- the output: nothing at a fault of the circuit, else the lines of the steps before the stimulus's
 -- first fault
-abbrev pub eval_output : List ℕ → List ℕ → List ℕ
-eval_output circuit stimulus = eval_output_for (text_fault circuit) circuit stimulus
+abbrev pub eval_output : Option ℕ → List ℕ → List ℕ → List ℕ
+eval_output start circuit stimulus = eval_output_for start (text_fault start circuit) circuit stimulus

@@ -18,8 +18,8 @@ abbrev pub given_of : SlotState → List ℕ → ℕ
 given_of slot text = if slot.ready then length text - length slot.left else 0
 
 -- E: the size of what was read of the circuit; the inputs of a binary text count once its header was
-abbrev pub circuit_read : SlotState → List ℕ → ℕ
-circuit_read slot text = text_size (given_of slot text) text
+abbrev pub circuit_read : Option ℕ → SlotState → List ℕ → ℕ
+circuit_read start slot text = text_size start (given_of slot text) text
 
 -- how many steps of a stimulus were begun, for a circuit that was read
 abbrev pub steps_after : Reading Circuit → ℕ → List ℕ → ℕ
@@ -27,9 +27,9 @@ steps_after (Reads c p x) given stimulus = steps_begun c.header.inputs given sti
 steps_after (Fails kind place) given stimulus = 0
 
 -- T: how many steps were begun
-abbrev pub steps_read : List ℕ → SlotState → List ℕ → ℕ
-steps_read circuit slot stimulus =
-    steps_after (either_text 0 circuit) (given_of slot stimulus) stimulus
+abbrev pub steps_read : Option ℕ → List ℕ → SlotState → List ℕ → ℕ
+steps_read start circuit slot stimulus =
+    steps_after (either_text start 0 circuit) (given_of slot stimulus) stimulus
 
 -- the passes over a circuit, or 0 if a variable is defined twice or used undefined
 abbrev pub passes_unless : Option (AigKind × ℕ) → ℕ → ℕ
@@ -43,8 +43,8 @@ passes_after (Reads c p x) = passes_unless (circuit_fault c) (passes_of c)
 passes_after (Fails kind place) = 0
 
 -- r: the passes over the gates
-abbrev pub passes_read : List ℕ → ℕ
-passes_read circuit = passes_after (either_text 0 circuit)
+abbrev pub passes_read : Option ℕ → List ℕ → ℕ
+passes_read start circuit = passes_after (either_text start 0 circuit)
 
 -- the transfer cost of an evaluation: (T + r + 2) times that of 2E records
 abbrev pub eval_cost : ShapeNumbers → ℕ → ℕ → ℕ → ℕ

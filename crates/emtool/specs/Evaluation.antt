@@ -1,5 +1,5 @@
 -- An evaluation, from the circuit in the first slot over the steps of the stimulus in the second.
-use Rattle.std.specs.Prelude.{◌≡◌, ℕ, ◌+◌, ◌-◌, ◌*◌, ◌<◌, ◌≤◌, ◌^◌, ◌⊎◌, Bool, List, [], false, max, IsTrue, Some, None, Result, Ok, Err, OnOk, IfErr}
+use Rattle.std.specs.Prelude.{◌≡◌, ℕ, ◌+◌, ◌-◌, ◌*◌, ◌<◌, ◌≤◌, ◌^◌, ◌⊎◌, Bool, Option, List, [], false, max, IsTrue, Some, None, Result, Ok, Err, OnOk, IfErr}
 use Rattle.em_record.specs.Count.{Rose}
 use Rattle.em_record.specs.Shape.{fan_of}
 use Rattle.em_io.specs.Shelf.{Leaves, SlotState, Stand}
@@ -20,7 +20,7 @@ use Rattle.aig_defs.specs.Items.{Reads}
 use Rattle.aig_defs.specs.Stimulus.{Stimulus, output_lines, steps_begun, stimulus_of}
 use Rattle.aig_defs.specs.TextFault.{either_text, text_fault}
 use Rattle.aig_defs.specs.Value.{run_from, run_of}
-use Rattle.aig_edges.specs.Graph.{IsOrdered, IsOrderedOf, edge_count, ordered_blocks}
+use Rattle.aig_edges.specs.Graph.{IsOrdered, IsOrderedOf, edge_count, ordered_blocks, ordered_size}
 use Rattle.aig_edges.specs.declared.graph.Ordered.{Ordered}
 use Rattle.aig_forward.specs.Evaluator.{Evaluates, HasEvaluatorFrames, IsEvaluator, evaluator_blocks}
 use Rattle.aig_forward.specs.Outputs.{KeepsFront}
@@ -38,36 +38,37 @@ use Rattle.emtool.specs.declared.stop.Stop.TheVariants.{Fault, Read, Write, Em}
 
 -- The text spells a circuit, whose header the edges have. If the device tells, it has no fault, and the
 -- edges are those between its ranks by (pass, variable), with the number of its passes.
-pub record SpellsEdges (told : Bool) (text : List ℕ) (t : RigState) (o : Ordered) : Type 0 where
+pub record SpellsEdges (start : Option ℕ) (told : Bool) (text : List ℕ) (t : RigState) (o : Ordered) : Type 0 where
   pub circuit : Circuit
   pub place : ℕ
-  pub reads : either_text 0 text ≡ Reads circuit place []
+  pub reads : either_text start 0 text ≡ Reads circuit place []
   pub header : circuit.header ≡ o.header
   pub orders : IsTrue told → OrdersCircuit t o circuit
 
--- Edges between ranks were made of the whole text, in a packed list, and all their blocks were stored.
-pub record MakesEdges {H : Type 0} (h : ShelfGhosts H) (s t : RigState) (shelf shelf_after : H)
+-- Edges between ranks were made of the whole text, in a packed list beside that of the resets, and all
+-- blocks were stored.
+pub record MakesEdges (start : Option ℕ) {H : Type 0} (h : ShelfGhosts H) (s t : RigState) (shelf shelf_after : H)
     (o : Ordered) : Type 0 where
   pub is : IsOrdered t o
   pub blocks : Session [] s t (ordered_blocks t o)
-  pub used : t.used ≡ o.edges.blocks
+  pub used : t.used ≡ ordered_size o
   pub packed : o.edges.blocks ≤ ceiling (edge_count o.header) (payload_in t)
   pub paid : (2 ^ 64 - 1 ≤ t.moves) ⊎ (t.used ≤ t.moves)
   pub spells : IsTrue h.tells
-      → SpellsEdges s.device.told ((h.stand shelf).slot First).left t o
+      → SpellsEdges start s.device.told ((h.stand shelf).slot First).left t o
   pub all_read : IsAllRead h.tells ((h.stand shelf_after).slot First)
   pub size : IsTrue h.tells → circuit_size o.header
-      ≤ circuit_read ((h.stand shelf_after).slot First) ((h.stand shelf).slot First).left
+      ≤ circuit_read start ((h.stand shelf_after).slot First) ((h.stand shelf).slot First).left
 
 -- why no edges were made: the first fault of the text, if shelf and device tell; the shelf's count of
 -- faults rose; or what a call on the rig says
-abbrev pub CircuitCause : Bool → List ℕ → Faults → Faults → RigState → RigState → Stop → Type 0
-CircuitCause tells text faults after old new (Fault (Text kind) line) = ⊥
-CircuitCause tells text faults after old new (Fault (Aig kind) place) =
-    IsTrue tells → IsTrue old.device.told → text_fault text ≡ Some (kind, place)
-CircuitCause tells text faults after old new Read = Rose faults.read after.read
-CircuitCause tells text faults after old new Write = ⊥
-CircuitCause tells text faults after old new (Em fault) = Cause old new fault
+abbrev pub CircuitCause : Option ℕ → Bool → List ℕ → Faults → Faults → RigState → RigState → Stop → Type 0
+CircuitCause start tells text faults after old new (Fault (Text kind) line) = ⊥
+CircuitCause start tells text faults after old new (Fault (Aig kind) place) =
+    IsTrue tells → IsTrue old.device.told → text_fault start text ≡ Some (kind, place)
+CircuitCause start tells text faults after old new Read = Rose faults.read after.read
+CircuitCause start tells text faults after old new Write = ⊥
+CircuitCause start tells text faults after old new (Em fault) = Cause old new fault
 
 -- What a full device says of an evaluation: its blocks are at most the moves and two for each frame,
 -- unless the count of moves stands at its end.
@@ -75,25 +76,25 @@ pub record FillsEval (new : RigState) (used : ℕ) : Type 0 where
   pub paid : (2 ^ 64 - 1 ≤ new.moves) ⊎ (used ≤ new.moves + 2 * new.pool.shape.frames)
 
 -- No edges were made.
-pub record StopsCircuit {H : Type 0} (h : ShelfGhosts H) (s t : RigState) (shelf shelf_after : H)
+pub record StopsCircuit (start : Option ℕ) {H : Type 0} (h : ShelfGhosts H) (s t : RigState) (shelf shelf_after : H)
     (stop : Stop) : Type 0 where
-  pub cause : CircuitCause h.tells ((h.stand shelf).slot First).left
+  pub cause : CircuitCause start h.tells ((h.stand shelf).slot First).left
       (fault_counts (h.faults shelf) 0) (fault_counts (h.faults shelf_after) 0) s t stop
   pub full : IfStopsFull stop (FillsEval t)
 
-abbrev pub AnswersCircuit : {H : Type 0} → ShelfGhosts H → RigState → RigState → H → H
+abbrev pub AnswersCircuit : Option ℕ → {H : Type 0} → ShelfGhosts H → RigState → RigState → H → H
     → Result Ordered Stop → Type 0
-AnswersCircuit h s t shelf shelf_after (Ok o) = MakesEdges h s t shelf shelf_after o
-AnswersCircuit h s t shelf shelf_after (Err stop) = StopsCircuit h s t shelf shelf_after stop
+AnswersCircuit start h s t shelf shelf_after (Ok o) = MakesEdges start h s t shelf shelf_after o
+AnswersCircuit start h s t shelf shelf_after (Err stop) = StopsCircuit start h s t shelf shelf_after stop
 
 -- The circuit in the first slot was read, as far as the answer says, and nothing else of the shelf. At
 -- every end the moves are those of a circuit of the size that was read.
-pub record ReadsCircuit {H : Type 0} (h : ShelfGhosts H) (s t : RigState) (shelf shelf_after : H)
+pub record ReadsCircuit (start : Option ℕ) {H : Type 0} (h : ShelfGhosts H) (s t : RigState) (shelf shelf_after : H)
     (result : Result Ordered Stop) : Type 0 where
-  pub answers : AnswersCircuit h s t shelf shelf_after result
+  pub answers : AnswersCircuit start h s t shelf shelf_after result
   pub moves : IsTrue h.tells → IsTrue s.device.told → t.moves ≤ s.moves + circuit_moves s.pool.shape
-      (circuit_read ((h.stand shelf_after).slot First) ((h.stand shelf).slot First).left)
-      (passes_read ((h.stand shelf).slot First).left)
+      (circuit_read start ((h.stand shelf_after).slot First) ((h.stand shelf).slot First).left)
+      (passes_read start ((h.stand shelf).slot First).left)
   pub reads : ReadsFirst h.tells (h.stand shelf) (h.stand shelf_after)
   pub later : h.faults shelf ≤ h.faults shelf_after
 
@@ -139,13 +140,13 @@ StepsCause faults after old new Read = Rose faults.read after.read
 StepsCause faults after old new Write = Rose faults.write after.write
 StepsCause faults after old new (Em fault) = Cause old new fault
 
--- An evaluation can begin: the blocks of these edges, in a packed list, are all that is in use, and were
--- stored.
+-- An evaluation can begin: the blocks of these edges and resets, in packed lists, are all that is in use,
+-- and were stored.
 pub record CanBegin (s : RigState) (o : Ordered) : Type 0 where
   pub sound : Sound s
   pub is : IsOrdered s o
   pub ready : IsReady s.pool
-  pub alone : s.used ≡ o.edges.blocks
+  pub alone : s.used ≡ ordered_size o
   pub packed : o.edges.blocks ≤ ceiling (edge_count o.header) (payload_in s)
   pub paid : (2 ^ 64 - 1 ≤ s.moves) ⊎ (s.used ≤ s.moves)
 
@@ -235,7 +236,7 @@ pub record PrintsAll (took : List ℕ → List ℕ → List ℕ) (lines old new 
   pub part : SentPart took old lines new
 
 -- An evaluation by these edges, which are all that is on the rig: as `PrintsSteps`, with nothing pending,
--- for a circuit in any order of its gates, from the state in which all latches are 0. At every end the
+-- for a circuit in any order of its gates, from the state in which each latch has its reset. At every end the
 -- moves are those of making an evaluator, and of the steps that were begun.
 pub record RunsSteps {H W : Type 0} (h : ShelfGhosts H) (w : SinkGhosts W) (s t : RigState)
     (o : Ordered) (shelf shelf_after : H) (out out_after : W) (result : Result (Unit {0}) Stop)

@@ -1,6 +1,6 @@
 -- The job that the words name, or their first refusal: docs/FORMATS.md, "Words". A word is the list
 -- of its bytes.
-use Rattle.std.specs.Prelude.{◌≡◌, ℕ, ◌+◌, ◌*◌, ◌/◌, ◌<◌, ◌≤◌, ◌^◌, List, [], ◌∷◌, if◌then◌else◌, codes, bytes_eq, get_or, length, map, min, nat_lt, Option, Some, None, String, string_bytes, Result, Ok, Err}
+use Rattle.std.specs.Prelude.{◌≡◌, ℕ, ◌+◌, ◌*◌, ◌/◌, ◌<◌, ◌≤◌, ◌^◌, ◌==◌, Bool, true, false, List, [], ◌∷◌, if◌then◌else◌, codes, bytes_eq, get_or, length, map, min, nat_lt, Option, Some, None, String, string_bytes, Result, Ok, Err}
 use Rattle.std.specs.Global.{Global}
 use Rattle.std.specs.Option.{option_map}
 use Rattle.em_record.specs.declared.fault.ShapeFault.{ShapeFault}
@@ -41,7 +41,7 @@ unless (Some usage) next = Err usage
 -- how many operands a task has: a name for each of its files
 abbrev pub operand_count : Task → ℕ
 operand_count (Answer kind) = 1
-operand_count Eval = 2
+operand_count (Eval start) = 2
 
 -- how many operands a command has: `gen` has a kind, a start and a count
 abbrev pub operands_wanted : Verb → ℕ
@@ -98,7 +98,37 @@ task_of word =
     if bytes_eq word (codes "map") then Some (Answer Map)
     else (if bytes_eq word (codes "queue") then Some (Answer Queue)
     else (if bytes_eq word (codes "stab") then Some (Answer Stab)
-    else (if bytes_eq word (codes "eval") then Some Eval else None)))
+    else (if bytes_eq word (codes "eval") then Some (Eval None) else None)))
+
+-- the bit with which an uninitialised latch begins, as a number
+abbrev pub start_of : Option Bool → Option ℕ
+start_of None = None
+start_of (Some bit) = Some (if bit then 1 else 0)
+
+-- the same of a task
+abbrev pub start_for : Task → Option ℕ
+start_for (Answer kind) = None
+start_for (Eval start) = start_of start
+
+-- a bit that a number says
+abbrev pub bit_said : ℕ → Option Bool
+bit_said value =
+    if value == 0 then Some false else (if value == 1 then Some true else None)
+
+-- the bit with which an uninitialised latch begins, if an option says it
+abbrev pub uninit_with : List (List ℕ) → Option Bool
+uninit_with options = bit_said (number_or (codes "--uninit") options 2)
+
+-- the task as the options say
+abbrev pub task_with : Task → List (List ℕ) → Task
+task_with (Answer kind) options = Answer kind
+task_with (Eval start) options = Eval (uninit_with options)
+
+-- whether a command evaluates a circuit of its files
+abbrev pub evaluates : Verb → Bool
+evaluates (Over (Answer kind)) = false
+evaluates (Over (Eval start)) = true
+evaluates Generate = false
 
 -- what the word of a command asks for
 abbrev pub verb_of : List ℕ → Option Verb
@@ -152,12 +182,12 @@ made_job words options file =
 
 -- the job of a command, by all words and by those that are options
 abbrev pub job_by : Verb → List (List ℕ) → List (List ℕ) → ℕ → Result Job Usage
-job_by (Over task) words options file = job_with task Files options file
+job_by (Over task) words options file = job_with (task_with task options) Files options file
 job_by Generate words options file = made_job words options file
 
 -- the job of these words, of which these are the options that stand after the command
 abbrev pub job_behind : Verb → List (List ℕ) → List (List ℕ) → Result Job Usage
-job_behind verb words options = unless (options_refusal [] options)
+job_behind verb words options = unless (options_refusal (evaluates verb) [] options)
     (operands_of (operands_wanted verb) (length options + 1) (length words)
     >>= λ file. job_by verb words options file)
 

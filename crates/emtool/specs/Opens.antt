@@ -21,7 +21,7 @@ ReadsNamed tells names new status =
 -- No text changed, and no slot that has no name. If the shelf tells, a slot is lost only if no file
 -- has its name; at Done each name is that of a file, and at Malformed the first one is. If the device
 -- tells too, the second slot, that of a stimulus, is opened only if the circuit has no fault.
-pub record OpensNamed (tells told : Bool) (names : Slot → Option (List ℕ)) (old new : Stand)
+pub record OpensNamed (start : Option ℕ) (tells told : Bool) (names : Slot → Option (List ℕ)) (old new : Stand)
     (status : Status) : Type 0 where
   pub texts : new.text ≡ old.text
   pub others : (slot : Slot) → IsNone (names slot) → new.slot slot ≡ old.slot slot
@@ -32,4 +32,4 @@ pub record OpensNamed (tells told : Bool) (names : Slot → Option (List ℕ)) (
   pub first : IsTrue tells
       → IfSome (names First) (λ name. OnEnd status (IsSome (old.text First name)))
   pub second : IsTrue tells → IsTrue told → (new.slot Second).opened ≡ true → IfSome (names Second)
-      (λ name. text_fault (text_in old First (names First)) ≡ None)
+      (λ name. text_fault start (text_in old First (names First)) ≡ None)

@@ -1,6 +1,6 @@
 -- The option words of a command: docs/FORMATS.md, "Words". A word is the list of its bytes, and its
 -- number is its place among all words, from 0.
-use Rattle.std.specs.Prelude.{ℕ, ◌+◌, ◌==◌, Bool, not, List, [], ◌∷◌, ◌++◌, if◌then◌else◌, codes, bytes_eq, get_or, is_some, length, nat_eq, option_and_then, position, unwrap_or, Option, Some, None}
+use Rattle.std.specs.Prelude.{ℕ, ◌+◌, ◌==◌, ◌||◌, Bool, not, List, [], ◌∷◌, ◌++◌, if◌then◌else◌, codes, bytes_eq, get_or, is_some, length, nat_eq, option_and_then, position, unwrap_or, Option, Some, None}
 use Rattle.std.specs.List.{after_first, before_first, list_any, starts_with}
 use Rattle.std.specs.Result.{result_ok}
 use Rattle.emtool.specs.declared.status.Usage.{Usage}
@@ -32,14 +32,15 @@ number_in word = number_of_word (after_first (λ byte. byte == 61) word)
 abbrev pub has_name : List ℕ → List ℕ → Bool
 has_name name word = bytes_eq (name_of word) name
 
--- the names of the options
+-- the names of the options that each command has
 abbrev pub option_names : List (List ℕ)
 option_names =
     codes "--block" ∷ codes "--frames" ∷ codes "--blocks" ∷ codes "--stats" ∷ []
 
--- the word is of an option
-abbrev pub is_known : List ℕ → Bool
-is_known word = list_any (λ name. has_name name word) option_names
+-- the name is one of an option; `--uninit` is one of a command that evaluates a circuit
+abbrev pub knows : Bool → List ℕ → Bool
+knows evaluates name = if bytes_eq name (codes "--uninit") then evaluates
+    else list_any (bytes_eq name) option_names
 
 -- the place, from 0, of the option of this name among these option words, if it stands there
 abbrev pub place_of : List ℕ → List (List ℕ) → Option ℕ
@@ -49,16 +50,19 @@ place_of name options = position (has_name name) options
 abbrev pub has_option : List ℕ → List (List ℕ) → Bool
 has_option name options = is_some (place_of name options)
 
--- the word of an option has the value that it wants: `--stats` none, and every other a number
+-- the word of an option has the value that it wants: `--stats` none, `--uninit` a bit, and every other a
+-- number
 abbrev pub has_value : List ℕ → Bool
 has_value word =
     if has_name (codes "--stats") word then bytes_eq word (codes "--stats")
-    else is_some (number_in word)
+    else (if has_name (codes "--uninit") word
+    then bytes_eq word (codes "--uninit=0") || bytes_eq word (codes "--uninit=1")
+    else is_some (number_in word))
 
 -- what is wrong with an option word after these earlier ones
-abbrev pub option_fault : List (List ℕ) → List ℕ → Option UsageKind
-option_fault earlier word =
-    if not (is_known word) then Some UnknownOption
+abbrev pub option_fault : Bool → List (List ℕ) → List ℕ → Option UsageKind
+option_fault evaluates earlier word =
+    if not (knows evaluates (name_of word)) then Some UnknownOption
     else (if has_option (name_of word) earlier then Some RepeatedOption
     else (if not (has_value word) then Some BadValue else None))
 
@@ -68,11 +72,11 @@ refused_or None number behind = behind
 refused_or (Some kind) number behind = Some (record { kind = kind; word = number })
 
 -- the first refusal among option words that stand after these earlier ones
-abbrev pub options_refusal : List (List ℕ) → List (List ℕ) → Option Usage
-options_refusal earlier [] = None
-options_refusal earlier (word ∷ words) =
-    refused_or (option_fault earlier word) (length earlier + 1)
-    (options_refusal (earlier ++ word ∷ []) words)
+abbrev pub options_refusal : Bool → List (List ℕ) → List (List ℕ) → Option Usage
+options_refusal evaluates earlier [] = None
+options_refusal evaluates earlier (word ∷ words) =
+    refused_or (option_fault evaluates earlier word) (length earlier + 1)
+    (options_refusal evaluates (earlier ++ word ∷ []) words)
 
 -- the number that the option of this name gives, or the default
 abbrev pub number_or : List ℕ → List (List ℕ) → ℕ → ℕ

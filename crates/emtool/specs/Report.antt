@@ -42,6 +42,10 @@ aig_kind_name aig.Cyclic = codes "Cyclic"
 aig_kind_name aig.StimLength = codes "StimLength"
 aig_kind_name aig.StimChar = codes "StimChar"
 aig_kind_name aig.TooLong = codes "TooLong"
+aig_kind_name aig.Uninit = codes "Uninit"
+aig_kind_name aig.Justice = codes "Justice"
+aig_kind_name aig.Fairness = codes "Fairness"
+aig_kind_name aig.BadReset = codes "BadReset"
 
 -- the name of what is wrong with an input
 abbrev pub malform_name : Malform → List ℕ

@@ -8,12 +8,13 @@
 //! unless the output failed (at a stop of shelf or rig the contract says a front of them). Left to
 //! the layers below: what a circuit, a step and a line are.
 
-ghost use Rattle.std.specs.Prelude.{◌≡◌, true, []};
+ghost use Rattle.std.specs.Prelude.{◌≡◌, ◌≤◌, true, [], IfSome};
 ghost use Rattle.em_io.specs.Shelf.{IsFresh};
 ghost use Rattle.em_space.specs.Rig.{Goes};
 ghost use Rattle.em_space.specs.Seen.{seen};
 ghost use Rattle.emtool.specs.Due.{names_of};
 ghost use Rattle.emtool.specs.Evaluation.{CanBegin, CanRunSteps, PrintsSteps, ReadsCircuit, RunsSteps, SendsRest};
+ghost use Rattle.emtool.specs.Job.{start_of};
 ghost use Rattle.emtool.specs.Run.{IsReady, RunsTask};
 ghost use Rattle.emtool.specs.Service.{IsUnused};
 
@@ -30,19 +31,36 @@ use em_io::{Feed, Printer, Shelf, Sink, Slot};
 use em_pqueue::ExtQueue;
 use em_space::{Queue, Rig};
 
+/// The bit with which an uninitialised latch begins, as a number.
+fn start_of(uninit: Option<bool>) -> Option<u64>
+    ensures is { result ≡ start_of uninit }
+    ensures few { IfSome result (λ value. value ≤ 1) }
+{
+    match uninit {
+        Some(true) => Some(1),
+        Some(false) => Some(0),
+        None => None,
+    }
+}
+
 /// Reads the circuit in the open first slot and makes its edges between ranks, by a queue for its graph
 /// and another for its order, on a rig of which no block is or was in use. After a stop blocks may stay
-/// in use.
-fn read_circuit<D: Device, H: Shelf>(rig: &mut Rig<'_, D>, shelf: &mut H) -> Result<Ordered, Stop>
+/// in use. `uninit` is the number with which an uninitialised latch begins, if one is given.
+fn read_circuit<D: Device, H: Shelf>(
+    uninit: Option<u64>,
+    rig: &mut Rig<'_, D>,
+    shelf: &mut H,
+) -> Result<Ordered, Stop>
+    requires uninit { IfSome uninit (λ value. value ≤ 1) }
     requires unused { IsUnused (seen D.state rig.old) }
     requires free { IsReady (seen D.state rig.old).pool }
     requires ready { ((H.stand shelf.old).slot Slot.First).ready ≡ true }
     ensures goes { Goes [] (seen D.state rig.old) (seen D.state rig.new) }
-    ensures reads { ReadsCircuit H.Shelf (seen D.state rig.old) (seen D.state rig.new)
+    ensures reads { ReadsCircuit uninit H.Shelf (seen D.state rig.old) (seen D.state rig.new)
         shelf.old shelf.new result }
 {
     let mut feed = Feed::new(Slot::First);
-    let parts = read_either(rig, &mut feed, shelf)?;
+    let parts = read_either(rig, &mut feed, shelf, uninit)?;
     let queue = ExtQueue::new(rig)?;
     let graph = check_and_build(rig, parts, queue)?;
     let queue = ExtQueue::new(rig)?;
@@ -120,6 +138,7 @@ fn evaluate<D: Device, H: Shelf, W: Sink>(
 /// Evaluates the circuit of the first name on the stimulus of the second, on an open rig of which
 /// no block is or was in use. The stimulus isn't opened if the circuit has a fault.
 pub fn run_eval<D: Device, H: Shelf, W: Sink>(
+    uninit: Option<bool>,
     rig: &mut Rig<'_, D>,
     shelf: &mut H,
     circuit: &str,
@@ -131,13 +150,14 @@ pub fn run_eval<D: Device, H: Shelf, W: Sink>(
     requires none_moved { (seen D.state rig.old).moves ≡ 0 }
     requires fresh { IsFresh (H.stand shelf.old) }
     ensures goes { Goes [] (seen D.state rig.old) (seen D.state rig.new) }
-    ensures runs { RunsTask H.Shelf W.Sink Task.Eval (names_of Task.Eval circuit.now stimulus.now)
+    ensures runs { RunsTask H.Shelf W.Sink (Task.Eval uninit)
+        (names_of (Task.Eval uninit) circuit.now stimulus.now)
         (seen D.state rig.old) (seen D.state rig.new) shelf.old out.old shelf.new out.new result }
 {
     let Ok(()) = shelf.open(Slot::First, circuit) else {
         return Status::ReadFault;
     };
-    let ordered = match read_circuit(rig, shelf) {
+    let ordered = match read_circuit(start_of(uninit), rig, shelf) {
         Ok(ordered) => ordered,
         Err(stop) => return status_of(stop),
     };

@@ -24,9 +24,10 @@ Commands:
                 example: emtool stab spans.txt
   eval CIRCUIT STIMULUS
                 the circuit is in the ASCII or the binary form of AIGER, without a cycle of gates;
-                each line of STIMULUS is a step, with a `0` or `1` for each input; prints the outputs
-                of each step on a line; where a line of STIMULUS is faulty, the lines of the steps
-                before it; nothing where the circuit is
+                each line of STIMULUS is a step, with a `0` or `1` for each input; prints the outputs,
+                the bad literals and the constraints of each step on a line, and enforces none;
+                a latch begins with its reset; where a line of STIMULUS is faulty, the lines of the
+                steps before it; nothing where the circuit is
                 example: emtool eval adder.aag adder.txt
   gen KIND START COUNT
                 runs the command KIND on texts that are made from the number START: COUNT lines of
@@ -42,6 +43,9 @@ Options, before the operands:
                 example: emtool map --block=128 --frames=64 prices.txt
   --blocks=N    blocks of the scratch device, 1 to 1099511627776; default 1048576
                 example: emtool map --blocks=1000 prices.txt
+  --uninit=N    at `eval` alone: 0 or 1, the bit with which a latch begins if its reset is its own
+                literal; no default: without the option such a circuit is refused
+                example: emtool eval --uninit=0 counter.aag counter.txt
   --stats       after the run, `moves N peak K` on the error stream: block moves, and the greatest
                 number of frames in use at once; not with exit code 1 or 7
                 example: emtool map --stats prices.txt

@@ -1,9 +1,9 @@
 ghost use Rattle.std.specs.Prelude.{◌≡◌, ◌+◌, ◌-◌, ◌<◌, ◌≤◌, ◌^◌, length, IfOk};
-ghost use Rattle.emtool.specs.Job.{texts_of, job_of, task_of, blocks_with, count_at, count_within, default_frames, job_by, job_with, made_job, name_at, number_at, operand_count, operands_by, operands_of, operands_wanted, shape_with, task_at, verb_of, IsCount, IsJob, IsOrigin};
+ghost use Rattle.emtool.specs.Job.{texts_of, job_of, task_of, blocks_with, count_at, count_within, default_frames, evaluates, job_by, job_with, made_job, name_at, number_at, operand_count, operands_by, operands_of, operands_wanted, shape_with, task_at, task_with, uninit_with, verb_of, IsCount, IsJob, IsOrigin};
 
 use crate::option::{
-    BLOCK, BLOCKS, FRAMES, STATS, has_option, number, number_or, option_words, test_options,
-    word_of,
+    BLOCK, BLOCKS, FRAMES, STATS, UNINIT, has_option, number, number_or, option_words,
+    test_options, word_of,
 };
 use crate::status::{Usage, UsageKind};
 use crate::text::FileKind;
@@ -14,8 +14,9 @@ use em_record::{Shape, ShapeFault};
 pub enum Task {
     /// A file of commands is answered.
     Answer(FileKind),
-    /// A circuit is evaluated on a stimulus, which is its second file.
-    Eval,
+    /// A circuit is evaluated on a stimulus, which is its second file. An uninitialised latch begins with
+    /// this bit; without it a circuit that has one is refused.
+    Eval(Option<bool>),
 }
 
 /// Where the texts of a run come from.
@@ -73,7 +74,7 @@ fn task_of(word: &str) -> Option<Task>
     } else if word == b"stab".as_slice() {
         Some(Task::Answer(FileKind::Stab))
     } else if word == b"eval".as_slice() {
-        Some(Task::Eval)
+        Some(Task::Eval(None))
     } else {
         None
     }
@@ -136,6 +137,41 @@ fn blocks_with(options: &[String]) -> Result<u64, Usage>
     Ok(blocks)
 }
 
+/// The bit with which an uninitialised latch begins, if an option says it.
+fn uninit_with(options: &[String]) -> Option<bool>
+    ensures { result ≡ uninit_with (texts_of options.now) }
+{
+    let value = number_or(options, UNINIT, 2);
+    if value == 0 {
+        Some(false)
+    } else if value == 1 {
+        Some(true)
+    } else {
+        None
+    }
+}
+
+/// The task as the options say.
+fn task_with(task: Task, options: &[String]) -> Task
+    ensures { result ≡ task_with task (texts_of options.now) }
+{
+    match task {
+        Task::Answer(kind) => Task::Answer(kind),
+        Task::Eval(_) => Task::Eval(uninit_with(options)),
+    }
+}
+
+/// Whether a command evaluates a circuit of its files.
+fn evaluates(verb: Verb) -> bool
+    ensures { result ≡ evaluates verb }
+{
+    match verb {
+        Verb::Over(Task::Eval(_)) => true,
+        Verb::Over(Task::Answer(_)) => false,
+        Verb::Generate => false,
+    }
+}
+
 /// How many operands a task has: a name for each of its files.
 fn operand_count(task: Task) -> u64
     ensures is { result ≡ operand_count task }
@@ -143,7 +179,7 @@ fn operand_count(task: Task) -> u64
 {
     match task {
         Task::Answer(_) => 1,
-        Task::Eval => 2,
+        Task::Eval(_) => 2,
     }
 }
 
@@ -277,7 +313,7 @@ fn job_by(verb: Verb, words: &[String], options: &[String], file: u64) -> Result
     ensures is { IfOk result (IsJob (file + operands_wanted verb)) }
 {
     match verb {
-        Verb::Over(task) => job_with(task, Origin::Files, options, file),
+        Verb::Over(task) => job_with(task_with(task, options), Origin::Files, options, file),
         Verb::Generate => made_job(words, options, file),
     }
 }
@@ -300,7 +336,7 @@ pub fn read_job(words: &[String]) -> Result<Job, Usage>
         });
     };
     let options = option_words(&words[1..]);
-    test_options(options)?;
+    test_options(evaluates(verb), options)?;
     let first = options.len() as u64 + 1;
     let file = operands_of(operands_wanted(verb), first, words.len() as u64)?;
     job_by(verb, words, options, file)

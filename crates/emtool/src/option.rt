@@ -1,10 +1,9 @@
 // The option words of a command. Words are numbered from 0, so the first option word is word 1.
-ghost use Rattle.std.specs.Prelude.{◌≡◌, ◌+◌, ◌==◌, [], bytes_eq, not, position, string_bytes};
-ghost use Rattle.std.specs.List.{list_any};
+ghost use Rattle.std.specs.Prelude.{◌≡◌, ◌+◌, ◌==◌, [], not, position, string_bytes};
 ghost use Rattle.std.specs.Result.{result_err, result_ok};
 ghost use Rattle.emtool.specs.CommandLine.{number_of};
 ghost use Rattle.emtool.specs.Job.{texts_of};
-ghost use Rattle.emtool.specs.Options.{has_name, has_option, has_value, is_option, name_of, number_in, number_or, option_fault, option_names, option_words, options_refusal, word_of};
+ghost use Rattle.emtool.specs.Options.{has_name, has_option, has_value, is_option, name_of, number_in, number_or, knows, option_fault, option_words, options_refusal, word_of};
 
 use crate::status::{Usage, UsageKind};
 
@@ -19,6 +18,14 @@ pub const BLOCKS: &[u8] = b"--blocks";
 
 /// The option that asks for statistics.
 pub const STATS: &[u8] = b"--stats";
+
+/// The option that gives the bit with which an uninitialised latch begins.
+pub const UNINIT: &[u8] = b"--uninit";
+
+/// The two words that are this option.
+const UNINIT_0: &[u8] = b"--uninit=0";
+
+const UNINIT_1: &[u8] = b"--uninit=1";
 
 /// The most digits of a number.
 const MOST_DIGITS: usize = 20;
@@ -94,11 +101,15 @@ fn has_name(word: &String, name: &[u8]) -> bool
     name_of(bytes_of(word)) == name
 }
 
-/// Whether the name is one of an option.
-fn is_known(name: &[u8]) -> bool
-    ensures { result ≡ list_any (bytes_eq name.now) option_names }
+/// Whether the name is one of an option of a command that evaluates a circuit, or of another one.
+fn is_known(evaluates: bool, name: &[u8]) -> bool
+    ensures { result ≡ knows evaluates name.now }
 {
-    name == BLOCK || name == FRAMES || name == BLOCKS || name == STATS
+    if name == UNINIT {
+        evaluates
+    } else {
+        name == BLOCK || name == FRAMES || name == BLOCKS || name == STATS
+    }
 }
 
 /// Whether the word of an option has the value that it wants.
@@ -107,6 +118,8 @@ fn has_value(word: &[u8]) -> bool
 {
     if name_of(word) == STATS {
         word == STATS
+    } else if name_of(word) == UNINIT {
+        word == UNINIT_0 || word == UNINIT_1
     } else {
         number_in(word).is_some()
     }
@@ -157,11 +170,11 @@ pub fn word_of(options: &[String], name: &[u8]) -> u64
 }
 
 /// What is wrong with an option word after these earlier ones.
-fn option_fault(earlier: &[String], word: &[u8]) -> Option<UsageKind>
-    ensures { result ≡ option_fault (texts_of earlier.now) word.now }
+fn option_fault(evaluates: bool, earlier: &[String], word: &[u8]) -> Option<UsageKind>
+    ensures { result ≡ option_fault evaluates (texts_of earlier.now) word.now }
 {
     let name = name_of(word);
-    if !is_known(name) {
+    if !is_known(evaluates, name) {
         return Some(UsageKind::UnknownOption);
     }
     if has_option(earlier, name) {
@@ -184,12 +197,12 @@ pub fn option_words(words: &[String]) -> &[String]
     }
 }
 
-/// Tests the option words, each in its turn.
-pub fn test_options(options: &[String]) -> Result<(), Usage>
-    ensures { result_err result ≡ options_refusal [] (texts_of options.now) }
+/// Tests the option words of a command that evaluates a circuit, or of another one, each in its turn.
+pub fn test_options(evaluates: bool, options: &[String]) -> Result<(), Usage>
+    ensures { result_err result ≡ options_refusal evaluates [] (texts_of options.now) }
 {
     for (place, word) in options.iter().enumerate() {
-        if let Some(kind) = option_fault(&options[..place], bytes_of(word)) {
+        if let Some(kind) = option_fault(evaluates, &options[..place], bytes_of(word)) {
             return Err(Usage {
                 kind,
                 word: place as u64 + 1,

@@ -51,6 +51,10 @@ fn aig_kind(kind: AigKind) -> &'static [u8]
         AigKind::StimLength => b"StimLength",
         AigKind::StimChar => b"StimChar",
         AigKind::TooLong => b"TooLong",
+        AigKind::Uninit => b"Uninit",
+        AigKind::Justice => b"Justice",
+        AigKind::Fairness => b"Fairness",
+        AigKind::BadReset => b"BadReset",
     }
 }
 

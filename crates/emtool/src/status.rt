@@ -11,11 +11,12 @@ pub enum UsageKind {
     NoCommand,
     /// The first word is no command.
     UnknownCommand,
-    /// The name of the option word is that of no option.
+    /// The name of the option word is that of no option of this command.
     UnknownOption,
     /// An earlier word has the option's name.
     RepeatedOption,
-    /// The option wants a number of 64 bits after a `=`, or, as `--stats` does, nothing.
+    /// The option wants a number of 64 bits after a `=`, or, as `--uninit` does, 0 or 1, or, as `--stats` does,
+    /// nothing.
     BadValue,
     /// The command wants one operand more.
     MissingOperand,

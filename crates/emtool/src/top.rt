@@ -104,7 +104,7 @@ fn run_job<D: Device, H: Shelf, W: Sink>(
 }
 
 /// Runs the job that the words name: `words` are those after the program's name. Answers of a
-/// command file, outputs of a circuit and the summary of made texts go to `out`, the message of a
+/// command file, columns of a circuit and the summary of made texts go to `out`, the message of a
 /// status other than `Done` and the line of `--stats` to `err`; records go through `device`, in
 /// blocks. A fault of `err` changes nothing: writing there stops.
 ///

@@ -112,7 +112,7 @@ pub(super) fn wrong_in(rt: &HostRuntime, row: &str) -> Result<Option<(u8, u64)>,
         stimulus: stimulus.bytes(),
         lines: lines.bytes(),
         code: code.parse::<u8>()?,
-        later: if words.starts_with("eval") { 2 } else { 0 },
+        later: if words.starts_with("eval") { 3 } else { 0 },
     };
     wrong_part(rt, &file, tables)
 }

@@ -4,7 +4,7 @@
 //! new one by none. Before the first step its calls are these:
 //!
 //!     begin        1
-//!     store        1 for each list that has a record: definitions, gates, uses
+//!     store        1 for each list that has a record: resets, definitions, gates, uses
 //!     queue        store the two blocks of a new queue's tree, and take each by one call if it was freed
 //!     definitions  load and release the list, take a block for the sorted list, and store it
 //!     twice        1 loads them again
@@ -20,9 +20,8 @@
 //!     order        as the definitions, with the edges between ranks
 //!     end, queue   as above
 //!     part         load the edges, take a block for those from inputs and latches, and store it
-//!     latches      take a block for their bits, and store it
 //!
-//! All that a queue has at once stands in memory, so that its pushes and pops make no call. The three
+//! All that a queue has at once stands in memory, so that its pushes and pops make no call. The four
 //! lists are stored also if one of these calls fails. A pass that finds no gate comes only if fewer
 //! passes than gates found one.
 use crate::tests::each_call::wrong_in;
@@ -31,7 +30,7 @@ use std::test::Fail;
 /// Circuits without a fault, which are evaluated on a stimulus, in rows as `each_call` has them. The shelf is
 /// called once to open the circuit, once for each 3 bytes of it, and once at its end; and so for the stimulus,
 /// which is read as it is used. The output is called at the end of the run alone, for each 3 bytes.
-const EVALUATED: [&str; 10] = [
+const EVALUATED: [&str; 11] = [
     // Two inputs, an output and a gate, and so three edges. The line of the first step is pending if the second one fails,
     // and is sent then. The device: 83 calls, of which 71 come before the first step:
     //
@@ -58,8 +57,8 @@ const EVALUATED: [&str; 10] = [
     // read. The output: two calls, for 3 bytes and for 1.
     "eval --block=128 --frames=64 a s|aag 3 2 0 1 1/2/4/6/6 2 4/|11/01/|1/0/|0|\
      77 0,6 2|13 0,1 2,1 4|1 0,1 3",
-    // A latch too, which the gate sets and the output shows, and so four edges. The device: 97 calls, of which 73 come
-    // before the first step: as of the conjunction, and 2 for the latch. Then each step makes 12 calls:
+    // A latch too, which the gate sets and the output shows, and so four edges. The device: 96 calls, of which 72 come
+    // before the first step: as of the conjunction, and 1 that stores the latch's reset. Then each step makes 12 calls:
     //
     //     4   take a block for the inputs' bits, store it, load and store it to link the latch's bit
     //     5   load the edges from inputs and latch, and two blocks of bits; release two
@@ -68,11 +67,11 @@ const EVALUATED: [&str; 10] = [
     //
     // The shelf: 16 calls, since the circuit's 30 bytes want 10 reads. The output: as of the conjunction.
     "eval --block=128 --frames=64 a s|aag 4 2 1 1 1/2/4/6 8/6/8 2 4/|11/01/|0/1/|0|\
-     85 0,12 2|14 0,1 2,1 4|1 0,1 3",
-    // A latch whose next bit is its negation: one definition, no gate and three edges. The device: 77 calls, of which 62
+     84 0,12 2|14 0,1 2,1 4|1 0,1 3",
+    // A latch whose next bit is its negation: one definition, no gate and three edges. The device: 76 calls, of which 61
     // come before the first step:
     //
-    //     begin, store          1 + 2
+    //     begin, store          1 + 3
     //     queue                 2
     //     definitions           4, and twice 1
     //     edges                 4
@@ -83,13 +82,17 @@ const EVALUATED: [&str; 10] = [
     //     order                 4
     //     end, queue            4 + 4
     //     part                  4: all edges are moved, and their old block is released
-    //     latches               2
     //
     // Then each step makes 5 calls: 3 load edges and bit and release the bit, and 2 take a block for the latch's new bit
     // and store it. The shelf: 13 calls: 10 for the circuit's 22 bytes, and 3 for the stimulus, of which one read gives the
     // three lines. The output: three calls.
     "eval --block=128 --frames=64 a s|aag 1 0 1 2 0/2 3/2/3/|///|01/10/01/|0|\
-     67 0,5 3,5 6|12 0,1 9|1 0,1 3,1 6",
+     66 0,5 3,5 6|12 0,1 9|1 0,1 3,1 6",
+    // The same latch with the reset 1, and a bad literal in place of the outputs: two edges. The device: 71 calls, 61 before
+    // the first step and 5 in each, as above. The shelf: 13 calls, since the circuit's 24 bytes want 8 reads. The output:
+    // two calls.
+    "eval --block=128 --frames=64 a s|aag 1 0 1 0 0 1/2 3 1/2/|//|1/0/|0|\
+     66 0,5 2|12 0,1 4|1 0,1 3",
     // The output is the constant 1: one edge, from variable 0, and nothing is defined. The device: 46 calls, of which 44
     // come before the first step: begin and store 2, queue 2, edges 4, compare 4 for one list, end and queue 8, merge 4 for
     // one list, rank 3 + 1, since its block is new, order 4, end and queue 8, part 4. Then each step makes a call, which
@@ -105,13 +108,13 @@ const EVALUATED: [&str; 10] = [
     // the end. The output: one call, for the line of the first step.
     "eval --block=128 --frames=64 a s|aag 3 2 0 1 1/2/4/6/6 2 4/|11/0/|1/|2|77 0,1 2|13 0,1 2|1 0",
     // Two latches, of which the second takes the bit of the first: three definitions, no gate and three edges. The device:
-    // 105 calls, of which 61 come before the first step, as of the latch that is negated, but for two: compare makes
+    // 104 calls, of which 60 come before the first step, one less than of the latch that is negated: compare makes
     // 4 + 2, since both blocks are new. Then each step makes 11 calls: 4 store the input's bit and link the latches' to it;
     // 5 load the edges and two blocks of bits, and release these; and 2 take a block for the latches' bits and store it.
     // The shelf: 16 calls: 11 for the circuit's 26 bytes, and 5 for the stimulus, whose 8 bytes want 3 reads: the second
     // one comes in the second step, the third one before the fourth. The output: three calls.
     "eval --block=128 --frames=64 a s|aag 3 1 2 1 0/2/4 2/6 4/6/|1/0/0/0/|0/0/1/0/|0|\
-     72 0,11 2,11 4,11 6|13 0,1 2,1 6,1 8|1 0,1 3,1 6",
+     71 0,11 2,11 4,11 6|13 0,1 2,1 6,1 8|1 0,1 3,1 6",
     // A gate's line stands before that of its operand: four definitions, two gates and five edges. The first pass finds
     // both gates, and the second one none. The device: 100 calls, of which 76 come before the first step: as of the
     // conjunction, and 5 for the second pass. Then each step makes 6 calls, as there. The shelf: 19 calls: 13 for the
@@ -135,9 +138,9 @@ const EVALUATED: [&str; 10] = [
 /// Circuits with a fault, or with a stimulus that isn't there: no step is made, and the output isn't called.
 const REFUSED: [&str; 11] = [
     // A fault of a line is found before a list is stored: the device is only begun. The shelf: the call that opens the
-    // circuit, and a read for each 3 bytes up to the one that is looked at last. That is byte 13 in the two headers, the
-    // newline at 19 after the literal 9, also if there is no stimulus, and the space at 28 after the position 2.
-    "eval --block=128 --frames=64 a s|aag 3 2 0 1 1 0/|11/01/||2|1 0|6 0|",
+    // circuit, and a read for each 3 bytes up to the one that is looked at last. That is byte 21 in the header of ten
+    // numbers, byte 13 in the next one, the newline at 19 after the literal 9, also if there is no stimulus, and the space at 28 after the position 2.
+    "eval --block=128 --frames=64 a s|aag 3 2 0 1 1 0 0 0 0 0/|11/01/||2|1 0|9 0|",
     "eval --block=128 --frames=64 a s|aag 3 2 0 1 2/|11/01/||2|1 0|6 0|",
     "eval --block=128 --frames=64 a s|aag 3 2 0 1 1/2/4/9/6 2 4/|11/01/||2|1 0|8 0|",
     "eval --block=128 --frames=64 a t|aag 3 2 0 1 1/2/4/9/6 2 4/|11/01/||2|1 0|8 0|",

@@ -7,7 +7,7 @@ pub returns-then-branch : goal.returns-then-branch
 returns-then-branch g c =
     let e = c.read_ascii.ensures in
     record {
-      reads = either_read Ascii c.requires.none c.in_ok-read_magic.field-0 c.if-branch.true
+      reads = either_read (Ascii c.args.uninit) c.requires.none c.in_ok-read_magic.field-0 c.if-branch.true
           c.in_ok-read_magic.ensures.reads c.read_ascii.result (record {
             goes = e.goes;
             parts = e.parts;
@@ -28,7 +28,7 @@ pub returns-else-branch : goal.returns-else-branch
 returns-else-branch g c =
     let e = c.read_binary.ensures in
     record {
-      reads = either_read Binary c.requires.none c.in_ok-read_magic.field-0 c.if-branch.false
+      reads = either_read (Binary c.args.uninit) c.requires.none c.in_ok-read_magic.field-0 c.if-branch.false
           c.in_ok-read_magic.ensures.reads c.read_binary.result (record {
             goes = e.goes;
             parts = e.parts;

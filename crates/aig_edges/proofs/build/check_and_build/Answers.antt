@@ -9,7 +9,7 @@ use Rattle.aig_edges.proofs.build.check_and_build.Goals as goal
 
 pub returns-in_err-end-in-Ok-clause-uses_up : goal.returns-in_err-end-in-Ok-clause-uses_up
 returns-in_err-end-in-Ok-clause-uses_up g c =
-    up_ended g.Q.Queue c.args.queue c.build.new.queue c.args.parts c.in-Ok.ensures.builds
+    up_ended g.Q.Queue c.args.queue c.build.new.queue c.args.parts c.requires.holds c.in-Ok.ensures.builds
     c.end.ensures.ends
 
 pub returns-in_err-end-in-Ok-clause-costs : goal.returns-in_err-end-in-Ok-clause-costs
@@ -21,7 +21,7 @@ returns-in_err-end-in-Ok-clause-costs g c =
 
 pub returns-in_ok-end-in-Ok-clause-uses_up : goal.returns-in_ok-end-in-Ok-clause-uses_up
 returns-in_ok-end-in-Ok-clause-uses_up g c =
-    up_ended g.Q.Queue c.args.queue c.build.new.queue c.args.parts c.in-Ok.ensures.builds
+    up_ended g.Q.Queue c.args.queue c.build.new.queue c.args.parts c.requires.holds c.in-Ok.ensures.builds
     c.end.ensures.ends
 
 pub returns-in_ok-end-in-Ok-clause-costs : goal.returns-in_ok-end-in-Ok-clause-costs
@@ -33,7 +33,7 @@ returns-in_ok-end-in-Ok-clause-costs g c =
 
 pub returns-in_ok-end-in-Ok-clause-builds : goal.returns-in_ok-end-in-Ok-clause-builds
 returns-in_ok-end-in-Ok-clause-builds g c =
-    builds_graph g.Q.Queue c.args.queue c.build.new.queue c.args.parts c.in-Ok.ensures.builds
+    builds_graph g.Q.Queue c.args.queue c.build.new.queue c.args.parts c.requires.holds c.in-Ok.ensures.builds
     c.end.ensures.ends
 
 pub returns-in_ok-end-in-Ok-clause-stores : goal.returns-in_ok-end-in-Ok-clause-stores

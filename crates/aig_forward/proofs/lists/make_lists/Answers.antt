@@ -1,4 +1,4 @@
-use Rattle.aig_forward.proofs.Cuts.{edges_sorted, made, made_err, uncut, unmade}
+use Rattle.aig_forward.proofs.Cuts.{edges_sorted, made, made_err, uncut}
 use Rattle.aig_forward.proofs.lists.make_lists.Goals as goal
 
 pub part_at-requires-clause-ordered : goal.part_at-requires-clause-ordered
@@ -12,18 +12,10 @@ returns-in_err-given g c =
           (uncut c.args.ordered p.goes p.costs p.full p.cause);
     }
 
-pub returns-in_err-state : goal.returns-in_err-state
-returns-in_err-state g c =
-    let p = c.in_ok-given.ensures in
-    record {
-      done = made_err _ _ _ c.from_residual-in_err-state.result _
-          c.from_residual-in_err-state.ensures.1
-          (unmade c.args.ordered p.goes (rw c.gates_from.ensures at p.parts) p.costs c.in_err-state.ensures.done);
-    }
-
 pub returns : goal.returns
 returns g c =
     let p = c.in_ok-given.ensures in
     record {
-      done = made c.args.ordered p.goes (rw c.gates_from.ensures at p.parts) p.costs c.in_ok-state.ensures.done;
+      done = made c.args.ordered c.requires.ordered c.requires.holds p.goes
+          (rw c.gates_from.ensures at p.parts) p.costs;
     }

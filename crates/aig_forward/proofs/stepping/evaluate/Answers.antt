@@ -38,6 +38,8 @@ pub collect-requires-clause-few : goal.collect-requires-clause-few
 collect-requires-clause-few g c =
     let a = c.requires.header.latches in
     let b = c.requires.header.outputs in
+    let bb = c.requires.header.bads in
+    let bc = c.requires.header.constraints in
     omega (arith, a, b)
 
 pub returns-in_err-spread-clause-evaluates : goal.returns-in_err-spread-clause-evaluates

@@ -5,9 +5,10 @@ use Rattle.em_space.proofs.Queues.{out_same}
 use Rattle.em_queued.proofs.Queued.{unstored_frames}
 use Rattle.aig_text.specs.declared.stop.AigStop.{AigStop}
 use Rattle.aig_text.proofs.Lines.{of_error}
-use Rattle.aig_edges.specs.Graph.{graph_blocks}
+use Rattle.aig_edges.specs.Graph.{graph_lists}
 use Rattle.aig_edges.specs.declared.graph.Ordered.{Ordered}
 use Rattle.aig_order.specs.FindsOrder.{OrdersTo}
+use Rattle.aig_order.proofs.OrderEnded.{lists_held}
 use Rattle.aig_order.proofs.OrderMade.{orders_cycle}
 use Rattle.aig_order.proofs.OrderRanked.{can_rank, ranked_beside, ranked_none}
 use Rattle.aig_order.proofs.OrderReady.{cycle_found, graph_apart, looked_within, make_ready}
@@ -49,9 +50,9 @@ find_all-requires-clause-is g c =
     let s = seen g.D.Device.state c.args.rig.now in
     let has = laws.frames_of x s r.queue in
     let t = seen g.D.Device.state c.merge_graph.new.rig in
-    let m = c.in_ok-list.ensures.merges in
-    let kept = laws.stays x (graph_blocks s c.args.graph) s t r.queue m.runs.session.touches
-    (λ z. graph_apart q x c.args.graph r.holds z) (out_same _ _ _ (laws.out x s has) m.runs.frames) in
+    let m = c.in_ok-list.ensures.merges.0 in
+    let kept = laws.stays x (graph_lists s c.args.graph) s t r.queue m.runs.session.touches
+    (λ z. graph_apart q x c.args.graph (lists_held q x c.args.graph r.holds) z) (out_same _ _ _ (laws.out x s has) m.runs.frames) in
     kept.0
 
 pub find_all-requires-clause-can : goal.find_all-requires-clause-can
@@ -63,11 +64,11 @@ find_all-requires-clause-can g c =
     let s = seen g.D.Device.state c.args.rig.now in
     let has = laws.frames_of x s r.queue in
     let t = seen g.D.Device.state c.merge_graph.new.rig in
-    let m = c.in_ok-list.ensures.merges in
-    let kept = laws.stays x (graph_blocks s c.args.graph) s t r.queue m.runs.session.touches
-    (λ z. graph_apart q x c.args.graph r.holds z) (out_same _ _ _ (laws.out x s has) m.runs.frames) in
+    let m = c.in_ok-list.ensures.merges.0 in
+    let kept = laws.stays x (graph_lists s c.args.graph) s t r.queue m.runs.session.touches
+    (λ z. graph_apart q x c.args.graph (lists_held q x c.args.graph r.holds) z) (out_same _ _ _ (laws.out x s has) m.runs.frames) in
     let w = merged_beside q x c.args.graph kept.0 kept.2 (laws.blocks_most x s r.queue)
-    r.begins.empty r.holds m in
+    r.begins.empty (lists_held q x c.args.graph r.holds) m in
     can_find q x c.args.graph r.begins r.defined m w
 
 pub returns-in_err-found-clause-finds : goal.returns-in_err-found-clause-finds
@@ -79,11 +80,11 @@ returns-in_err-found-clause-finds g c =
     let s = seen g.D.Device.state c.args.rig.now in
     let has = laws.frames_of x s r.queue in
     let t = seen g.D.Device.state c.merge_graph.new.rig in
-    let m = c.in_ok-list.ensures.merges in
-    let kept = laws.stays x (graph_blocks s c.args.graph) s t r.queue m.runs.session.touches
-    (λ z. graph_apart q x c.args.graph r.holds z) (out_same _ _ _ (laws.out x s has) m.runs.frames) in
+    let m = c.in_ok-list.ensures.merges.0 in
+    let kept = laws.stays x (graph_lists s c.args.graph) s t r.queue m.runs.session.touches
+    (λ z. graph_apart q x c.args.graph (lists_held q x c.args.graph r.holds) z) (out_same _ _ _ (laws.out x s has) m.runs.frames) in
     let w = merged_beside q x c.args.graph kept.0 kept.2 (laws.blocks_most x s r.queue)
-    r.begins.empty r.holds m in
+    r.begins.empty (lists_held q x c.args.graph r.holds) m in
     of_error (λ (k : Result Ordered AigStop). OrdersTo q x c.find_all.new.queue s
     (seen g.D.Device.state c.find_all.new.rig) c.args.graph k) _ _ c.from_residual-in_err-found.ensures.1
     (found_none q x c.find_all.new.queue c.args.graph m r.defined w c.in_err-found.ensures.finds)
@@ -105,11 +106,11 @@ returns-in_err-place-clause-finds g c =
     let s = seen g.D.Device.state c.args.rig.now in
     let has = laws.frames_of x s r.queue in
     let t = seen g.D.Device.state c.merge_graph.new.rig in
-    let m = c.in_ok-list.ensures.merges in
-    let kept = laws.stays x (graph_blocks s c.args.graph) s t r.queue m.runs.session.touches
-    (λ z. graph_apart q x c.args.graph r.holds z) (out_same _ _ _ (laws.out x s has) m.runs.frames) in
+    let m = c.in_ok-list.ensures.merges.0 in
+    let kept = laws.stays x (graph_lists s c.args.graph) s t r.queue m.runs.session.touches
+    (λ z. graph_apart q x c.args.graph (lists_held q x c.args.graph r.holds) z) (out_same _ _ _ (laws.out x s has) m.runs.frames) in
     let w = merged_beside q x c.args.graph kept.0 kept.2 (laws.blocks_most x s r.queue)
-    r.begins.empty r.holds m in
+    r.begins.empty (lists_held q x c.args.graph r.holds) m in
     let y = c.find_all.new.queue in
     let u = seen g.D.Device.state c.find_all.new.rig in
     let i = c.in_ok-found.ensures in
@@ -138,11 +139,11 @@ returns-in-Some-clause-finds g c =
     let s = seen g.D.Device.state c.args.rig.now in
     let has = laws.frames_of x s r.queue in
     let t = seen g.D.Device.state c.merge_graph.new.rig in
-    let m = c.in_ok-list.ensures.merges in
-    let kept = laws.stays x (graph_blocks s c.args.graph) s t r.queue m.runs.session.touches
-    (λ z. graph_apart q x c.args.graph r.holds z) (out_same _ _ _ (laws.out x s has) m.runs.frames) in
+    let m = c.in_ok-list.ensures.merges.0 in
+    let kept = laws.stays x (graph_lists s c.args.graph) s t r.queue m.runs.session.touches
+    (λ z. graph_apart q x c.args.graph (lists_held q x c.args.graph r.holds) z) (out_same _ _ _ (laws.out x s has) m.runs.frames) in
     let w = merged_beside q x c.args.graph kept.0 kept.2 (laws.blocks_most x s r.queue)
-    r.begins.empty r.holds m in
+    r.begins.empty (lists_held q x c.args.graph r.holds) m in
     let y = c.find_all.new.queue in
     let u = seen g.D.Device.state c.find_all.new.rig in
     let i = c.in_ok-found.ensures in
@@ -182,11 +183,11 @@ rank_edges-requires-clause-can g c =
     let s = seen g.D.Device.state c.args.rig.now in
     let has = laws.frames_of x s r.queue in
     let t = seen g.D.Device.state c.merge_graph.new.rig in
-    let m = c.in_ok-list.ensures.merges in
-    let kept = laws.stays x (graph_blocks s c.args.graph) s t r.queue m.runs.session.touches
-    (λ z. graph_apart q x c.args.graph r.holds z) (out_same _ _ _ (laws.out x s has) m.runs.frames) in
+    let m = c.in_ok-list.ensures.merges.0 in
+    let kept = laws.stays x (graph_lists s c.args.graph) s t r.queue m.runs.session.touches
+    (λ z. graph_apart q x c.args.graph (lists_held q x c.args.graph r.holds) z) (out_same _ _ _ (laws.out x s has) m.runs.frames) in
     let w = merged_beside q x c.args.graph kept.0 kept.2 (laws.blocks_most x s r.queue)
-    r.begins.empty r.holds m in
+    r.begins.empty (lists_held q x c.args.graph r.holds) m in
     let y = c.find_all.new.queue in
     let u = seen g.D.Device.state c.find_all.new.rig in
     let i = c.in_ok-found.ensures in
@@ -211,11 +212,11 @@ returns-in_err-edges-clause-finds g c =
     let s = seen g.D.Device.state c.args.rig.now in
     let has = laws.frames_of x s r.queue in
     let t = seen g.D.Device.state c.merge_graph.new.rig in
-    let m = c.in_ok-list.ensures.merges in
-    let kept = laws.stays x (graph_blocks s c.args.graph) s t r.queue m.runs.session.touches
-    (λ z. graph_apart q x c.args.graph r.holds z) (out_same _ _ _ (laws.out x s has) m.runs.frames) in
+    let m = c.in_ok-list.ensures.merges.0 in
+    let kept = laws.stays x (graph_lists s c.args.graph) s t r.queue m.runs.session.touches
+    (λ z. graph_apart q x c.args.graph (lists_held q x c.args.graph r.holds) z) (out_same _ _ _ (laws.out x s has) m.runs.frames) in
     let w = merged_beside q x c.args.graph kept.0 kept.2 (laws.blocks_most x s r.queue)
-    r.begins.empty r.holds m in
+    r.begins.empty (lists_held q x c.args.graph r.holds) m in
     let y = c.find_all.new.queue in
     let u = seen g.D.Device.state c.find_all.new.rig in
     let i = c.in_ok-found.ensures in
@@ -241,11 +242,11 @@ returns-clause-finds g c =
     let s = seen g.D.Device.state c.args.rig.now in
     let has = laws.frames_of x s r.queue in
     let t = seen g.D.Device.state c.merge_graph.new.rig in
-    let m = c.in_ok-list.ensures.merges in
-    let kept = laws.stays x (graph_blocks s c.args.graph) s t r.queue m.runs.session.touches
-    (λ z. graph_apart q x c.args.graph r.holds z) (out_same _ _ _ (laws.out x s has) m.runs.frames) in
+    let m = c.in_ok-list.ensures.merges.0 in
+    let kept = laws.stays x (graph_lists s c.args.graph) s t r.queue m.runs.session.touches
+    (λ z. graph_apart q x c.args.graph (lists_held q x c.args.graph r.holds) z) (out_same _ _ _ (laws.out x s has) m.runs.frames) in
     let w = merged_beside q x c.args.graph kept.0 kept.2 (laws.blocks_most x s r.queue)
-    r.begins.empty r.holds m in
+    r.begins.empty (lists_held q x c.args.graph r.holds) m in
     let y = c.find_all.new.queue in
     let u = seen g.D.Device.state c.find_all.new.rig in
     let i = c.in_ok-found.ensures in
@@ -259,4 +260,4 @@ returns-clause-finds g c =
     let o = make_ready q x y c.args.graph r.begins r.graph r.defined m i.finds look.0 l
     c.in_default.is look.1 (c.len-count.ensures ∙ r.graph.edges.count_is) in
     ranked_beside q x y c.rank_edges.new.queue c.args.graph o c.in_ok-edges.edges
-    c.in_ok-edges.ensures.ranks
+    _ c.in_ok-list.ensures.merges.1 r.holds c.in_ok-edges.ensures.ranks

@@ -10,7 +10,8 @@ use Rattle.aig_order.proofs.ordering.order.Goals as goal
 
 pub returns-in_err-end-in-Ok-clause-uses_up : goal.returns-in_err-end-in-Ok-clause-uses_up
 returns-in_err-end-in-Ok-clause-uses_up g c =
-    up_ended g.Q.Queue c.args.queue c.find_order.new.queue c.args.graph c.in-Ok.ensures.finds
+    up_ended g.Q.Queue c.args.queue c.find_order.new.queue c.args.graph c.requires.holds
+    c.in-Ok.ensures.finds
     c.end.ensures.ends
 
 pub returns-in_err-end-in-Ok-clause-costs : goal.returns-in_err-end-in-Ok-clause-costs
@@ -22,7 +23,8 @@ returns-in_err-end-in-Ok-clause-costs g c =
 
 pub returns-in_ok-end-in-Ok-clause-uses_up : goal.returns-in_ok-end-in-Ok-clause-uses_up
 returns-in_ok-end-in-Ok-clause-uses_up g c =
-    up_ended g.Q.Queue c.args.queue c.find_order.new.queue c.args.graph c.in-Ok.ensures.finds
+    up_ended g.Q.Queue c.args.queue c.find_order.new.queue c.args.graph c.requires.holds
+    c.in-Ok.ensures.finds
     c.end.ensures.ends
 
 pub returns-in_ok-end-in-Ok-clause-costs : goal.returns-in_ok-end-in-Ok-clause-costs
@@ -34,7 +36,8 @@ returns-in_ok-end-in-Ok-clause-costs g c =
 
 pub returns-in_ok-end-in-Ok-clause-orders : goal.returns-in_ok-end-in-Ok-clause-orders
 returns-in_ok-end-in-Ok-clause-orders g c =
-    orders_graph g.Q.Queue c.args.queue c.find_order.new.queue c.args.graph c.in-Ok.ensures.finds
+    orders_graph g.Q.Queue c.args.queue c.find_order.new.queue c.args.graph c.requires.holds
+    c.in-Ok.ensures.finds
     c.end.ensures.ends
 
 pub returns-in_ok-end-in-Ok-clause-stores : goal.returns-in_ok-end-in-Ok-clause-stores

@@ -3,7 +3,7 @@ use Rattle.aig_text.proofs.circuit.read_circuit.Goals as goal
 
 pub returns-in_err-header : goal.returns-in_err-header
 returns-in_err-header g c =
-    let r = header_unread g.R.Rows.form _ _ c.from_residual.ensures.1 c.requires.sound
+    let r = header_unread (g.R.Rows.form c.args.rows.now) _ _ c.from_residual.ensures.1 c.requires.sound
     (as_form c.which.ensures c.in_err-header.ensures.reads) in
     record {
       goes = r.goes;
@@ -21,7 +21,7 @@ returns-in_err-header g c =
 
 pub returns-in_err-defs : goal.returns-in_err-defs
 returns-in_err-defs g c =
-    let r = sections_unread g.R.Rows.form
+    let r = sections_unread (g.R.Rows.form c.args.rows.now)
     (as_form c.which.ensures c.in_ok-header.ensures.reads) _ _ c.from_residual-in_err-defs.ensures.1
     c.in_err-defs.ensures in
     record {
@@ -40,8 +40,8 @@ returns-in_err-defs g c =
 
 pub returns : goal.returns
 returns g c =
-    let r = circuit_read g.R.Rows.form
-    (as_form c.which.ensures c.in_ok-header.ensures.reads) c.in_ok-header.ensures.is _ _ _
+    let r = circuit_read (g.R.Rows.form c.args.rows.now)
+    (as_form c.which.ensures c.in_ok-header.ensures.reads) c.in_ok-header.ensures.is _ _ _ _
     c.in_ok-defs.ensures.advances c.in_ok-defs.ensures.by in
     record {
       goes = r.goes;

@@ -1,5 +1,5 @@
 use Rattle.aig_text.proofs.Drafts.{drafted_is}
-use Rattle.aig_text.proofs.Endings.{sections_written, sections_refused, sections_stopped}
+use Rattle.aig_text.proofs.Endings.{filling_sound, sections_written, sections_refused, sections_stopped}
 use Rattle.aig_text.proofs.circuit.read_lists.Goals as goal
 
 pub finish-requires-clause-is : goal.finish-requires-clause-is
@@ -22,3 +22,7 @@ pub returns-in-Err : goal.returns-in-Err
 returns-in-Err g c = sections_stopped c.new-draft.ensures.lends c.new-draft.ensures.unmoved
     c.new-draft.ensures.begins
     _ c.requires.sound c.in-Err.ensures c.abandon.ensures.gives c.abandon.ensures.unmoved
+
+pub abandon-requires-clause-sound : goal.abandon-requires-clause-sound
+abandon-requires-clause-sound g c =
+    filling_sound _ _ _ c.in-Err.stop c.in-Err.ensures.fills.stops

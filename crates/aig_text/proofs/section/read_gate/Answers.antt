@@ -34,8 +34,8 @@ pub returns : goal.returns
 returns g c = line_done true 2 (of_gate c.args.before)
     (HasLines Gates c.args.header.now c.args.before 1) c.requires.fill _
     c.in_ok-gate.ensures.reads (λ b. c.in_ok-gate.ensures.forward) c.add_gate.ensures.frames
-    (drafted_then (gate_def c.args.before c.in_ok-gate.gate ∷ []) [] [] []
-    (gate_record c.args.before c.in_ok-gate.gate ∷ []) []
+    (drafted_then (gate_def c.args.before c.in_ok-gate.gate ∷ []) [] [] [] []
+    (gate_record c.args.before c.in_ok-gate.gate ∷ []) [] []
     c.in_ok-add_def.ensures.drafts c.in_ok-add_gate.ensures.drafts)
     (one_row Gates c.args.header.now c.args.before _ c.in_ok-gate.ensures.is) refl
 

@@ -29,7 +29,7 @@ returns-in_err-queue g c =
 pub new-requires-2-clause-ordered : goal.new-requires-2-clause-ordered
 new-requires-2-clause-ordered g c =
     let makes = makes_ext c.in_ok-queue.ensures.makes in
-    still_ordered c.requires.can.is makes.session.touches
+    (still_ordered c.requires.can.is makes.session.touches).is
 
 pub new-requires-2-clause-free : goal.new-requires-2-clause-free
 new-requires-2-clause-free g c =
@@ -38,7 +38,7 @@ new-requires-2-clause-free g c =
 
 pub new-requires-2-clause-holds : goal.new-requires-2-clause-holds
 new-requires-2-clause-holds g c =
-    can_make c.requires.can.sound c.requires.can.is (makes_ext c.in_ok-queue.ensures.makes)
+    can_make c.requires.can (makes_ext c.in_ok-queue.ensures.makes)
 
 -- no evaluator was made
 pub returns-in_err-evaluator : goal.returns-in_err-evaluator

@@ -177,7 +177,7 @@ module _ (g : given.Over) (c : In_ok-queue-2 g) where
       (seen g.D.Device.state c.new-2.new.rig) c.in_ok-queue-2.queue
   second = makes_ext c.in_ok-queue-2.ensures.makes
 
-  made : HasGraph g.H.Shelf.tells
+  made : HasGraph c.args.uninit g.H.Shelf.tells
       (source g.H.Shelf c.new-feed.result c.args.shelf.now)
       (source g.H.Shelf c.read_either.new.feed c.read_either.new.shelf)
       (seen g.D.Device.state c.args.rig.now) (seen g.D.Device.state c.new-2.new.rig)

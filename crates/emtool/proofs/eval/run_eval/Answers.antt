@@ -11,6 +11,7 @@ use Rattle.emtool.proofs.EndLaws.{ended_read, ended_stop}
 use Rattle.emtool.proofs.Evaluated.{circuit_cause, circuit_full, circuit_keeps, circuit_stopped, device_keeps, done_caused, eval_fills, none_first, none_more, steps_cause, steps_caused, steps_done, steps_full, steps_keep, steps_stopped, still_there, still_unopened}
 use Rattle.emtool.proofs.Opening.{lost_opened, not_done, on_end, opens_eval, reads_both, text_left, text_some}
 use Rattle.emtool.proofs.eval.run_eval.Goals as goal
+use Rattle.emtool.specs.Job.{start_of}
 
 -- the circuit isn't there, or the shelf failed
 pub returns-in_default-clause-runs : goal.returns-in_default-clause-runs
@@ -28,13 +29,13 @@ returns-in_default-clause-runs g c =
       ended = ended_read g.met.W.Sink.rule _ _ _ _ _ _ (g.met.W.Sink.is_state c.args.out.now) refl
           (λ t d. none_more _ _);
       caused = search rules;
-      opens = opens_eval tells told circuit stimulus a b ReadFault o.leaves.text
+      opens = opens_eval c.args.uninit tells told circuit stimulus a b ReadFault o.leaves.text
           (λ t l. lost_opened (a.slot First) (b.slot First) (b.slot First) (a.text First circuit)
           fresh.first.lost (o.lost t) refl l)
           (λ t l. absurd (still_there (b.slot Second) (a.slot Second) second fresh.second l))
           (λ t. tt) (λ t. tt)
           (λ t d x. absurd (still_unopened (b.slot Second) (a.slot Second) second fresh.second x));
-      all_read = reads_both tells circuit stimulus b ReadFault tt tt;
+      all_read = reads_both c.args.uninit tells circuit stimulus b ReadFault tt tt;
       no_usage = tt;
       no_memory = tt;
     }
@@ -49,6 +50,7 @@ returns-in-Err-clause-runs g c =
     let t = seen g.D.Device.state c.read_circuit.new.rig in
     let o = c.in-Ok.ensures in
     let r = c.in-Err.ensures in
+    let says = rw c.start_of.ensures.is at r.reads in
     let stop = c.in-Err.stop in
     let tells = g.H.Shelf.tells in
     let told = s.device.told in
@@ -61,22 +63,22 @@ returns-in-Err-clause-runs g c =
     let same : IsTrue tells → x ≡ y = λ z. text_left (a.text First circuit) x (o.whole z) in
     let faults = fault_counts (g.H.Shelf.faults c.open.new.self) 0 in
     let later = fault_counts (g.H.Shelf.faults c.read_circuit.new.shelf) 0 in
-    let reads = r.reads.reads in
+    let reads = says.reads in
     let second = reads.leaves.others Second (λ e. cc) ∙ o.leaves.others Second (λ e. cc) in
-    let own = r.reads.answers in
+    let own = says.answers in
     let sound = c.requires.unused.sound in
-    let keeps = circuit_keeps tells x y w same last.slot s t sound.shape r.reads.moves in
+    let keeps = circuit_keeps (start_of c.args.uninit) tells x y w same last.slot s t sound.shape says.moves in
     record {
       ended = rw (c.status_of.ensures.is)
-          (ended_stop tells (asked_of_eval y w) _ _ s t r.goes.touches r.goes.sound refl refl
+          (ended_stop tells (asked_of_eval (start_of c.args.uninit) y w) _ _ s t r.goes.touches r.goes.sound refl refl
           (λ z d. device_keeps _ sound r.goes.sound (keeps z d)) stop
-          faults later (circuit_cause tells x y w same faults later s t stop own.cause)
-          (eval_fills tells y w last.slot stop c.requires.none_moved r.goes.touches r.goes.sound
-          (circuit_full tells x y w same faults later s t stop own.cause) keeps own.full)
-          (circuit_stopped tells x y w same g.met.W.Sink.rule _ _
+          faults later (circuit_cause (start_of c.args.uninit) tells x y w same faults later s t stop own.cause)
+          (eval_fills (start_of c.args.uninit) tells y w last.slot stop c.requires.none_moved r.goes.touches r.goes.sound
+          (circuit_full (start_of c.args.uninit) tells x y w same faults later s t stop own.cause) keeps own.full)
+          (circuit_stopped (start_of c.args.uninit) tells x y w same g.met.W.Sink.rule _ _
           (g.met.W.Sink.is_state c.args.out.now) refl faults later s t stop refl own.cause));
       caused = search rules;
-      opens = rw (c.status_of.ensures.is) (opens_eval tells told circuit stimulus a last _
+      opens = rw (c.status_of.ensures.is) (opens_eval c.args.uninit tells told circuit stimulus a last _
           (reads.leaves.text ∙ o.leaves.text)
           (λ z l. lost_opened (a.slot First) (b.slot First) (last.slot First) (a.text First circuit)
           fresh.first.lost (o.lost z) (reads.lost z) l)
@@ -85,7 +87,7 @@ returns-in-Err-clause-runs g c =
           (λ z. not_done stop _)
           (λ z d u. absurd (still_unopened (last.slot Second) (a.slot Second) second fresh.second u)));
       all_read = rw (c.status_of.ensures.is)
-          (reads_both tells circuit stimulus last _ (not_done stop _) (not_done stop _));
+          (reads_both c.args.uninit tells circuit stimulus last _ (not_done stop _) (not_done stop _));
       no_usage = search rules;
       no_memory = search rules;
     }
@@ -101,6 +103,7 @@ returns-in_default-open-clause-runs g c =
     let t = seen g.D.Device.state c.read_circuit.new.rig in
     let o = c.in-Ok.ensures in
     let r = c.in-Ok-read_circuit.ensures in
+    let says = rw c.start_of.ensures.is at r.reads in
     let p = c.in_default-open.ensures in
     let tells = g.H.Shelf.tells in
     let told = s.device.told in
@@ -111,26 +114,26 @@ returns-in_default-open-clause-runs g c =
     let y = text_in a First (Some circuit) in
     let w = text_in a Second (Some stimulus) in
     let same : IsTrue tells → x ≡ y = λ z. text_left (a.text First circuit) x (o.whole z) in
-    let reads = r.reads.reads in
+    let reads = says.reads in
     let first = p.leaves.others First (λ e. cc) in
     let unopened = reads.leaves.others Second (λ e. cc) ∙ o.leaves.others Second (λ e. cc) in
     let text = reads.leaves.text ∙ o.leaves.text in
     let sound = c.requires.unused.sound in
-    let keeps = circuit_keeps tells x y w same last.slot s t sound.shape
-    (λ z d. rw first (r.reads.moves z d)) in
+    let keeps = circuit_keeps (start_of c.args.uninit) tells x y w same last.slot s t sound.shape
+    (λ z d. rw first (says.moves z d)) in
     record {
       ended = ended_read g.met.W.Sink.rule _ _ _ _ _ _ (g.met.W.Sink.is_state c.args.out.now) refl
           (λ z d. device_keeps _ sound r.goes.sound (keeps z d));
       caused = search rules;
-      opens = opens_eval tells told circuit stimulus a last ReadFault (p.leaves.text ∙ text)
+      opens = opens_eval c.args.uninit tells told circuit stimulus a last ReadFault (p.leaves.text ∙ text)
           (λ z l. lost_opened (a.slot First) (b.slot First) (last.slot First) (a.text First circuit)
           fresh.first.lost (o.lost z) (ap (λ v. v.lost) first ∙ reads.lost z) l)
           (λ z l. lost_opened (a.slot Second) (last.slot Second) (last.slot Second)
           (a.text Second stimulus) fresh.second.lost (rw (← text, ← unopened) (p.lost z)) refl l)
           (λ z. tt) (λ z. tt)
           (λ z d u. none_first tells told x y w w t c.in-Ok-read_circuit.ordered same (λ v. refl)
-          r.reads.answers.spells z d);
-      all_read = reads_both tells circuit stimulus last ReadFault tt tt;
+          says.answers.spells z d);
+      all_read = reads_both c.args.uninit tells circuit stimulus last ReadFault tt tt;
       no_usage = tt;
       no_memory = tt;
     }
@@ -147,6 +150,7 @@ returns-in-Ok-evaluate-clause-runs g c =
     let u = seen g.D.Device.state c.evaluate.new.rig in
     let o = c.in-Ok.ensures in
     let r = c.in-Ok-read_circuit.ensures in
+    let says = rw c.start_of.ensures.is at r.reads in
     let p = c.in-Ok-open.ensures in
     let v = c.in-Ok-evaluate.ensures.runs in
     let edges = c.in-Ok-read_circuit.ordered in
@@ -155,7 +159,7 @@ returns-in-Ok-evaluate-clause-runs g c =
     let circuit = c.args.circuit.now in
     let stimulus = c.args.stimulus.now in
     let fresh = c.requires.fresh in
-    let reads = r.reads.reads in
+    let reads = says.reads in
     let text = reads.leaves.text ∙ o.leaves.text in
     let unopened = reads.leaves.others Second (λ e. cc) ∙ o.leaves.others Second (λ e. cc) in
     let first = v.reads.leaves.others First (λ e. cc) ∙ p.leaves.others First (λ e. cc) in
@@ -166,11 +170,11 @@ returns-in-Ok-evaluate-clause-runs g c =
     let same : IsTrue tells → x ≡ y = λ e. text_left (a.text First circuit) x (o.whole e) in
     let there : IsTrue tells → a.text Second stimulus ≡ Some z = λ e. rw (← text) (p.whole e) in
     let given : IsTrue tells → z ≡ w = λ e. text_left (a.text Second stimulus) z (there e) in
-    let own = r.reads.answers in
+    let own = says.answers in
     let spells = own.spells in
     let sound = c.requires.unused.sound in
     let keeps = steps_keep tells told x y z w t edges same given spells last.slot s u sound
-    r.goes.touches (λ e. rw first (own.size e)) (λ e h. rw first (r.reads.moves e h)) v.moves in
+    r.goes.touches (λ e. rw first (own.size e)) (λ e h. rw first (says.moves e h)) v.moves in
     record {
       ended = steps_done tells told x y z w t edges same given spells _ _ refl
           (λ e h. v.prints e (r.goes.touches.told ∙ h) (spells e).circuit (by_pass (spells e).circuit)
@@ -178,11 +182,11 @@ returns-in-Ok-evaluate-clause-runs g c =
           (λ e h. device_keeps _ sound v.goes.sound (keeps e h));
       caused = done_caused _ _ (record {
         told = v.goes.touches.told ∙ r.goes.touches.told;
-        read = omega (arith, o.cause.later, r.reads.later, p.cause.later, v.read_later);
+        read = omega (arith, o.cause.later, says.later, p.cause.later, v.read_later);
         write = v.write_later;
         device = omega (arith, r.goes.touches.faults, v.goes.touches.faults);
       });
-      opens = opens_eval tells told circuit stimulus a last Done
+      opens = opens_eval c.args.uninit tells told circuit stimulus a last Done
           (v.reads.leaves.text ∙ p.leaves.text ∙ text)
           (λ e l. lost_opened (a.slot First) (b.slot First) (last.slot First) (a.text First circuit)
           fresh.first.lost (o.lost e) (ap (λ k. k.lost) first ∙ reads.lost e) l)
@@ -192,8 +196,8 @@ returns-in-Ok-evaluate-clause-runs g c =
           (λ e. text_some (a.text First circuit) x (o.whole e))
           (λ e. text_some (a.text Second stimulus) z (there e))
           (λ e h u. none_first tells told x y z w t edges same given spells e h);
-      all_read = reads_both tells circuit stimulus last Done
-          (rw first r.reads.answers.all_read) v.end;
+      all_read = reads_both c.args.uninit tells circuit stimulus last Done
+          (rw first says.answers.all_read) v.end;
       no_usage = tt;
       no_memory = tt;
     }
@@ -210,6 +214,7 @@ returns-in-Err-evaluate-clause-runs g c =
     let u = seen g.D.Device.state c.evaluate.new.rig in
     let o = c.in-Ok.ensures in
     let r = c.in-Ok-read_circuit.ensures in
+    let says = rw c.start_of.ensures.is at r.reads in
     let p = c.in-Ok-open.ensures in
     let v = c.in-Err-evaluate.ensures.runs in
     let edges = c.in-Ok-read_circuit.ordered in
@@ -219,8 +224,8 @@ returns-in-Err-evaluate-clause-runs g c =
     let circuit = c.args.circuit.now in
     let stimulus = c.args.stimulus.now in
     let fresh = c.requires.fresh in
-    let reads = r.reads.reads in
-    let own = r.reads.answers in
+    let reads = says.reads in
+    let own = says.answers in
     let text = reads.leaves.text ∙ o.leaves.text in
     let unopened = reads.leaves.others Second (λ e. cc) ∙ o.leaves.others Second (λ e. cc) in
     let first = v.reads.leaves.others First (λ e. cc) ∙ p.leaves.others First (λ e. cc) in
@@ -237,15 +242,15 @@ returns-in-Err-evaluate-clause-runs g c =
     (g.W.Sink.faults c.evaluate.new.out) in
     let sound = c.requires.unused.sound in
     let keeps = steps_keep tells told x y z w t edges same given spells last.slot s u sound
-    r.goes.touches (λ e. rw first (own.size e)) (λ e h. rw first (r.reads.moves e h)) v.moves in
+    r.goes.touches (λ e. rw first (own.size e)) (λ e h. rw first (says.moves e h)) v.moves in
     let touches = touches_within s t u [] _ r.goes.touches own.blocks.within v.goes.touches in
     record {
       ended = rw (c.status_of-in-Err-evaluate.ensures.is)
-          (ended_stop tells (asked_of_eval y w) _ _ s u touches v.goes.sound refl refl
+          (ended_stop tells (asked_of_eval (start_of c.args.uninit) y w) _ _ s u touches v.goes.sound refl refl
           (λ e h. device_keeps _ sound v.goes.sound (keeps e h)) stop faults later
           (steps_cause tells told x y z w t edges same given spells faults later s u stop refl
           r.goes.touches v.ends v.cause)
-          (eval_fills tells y w last.slot stop c.requires.none_moved touches v.goes.sound
+          (eval_fills (start_of c.args.uninit) tells y w last.slot stop c.requires.none_moved touches v.goes.sound
           (steps_full tells told x y z w t edges same given spells faults later u stop v.cause) keeps
           v.full)
           (steps_stopped tells told x y z w t edges same given spells _ _ refl stop
@@ -254,7 +259,7 @@ returns-in-Err-evaluate-clause-runs g c =
       caused = rw (c.status_of-in-Err-evaluate.ensures.is)
           (steps_caused _ _ (g.H.Shelf.faults c.open-2.new.self) (g.W.Sink.faults c.args.out.now) t u
           stop (search rules) (search rules) (search rules) (search rules) refl v.cause);
-      opens = rw (c.status_of-in-Err-evaluate.ensures.is) (opens_eval tells told circuit stimulus a last _
+      opens = rw (c.status_of-in-Err-evaluate.ensures.is) (opens_eval c.args.uninit tells told circuit stimulus a last _
           (v.reads.leaves.text ∙ p.leaves.text ∙ text)
           (λ e l. lost_opened (a.slot First) (b.slot First) (last.slot First) (a.text First circuit)
           fresh.first.lost (o.lost e) (ap (λ k. k.lost) first ∙ reads.lost e) l)
@@ -265,7 +270,7 @@ returns-in-Err-evaluate-clause-runs g c =
           (λ e. not_done stop _)
           (λ e h q. none_first tells told x y z w t edges same given spells e h));
       all_read = rw (c.status_of-in-Err-evaluate.ensures.is)
-          (reads_both tells circuit stimulus last _ (not_done stop _) (not_done stop _));
+          (reads_both c.args.uninit tells circuit stimulus last _ (not_done stop _) (not_done stop _));
       no_usage = search rules;
       no_memory = search rules;
     }

@@ -12,7 +12,7 @@ use Rattle.emtool.specs.Evaluation.{PrintsSteps}
 use Rattle.emtool.specs.Stop.{step_stop}
 use Rattle.emtool.proofs.LoopEnds.{IsLast, result_of}
 use Rattle.emtool.proofs.LoopPrints.{steps_ended}
-use Rattle.emtool.proofs.StepLoop.{MadeSteps, StepSays, first_scene, steps_begin, steps_next}
+use Rattle.emtool.proofs.StepLoop.{MadeSteps, StepSays, first_scene, steps_begin, steps_next, steps_can}
 use Rattle.emtool.proofs.eval.run_steps.Given as given
 use Rattle.emtool.proofs.eval.run_steps.Goals.{After-step}
 use Rattle.emtool.proofs.eval.run_steps.Goals as goal
@@ -37,6 +37,18 @@ loop-init g c =
           (sym c.new-feed.ensures) begin);
       later = omega arith;
     }
+
+-- another step can be made
+pub step-requires-clause-can : goal.step-requires-clause-can
+step-requires-clause-can g c =
+    let r = c.requires.can in
+    let first = first_scene g.H.Shelf g.W.Sink (seen g.D.Device.state c.args.rig.now)
+    c.args.evaluator.now c.args.shelf.now c.args.out.now in
+    steps_can g.met.W.Sink.rule g.Q.Queue g.H.Shelf.tells first
+    (g.met.W.Sink.is_state c.args.out.now) r.is
+    (scene (seen g.D.Device.state c.loop.rig) c.loop.evaluator
+    (source g.H.Shelf c.loop.feed c.loop.shelf) (g.W.Sink.state c.loop.out) c.loop.printer)
+    c.loop.invariant.made r.new (record { singles = r.free; areas = r.areas; rack = r.rack })
 
 -- A step was made.
 module _ (g : given.Over) (c : After-step g) where

@@ -10,6 +10,7 @@ use Rattle.aig_forward.specs.Step.{scene}
 use Rattle.em_space.proofs.Held.{apart_none}
 use Rattle.em_space.proofs.Queues.{out_same}
 use Rattle.aig_forward.proofs.evaluator.Evaluator.step.Goals as goal
+use Rattle.aig_defs.specs.Circuit.{columns}
 
 pub returns-in_err-inputs-clause-keeps : goal.returns-in_err-inputs-clause-keeps
 returns-in_err-inputs-clause-keeps g c =
@@ -156,7 +157,7 @@ returns-in_err-put_outputs-clause-printed g c = λ w z circuit order state h.
     (seen g.D.Device.state c.pass.new.rig) in
     let new = printing g.Q.Queue g.W.Sink c.put_outputs.new.queue c.put_outputs.new.sink
     c.put_outputs.new.printer (seen g.D.Device.state c.put_outputs.new.rig) in
-    put_stops g.Q.Queue circuit order state line.bits _ _ _ _ c.pass.new.self.header.outputs old new
+    put_stops g.Q.Queue circuit order state line.bits _ _ _ _ (columns c.pass.new.self.header) old new
     c.from_residual-in_err-put_outputs.result _ c.from_residual-in_err-put_outputs.ensures.1
     (rw h.header x) (outputs_are g.Q.Queue pass.keeps pass.passes len v) told p.cause p.part p.front
 
