@@ -49,4 +49,6 @@ pub enum AigKind {
     Fairness,
     /// A latch's reset is neither 0, 1 nor the latch's own literal.
     BadReset,
+    /// The circuit has latches, and many steps of it were to be evaluated at once. The place is 0.
+    Latched,
 }

@@ -46,6 +46,7 @@ aig_kind_name aig.Uninit = codes "Uninit"
 aig_kind_name aig.Justice = codes "Justice"
 aig_kind_name aig.Fairness = codes "Fairness"
 aig_kind_name aig.BadReset = codes "BadReset"
+aig_kind_name aig.Latched = codes "Latched"
 
 -- the name of what is wrong with an input
 abbrev pub malform_name : Malform → List ℕ

@@ -55,6 +55,7 @@ fn aig_kind(kind: AigKind) -> &'static [u8]
         AigKind::Justice => b"Justice",
         AigKind::Fairness => b"Fairness",
         AigKind::BadReset => b"BadReset",
+        AigKind::Latched => b"Latched",
     }
 }
 
