@@ -62,8 +62,7 @@ impl<'p, R: Files> FileDevice<'p, R> {
         }
     }
 
-    /// Whether `begin` ended with Ok. Then the file was made or emptied, and whoever made the
-    /// device may remove it.
+    /// Whether `begin` ended with Ok. Then the file was made, and whoever made the device may remove it.
     pub fn is_begun(&self) -> bool
         ensures { IsTrue result ↔ 0 < self.now.blocks }
     {
@@ -112,8 +111,8 @@ impl<'p, R: Files> FileDevice<'p, R> {
 impl<'p, R: Files> Device for FileDevice<'p, R> {
     ghost state = { untold_device };
 
-    /// Makes the file, or empties it. `NoMemory`: there was no memory for the bytes of one block,
-    /// and the file wasn't touched.
+    /// Makes the file. If one is there, its name is taken away first. `NoMemory`: there was no memory for the
+    /// bytes of one block, and the file wasn't touched.
     fn begin(&mut self, block: u32, blocks: u64) -> Result<(), BeginFault>
         requires fresh { self.old.blocks ≡ 0 }
         requires block_low { 128 ≤ block }

@@ -1,4 +1,4 @@
-//! The calls on a file: it is opened empty, and blocks of bytes are read and written at their
+//! The calls on a file: a new one is opened, and blocks of bytes are read and written at their
 //! offsets.
 ghost use Rattle.std.specs.Prelude.{◌≡◌, ◌<◌, ◌≤◌, true, Some, is_some, length, take};
 ghost use Rattle.std.specs.Prelude.{OnOk, IfOk, IfSome};
@@ -12,22 +12,33 @@ use std::os::unix::fs::{MetadataExt, OpenOptionsExt, PermissionsExt};
 /// The permissions of the file: its owner may read and write it.
 const MODE: u32 = 0o600;
 
-/// Opens the file at `path` with no bytes in it and the permissions `MODE`. A missing file is made.
+/// How often a new file is tried. Each time another run may take the name at the same moment.
+const TRIES: u32 = 100;
+
+/// Makes a file at `path` with no bytes in it and the permissions `MODE`. The name is taken from a file
+/// that stands there; another run that has that file open keeps it.
 ///
 /// A symbolic link at `path` isn't followed. It is refused, as are all else that isn't a regular
 /// file, a file with a second name, and one whose permissions this user may not set.
 pub(crate) fn open_empty<R: Files>(rt: &R, path: &str) -> io::Result<R::File> {
-    let made = OpenOptions::new()
+    for _ in 0..TRIES {
+        match open_new(rt, path) {
+            Ok(file) => return keep_made(rt, path, &file),
+            Err(error) if error.kind() == ErrorKind::AlreadyExists => free_name(rt, path)?,
+            Err(error) => return Err(error),
+        }
+    }
+    Err(ErrorKind::AlreadyExists.into())
+}
+
+/// Makes the file at `path`. Nothing may stand there.
+fn open_new<R: Files>(rt: &R, path: &str) -> io::Result<R::File> {
+    OpenOptions::new()
         .read(true)
         .write(true)
         .create_new(true)
         .mode(MODE)
-        .open(rt, path);
-    match made {
-        Ok(file) => keep_made(rt, path, &file),
-        Err(error) if error.kind() == ErrorKind::AlreadyExists => open_emptied(rt, path),
-        Err(error) => Err(error),
-    }
+        .open(rt, path)
 }
 
 /// The copy of a file that was just made. If it can't be had, the file is removed.
@@ -46,27 +57,41 @@ fn apart_from_streams<F: OpenFile>(file: &F) -> io::Result<F> {
     file.try_clone()
 }
 
-/// Opens the regular file that stands at `path`, and cuts it to no bytes. A file that is refused is
-/// left as it was.
-fn open_emptied<R: Files>(rt: &R, path: &str) -> io::Result<R::File> {
-    let named = fs::symlink_metadata(rt, path)?;
+/// Takes the name from the regular file that stands at `path`, if that is still there. A file that is
+/// refused keeps its name and its bytes.
+fn free_name<R: Files>(rt: &R, path: &str) -> io::Result<()> {
+    let Some(named) = if_there(fs::symlink_metadata(rt, path))? else {
+        return Ok(());
+    };
     if !named.is_file() {
         return Err(ErrorKind::Unsupported.into());
     }
-    let first = OpenOptions::new().read(true).write(true).open(rt, path)?;
+    let Some(first) = if_there(OpenOptions::new().read(true).write(true).open(rt, path))? else {
+        return Ok(());
+    };
     let file = apart_from_streams(&first)?;
     let opened = file.metadata()?;
-    // Between the two calls the name may have been given to another file.
-    if !opened.is_file() || opened.dev() != named.dev() || opened.ino() != named.ino() {
-        return Err(ErrorKind::Unsupported.into());
+    // Between the two calls another run may have taken the name, or given it to another file.
+    if opened.nlink() == 0 || opened.dev() != named.dev() || opened.ino() != named.ino() {
+        return Ok(());
     }
     // A file with a second name may be another program's.
     if opened.nlink() != 1 {
         return Err(ErrorKind::Unsupported.into());
     }
+    // Only the file's owner may do this, so that another user's file is refused.
     file.set_permissions(Permissions::from_mode(MODE))?;
-    file.set_len(0)?;
-    Ok(file)
+    if_there(fs::remove_file(rt, path))?;
+    Ok(())
+}
+
+/// What a call on a name gave, or none if nothing has the name.
+fn if_there<T>(given: io::Result<T>) -> io::Result<Option<T>> {
+    match given {
+        Ok(it) => Ok(Some(it)),
+        Err(error) if error.kind() == ErrorKind::NotFound => Ok(None),
+        Err(error) => Err(error),
+    }
 }
 
 /// Writes these bytes to the open file, from byte `offset` on.
