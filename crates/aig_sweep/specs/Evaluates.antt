@@ -1,5 +1,5 @@
--- What `evaluate` and `columns` do: a step, or one in each lane, without its stimulus and its printed line.
-use Rattle.std.specs.Prelude.{◌≡◌, ◌<◌, ◌≤◌, ℕ, ◌+◌, ◌*◌, ◌-◌, max, Bool, false, List, ◌++◌, length, All, IsTrue, Result, Ok, Err}
+-- What `evaluate` does: a step in each lane, without its stimulus and its printed line.
+use Rattle.std.specs.Prelude.{◌≡◌, ◌<◌, ◌≤◌, ℕ, ◌+◌, ◌*◌, ◌-◌, Bool, false, List, ◌++◌, length, All, IsTrue, Result, Ok, Err}
 use Rattle.em_record.specs.Shape.{fan_of}
 use Rattle.em_record.specs.declared.record.Record.{Record}
 use Rattle.em_frames.specs.Pool.{PoolCounts}
@@ -17,7 +17,7 @@ use Rattle.aig_defs.specs.declared.circuit.Gate.{Gate}
 use Rattle.aig_defs.specs.declared.circuit.Header.{Header}
 use Rattle.aig_edges.specs.Graph.{edge_count}
 use Rattle.aig_sweep.specs.Bits.{bits_of}
-use Rattle.aig_sweep.specs.Lists.{column_room, latch_room}
+use Rattle.aig_sweep.specs.Lists.{latch_room}
 use Rattle.aig_sweep.specs.QueueState.{QueueState}
 
 -- The frames that a step may need are free: those of a queue's call, and four single ones.
@@ -66,26 +66,6 @@ EvaluatesTo h given gates bits q p (Err fault) =
     StopsBeside (2 * edge_count h) (bits.blocks + latch_room h q.rig)
     (2 * latch_room h q.rig + 1) 1 (q.blocks ++ chain_blocks q.rig bits)
     (bits_account given gates bits) q.counts p.counts q.rig p.rig fault
-
--- The words were taken, and the columns' words are a new list.
-pub record GivesColumns (h : Header) (given gates words : Chain) (q p : QueueState) (list : Chain)
-    : Type 0 where
-  pub runs : RunsBeside (2 * edge_count h) (max words.blocks list.blocks)
-      (q.blocks ++ chain_blocks q.rig words) (p.blocks ++ chain_blocks p.rig list)
-      (bits_account given gates words) (chain_account 1 list) q.counts p.counts q.rig p.rig
-  pub is : IsChain p.rig list
-  pub packed : IsTrue q.rig.device.told → IsPacked p.rig list
-  pub count_is : list.count ≡ columns h
-  pub blocks_is : list.blocks ≡ column_room h q.rig
-  pub left : p.counts.len ≡ 0
-
-abbrev pub ColumnsTo : Header → Chain → Chain → Chain → QueueState → QueueState
-    → Result Chain EmFault → Type 0
-ColumnsTo h given gates words q p (Ok list) = GivesColumns h given gates words q p list
-ColumnsTo h given gates words q p (Err fault) =
-    StopsBeside (2 * edge_count h) (max words.blocks (column_room h q.rig))
-    (2 * column_room h q.rig + 1) 1 (q.blocks ++ chain_blocks q.rig words)
-    (bits_account given gates words) q.counts p.counts q.rig p.rig fault
 
 -- The records of a step's chains are those of a circuit whose gates have this order, and of these
 -- bits of its inputs and latches.

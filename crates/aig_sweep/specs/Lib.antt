@@ -1,4 +1,5 @@
 pub mod Bits
+pub mod Columns
 pub mod Evaluates
 pub mod Line
 pub mod Lists

@@ -9,7 +9,6 @@ use Rattle.em_space.specs.declared.fault.EmFault.{EmFault}
 use Rattle.em_chain.specs.Chain.{IsChain, chain_blocks, chain_items, payload_in}
 use Rattle.em_chain.specs.Counts.{ceiling}
 use Rattle.em_chain.specs.declared.chain.Chain.{Chain}
-use Rattle.aig_defs.specs.Circuit.{columns}
 use Rattle.aig_defs.specs.declared.circuit.Header.{Header}
 use Rattle.aig_text.specs.Draft.{chains_blocks}
 use Rattle.aig_edges.specs.Graph.{ordered_blocks, ordered_size}
@@ -26,10 +25,6 @@ latch_room h s = ceiling h.latches (payload_in s)
 -- the blocks of a list of a word for each input
 abbrev pub input_room : Header → RigState → ℕ
 input_room h s = ceiling h.inputs (payload_in s)
-
--- the blocks of a list of a word for each column
-abbrev pub column_room : Header → RigState → ℕ
-column_room h s = ceiling (columns h) (payload_in s)
 
 -- the account of lists with this many blocks, all stored, and with this many moves to come
 abbrev pub lists_account : ℕ → ℕ → Account

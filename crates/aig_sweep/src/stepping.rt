@@ -6,7 +6,8 @@ ghost use Rattle.aig_defs.specs.Circuit.{Circuit, IsHeader};
 ghost use Rattle.aig_defs.specs.Value.{step_of};
 ghost use Rattle.aig_defs.specs.declared.circuit.Gate.{Gate};
 ghost use Rattle.aig_sweep.specs.Bits.{bits_of};
-ghost use Rattle.aig_sweep.specs.Evaluates.{CanEvaluate, ColumnsTo, EvaluatesTo, HasChains, Represents};
+ghost use Rattle.aig_sweep.specs.Columns.{ColumnsTo};
+ghost use Rattle.aig_sweep.specs.Evaluates.{CanEvaluate, EvaluatesTo, HasChains, Represents};
 ghost use Rattle.aig_edges.specs.Graph.{edge_count};
 ghost use Rattle.aig_sweep.specs.QueueState.{queue_state};
 ghost use Rattle.aig_words.specs.Words.{lane};
@@ -125,7 +126,7 @@ pub fn columns<D: Device, Q: Queue>(
     header: &Header,
     given: &Chain,
     gates: &Chain,
-    words: Chain,
+    bits: Chain,
 ) -> Result<Chain, EmFault>
     requires sound { Sound (seen D.state rig.old) }
     requires is { Q.IsQueue queue.old (seen D.state rig.old) }
@@ -134,21 +135,21 @@ pub fn columns<D: Device, Q: Queue>(
     requires free { CanEvaluate (seen D.state rig.old).pool }
     requires header { IsHeader header.now }
     requires none { header.now.latches ≡ 0 }
-    requires chains { HasChains header.now given.now gates.now words
+    requires chains { HasChains header.now given.now gates.now bits
         (queue_state Q.Queue queue.old (seen D.state rig.old)) }
     ensures frames { Q.HasItsFrames queue.new (seen D.state rig.new) }
     ensures queue { OnOk result (Q.IsQueue queue.new (seen D.state rig.new)) }
-    ensures gives { ColumnsTo header.now given.now gates.now words
+    ensures columns { ColumnsTo header.now given.now gates.now bits
         (queue_state Q.Queue queue.old (seen D.state rig.old))
         (queue_state Q.Queue queue.new (seen D.state rig.new)) result }
     ensures values { IfOk result (λ list. IsTrue (seen D.state rig.old).device.told
         → (i : ℕ) → i < 64 → (c : Circuit) (order : List Gate) (input : List Bool)
         → Represents c order [] input header.now (chain_items (seen D.state rig.old) given.now)
         (chain_items (seen D.state rig.old) gates.now)
-        (lane i (chain_items (seen D.state rig.old) words))
+        (lane i (chain_items (seen D.state rig.old) bits))
         → bits_of (lane i (chain_items (seen D.state rig.new) list)) ≡ (step_of c [] input).0) }
 {
-    spread(rig, queue, header, given, gates, words)?;
+    spread(rig, queue, header, given, gates, bits)?;
     let count = header.outputs + header.bads + header.constraints;
     let list = collect(rig, queue, count, 0)?;
     Ok(list)
