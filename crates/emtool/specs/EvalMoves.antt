@@ -18,13 +18,13 @@ abbrev pub making_moves : ShapeNumbers → ℕ → ℕ
 making_moves shape size = 6 * ceiling size (payload_of shape) + 10
 
 -- how many lines of the stimulus a round of an evaluation reads at most: a step reads one, a group 64
-abbrev pub lines_of : Bool → ℕ
-lines_of wide = if wide then 64 else 1
+abbrev pub round_lines : Bool → ℕ
+round_lines wide = if wide then 64 else 1
 
 -- the most calls of the queue in a round: a step makes two for each edge, and a group two for each word of
 -- its inputs and of its columns besides
-abbrev pub calls_of : Bool → ℕ → ℕ
-calls_of wide size = if wide then 4 * size + 252 else 2 * size
+abbrev pub round_calls : Bool → ℕ → ℕ
+round_calls wide size = if wide then 4 * size + 252 else 2 * size
 
 -- the moves of this many rounds along such edges, each with this many calls of the queue at most: those of
 -- its lists, and those of the queue. Before the first round is begun nothing is moved.
@@ -35,12 +35,12 @@ calling_moves shape size calls (suc n) = suc n * (9 * ceiling size (payload_of s
 
 -- the moves of this many steps, and of this many groups
 abbrev pub steps_moves : ShapeNumbers → ℕ → ℕ → ℕ
-steps_moves shape size n = calling_moves shape size (calls_of false size) n
+steps_moves shape size n = calling_moves shape size (round_calls false size) n
 
 abbrev pub groups_moves : ShapeNumbers → ℕ → ℕ → ℕ
-groups_moves shape size n = calling_moves shape size (calls_of true size) n
+groups_moves shape size n = calling_moves shape size (round_calls true size) n
 
 -- the moves of the rounds in which this many lines are begun
 abbrev pub rounds_moves : Bool → ShapeNumbers → ℕ → ℕ → ℕ
 rounds_moves wide shape size lines =
-    calling_moves shape size (calls_of wide size) (ceiling lines (lines_of wide))
+    calling_moves shape size (round_calls wide size) (ceiling lines (round_lines wide))
