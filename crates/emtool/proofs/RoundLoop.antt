@@ -106,6 +106,12 @@ module _ {Q : Type 0} (queue : QueueGhosts Q) (s t : RigState) (e f : Sweeper Q)
       let new = j.state_blocks in
       omega (arith, old, new, latch_same, given_same, gates_same)
 
+-- Two rounds with the same numbers are the same.
+pub same_round : (lines a b c x y z : ℕ) → a ≡ x → b ≡ y → c ≡ z
+    → ◌≡◌ {A = Round} (record { lines = lines; calls = a; room = b; moves = c })
+    (record { lines = lines; calls = x; room = y; moves = z })
+same_round lines a b c x y z e f g = rw (e, f, g) refl
+
 -- x more for one more
 pub calls_more : (x k : ℕ) → x * (k + 1) ≡ x * k + x
 calls_more x k = omega arith
