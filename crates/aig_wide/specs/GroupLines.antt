@@ -46,7 +46,7 @@ pub record GroupText (inputs : ℕ) (old new : Source) (words : List (List ℕ))
 abbrev pub CountsBy : ℕ → ℕ → Ending → Type 0
 CountsBy lines part ending.Full = (lines ≡ 64) × (part ≡ 0)
 CountsBy lines part ending.Ended = (part ≡ 0)
-CountsBy lines part (ending.Faulty kind place) = Unit {0}
+CountsBy lines part (ending.Faulty kind place) = (lines < 64)
 
 -- A group was read: the words of its lines stand in the queue, and those of a part of a faulty one.
 pub record GroupRead (tells : Bool) (inputs : ℕ) (old new : Source) (q p : QueueState) (r : Group) : Type 0

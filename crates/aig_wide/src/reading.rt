@@ -132,12 +132,10 @@ fn read_rest<D: Device, H: Shelf, Q: Queue>(
         (seen D.state rig.new) queue.old queue.new feed.old.place feed.new.place) }
 {
     if inputs == 0 {
-        take_end(feed, first)?;
-        return Ok(());
+        return take_end(feed, first);
     }
     read_tiles(rig, feed, shelf, queue, inputs, lines)?;
-    read_end(feed, shelf)?;
-    Ok(())
+    read_end(feed, shelf)
 }
 
 /// The first byte that is left of the text, without taking it.
