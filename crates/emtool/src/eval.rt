@@ -20,9 +20,10 @@ ghost use Rattle.emtool.specs.Service.{IsUnused};
 
 use crate::job::Task;
 use crate::run::status_of;
-use crate::status::Status;
+use crate::status::{Malform, Status};
 use crate::stop::Stop;
 use aig_bin::read_either;
+use aig_defs::AigKind;
 use aig_edges::{Ordered, check_and_build};
 use aig_forward::{Evaluator, StepEnd};
 use aig_order::order;
@@ -136,9 +137,11 @@ fn evaluate<D: Device, H: Shelf, W: Sink>(
 }
 
 /// Evaluates the circuit of the first name on the stimulus of the second, on an open rig of which
-/// no block is or was in use. The stimulus isn't opened if the circuit has a fault.
+/// no block is or was in use. The stimulus isn't opened if the circuit has a fault, or if the job is wide
+/// and the circuit has latches.
 pub fn run_eval<D: Device, H: Shelf, W: Sink>(
     uninit: Option<bool>,
+    wide: bool,
     rig: &mut Rig<'_, D>,
     shelf: &mut H,
     circuit: &str,
@@ -150,8 +153,8 @@ pub fn run_eval<D: Device, H: Shelf, W: Sink>(
     requires none_moved { (seen D.state rig.old).moves ≡ 0 }
     requires fresh { IsFresh (H.stand shelf.old) }
     ensures goes { Goes [] (seen D.state rig.old) (seen D.state rig.new) }
-    ensures runs { RunsTask H.Shelf W.Sink (Task.Eval uninit)
-        (names_of (Task.Eval uninit) circuit.now stimulus.now)
+    ensures runs { RunsTask H.Shelf W.Sink (Task.Eval uninit wide)
+        (names_of (Task.Eval uninit wide) circuit.now stimulus.now)
         (seen D.state rig.old) (seen D.state rig.new) shelf.old out.old shelf.new out.new result }
 {
     let Ok(()) = shelf.open(Slot::First, circuit) else {
@@ -161,6 +164,12 @@ pub fn run_eval<D: Device, H: Shelf, W: Sink>(
         Ok(ordered) => ordered,
         Err(stop) => return status_of(stop),
     };
+    if wide && ordered.header.latches != 0 {
+        return Status::Malformed {
+            kind: Malform::Aig(AigKind::Latched),
+            place: 0,
+        };
+    }
     let Ok(()) = shelf.open(Slot::Second, stimulus) else {
         return Status::ReadFault;
     };
