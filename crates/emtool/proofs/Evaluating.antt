@@ -35,7 +35,7 @@ module _ (start : Option ℕ) (circuit : List ℕ) (c : Circuit) (p : ℕ) (x : 
       ∙ at_some c.header.latches some
     where
       at_some : (n : ℕ) → (n ≡ 0 → ⊥)
-          → (if nat_lt 0 n then Some (Latched, 0) else None) ≡ Some {A = AigKind × ℕ} (Latched, 0)
+          → (if nat_lt 0 n then Some (Latched, 0) else None) ≡ Some (Latched, 0)
       at_some zero h = absurd (h refl)
       at_some (suc n) h = refl
 
