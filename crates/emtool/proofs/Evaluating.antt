@@ -1,5 +1,5 @@
 -- What an evaluation is due, by what was read of its texts.
-use Rattle.std.proofs.Common.{◌≡◌, ℕ, zero, suc, List, [], ap, refl, ◌∙◌, nat_lt, if◌then◌else◌, Bool, true, false, Some, None, Option}
+use Rattle.std.proofs.Common.{◌≡◌, ℕ, zero, suc, List, [], ap, refl, ◌∙◌, Bool, true, false, Some, None, Option}
 use Rattle.aig_defs.specs.declared.fault.AigKind.{AigKind}
 use Rattle.aig_defs.specs.declared.fault.AigKind.TheVariants.{Latched}
 use Rattle.aig_defs.specs.Circuit.{Circuit}
@@ -8,7 +8,7 @@ use Rattle.aig_defs.specs.Stimulus.{output_lines, steps_begun, stimulus_of}
 use Rattle.aig_defs.specs.TextFault.{either_text, text_fault}
 use Rattle.aig_defs.specs.Value.{run_of}
 use Rattle.em_io.specs.Shelf.{SlotState}
-use Rattle.emtool.specs.EvalDue.{aig_status, eval_output, eval_output_for, eval_status, eval_status_for, fault_or, job_fault, latched_fault, lines_for, steps_for}
+use Rattle.emtool.specs.EvalDue.{aig_status, eval_output, eval_output_for, eval_status, eval_status_for, fault_or, job_fault, latched_fault, latches_fault, lines_for, steps_for}
 use Rattle.emtool.specs.EvalSize.{given_of, steps_after, steps_read}
 use Rattle.emtool.specs.declared.status.Malform.TheVariants.{Aig}
 use Rattle.emtool.specs.declared.status.Status.TheVariants.{Malformed}
@@ -18,6 +18,10 @@ pub fault_first : (wide : Bool) (start : Option ℕ) (circuit : List ℕ) (kind 
     → text_fault start circuit ≡ Some (kind, place) → job_fault wide start circuit ≡ Some (kind, place)
 fault_first wide start circuit kind place h = ap (λ f. fault_or f wide (either_text start 0 circuit)) h
 
+fault_at : (n : ℕ) → (n ≡ 0 → ⊥) → latches_fault n ≡ Some (Latched, 0)
+fault_at zero h = absurd (h refl)
+fault_at (suc n) h = refl
+
 -- A text without a fault, by the circuit that it spells.
 module _ (start : Option ℕ) (circuit : List ℕ) (c : Circuit) (p : ℕ) (x : List ℕ)
     (none : text_fault start circuit ≡ None) (reads : either_text start 0 circuit ≡ Reads c p x) where
@@ -25,19 +29,14 @@ module _ (start : Option ℕ) (circuit : List ℕ) (c : Circuit) (p : ℕ) (x : 
   pub fault_none : (wide : Bool) → (wide ≡ true → c.header.latches ≡ 0) → job_fault wide start circuit ≡ None
   fault_none false few = ap (λ f. fault_or f false (either_text start 0 circuit)) none
   fault_none true few = ap (λ f. fault_or f true (either_text start 0 circuit)) none ∙ ap latched_fault reads
-      ∙ ap (λ (n : ℕ). if nat_lt 0 n then Some (Latched, 0) else None) (few refl)
+      ∙ ap latches_fault (few refl)
 
   -- a wide job stops at its latches
   pub fault_latched : (wide : Bool) → wide ≡ true → (c.header.latches ≡ 0 → ⊥)
       → job_fault wide start circuit ≡ Some (Latched, 0)
   fault_latched false is some = absurd (cc)
   fault_latched true is some = ap (λ f. fault_or f true (either_text start 0 circuit)) none ∙ ap latched_fault reads
-      ∙ at_some c.header.latches some
-    where
-      at_some : (n : ℕ) → (n ≡ 0 → ⊥)
-          → (if nat_lt 0 n then Some (Latched, 0) else None) ≡ Some (Latched, 0)
-      at_some zero h = absurd (h refl)
-      at_some (suc n) h = refl
+      ∙ fault_at c.header.latches some
 
 -- At a fault of the circuit that is the status, and nothing is printed.
 module _ (wide : Bool) (start : Option ℕ) (circuit stimulus : List ℕ) (kind : AigKind) (place : ℕ)

@@ -1,6 +1,6 @@
 -- What an evaluation is due, by the texts of the circuit and of the stimulus: the status and the text
 -- on the output.
-use Rattle.std.specs.Prelude.{ℕ, Bool, List, [], nat_lt, if◌then◌else◌, Option, Some, None}
+use Rattle.std.specs.Prelude.{ℕ, zero, suc, Bool, List, [], if◌then◌else◌, Option, Some, None}
 use Rattle.aig_defs.specs.declared.fault.AigKind.{AigKind}
 use Rattle.aig_defs.specs.declared.fault.AigKind.TheVariants.{Latched}
 use Rattle.aig_defs.specs.Circuit.{Circuit}
@@ -30,9 +30,14 @@ abbrev pub lines_for : Reading Circuit → List (List Bool) → List ℕ
 lines_for (Reads c p x) steps = output_lines (run_of c steps)
 lines_for (Fails kind place) steps = []
 
--- the fault of a circuit with latches, if many steps are to be taken at once
+-- the fault of a circuit with this many latches, if many steps are to be taken at once
+abbrev pub latches_fault : ℕ → Option (AigKind × ℕ)
+latches_fault zero = None
+latches_fault (suc n) = Some (Latched, 0)
+
+-- the same of a circuit that was read
 abbrev pub latched_fault : Reading Circuit → Option (AigKind × ℕ)
-latched_fault (Reads c p x) = if nat_lt 0 c.header.latches then Some (Latched, 0) else None
+latched_fault (Reads c p x) = latches_fault c.header.latches
 latched_fault (Fails kind place) = None
 
 -- a circuit's own fault, else that of its latches, if the job is wide
