@@ -1,5 +1,5 @@
 -- How an evaluation ends, from what its parts say.
-use Rattle.std.proofs.Common.{◌≡◌, ℕ, ◌+◌, ◌<◌, ◌≤◌, Bool, true, false, List, [], ap, sym, subst, ◌∙◌, arith, IsTrue, Option, Some, None, Ok, Err}
+use Rattle.std.proofs.Common.{◌≡◌, ℕ, ◌+◌, ◌<◌, ◌≤◌, ◌⊎◌, inl, inr, Bool, true, false, List, [], ap, sym, subst, ◌∙◌, arith, IsTrue, Option, Some, None, Ok, Err}
 use Rattle.em_record.specs.Shape.{IsShape, ShapeNumbers, payload_of}
 use Rattle.em_io.specs.Shelf.{IsUnopened, SlotState}
 use Rattle.em_io.specs.declared.shelf.Slot.{Slot}
@@ -21,7 +21,7 @@ use Rattle.aig_defs.proofs.EitherText.{text_none}
 use Rattle.aig_defs.specs.Begun.{circuit_size}
 use Rattle.aig_edges.specs.declared.graph.Ordered.{Ordered}
 use Rattle.emtool.specs.Asked.{asked_of_eval}
-use Rattle.emtool.specs.EvalMoves.{circuit_moves, making_moves, steps_moves}
+use Rattle.emtool.specs.EvalMoves.{circuit_moves, making_moves, rounds_moves}
 use Rattle.emtool.specs.EvalDue.{aig_status, eval_output, eval_status, job_fault}
 use Rattle.emtool.specs.EvalSize.{circuit_read, eval_cost, given_of, passes_read, rounds_of, steps_read}
 use Rattle.emtool.specs.Evaluation.{CircuitCause, EndsSteps, FillsEval, PrintsAll, SpellsEdges, StepsCause, steps_of}
@@ -34,7 +34,7 @@ use Rattle.emtool.specs.declared.status.Status.TheVariants.{Done, Malformed}
 use Rattle.emtool.specs.declared.stop.Stop.{Stop}
 use Rattle.emtool.specs.declared.stop.Stop.TheVariants.{Fault, Read, Write, Em}
 use Rattle.emtool.proofs.EndLaws.{KeepsMoves, Stopped, done_whole, ended_due, malformed_whole}
-use Rattle.emtool.proofs.EvalCosts.{evaluation_within, making_rises, steps_moves_rise}
+use Rattle.emtool.proofs.EvalCosts.{evaluation_within, making_rises, rounds_rise}
 use Rattle.emtool.proofs.Evaluating.{fault_due, fault_first, fault_latched, fault_none, lines_due, nothing_due, steps_counted, steps_due}
 use Rattle.emtool.proofs.Moves.{full_by_moves}
 
@@ -72,6 +72,11 @@ both_within u t s a few b c g h i k = omega (arith, g, h, i, k)
 
 both_rise : (a b c d : ℕ) → a ≤ b → c ≤ d → a + c ≤ b + d
 both_rise a b c d h k = omega (arith, h, k)
+
+-- a job that its circuit's latches don't stop isn't wide, or the circuit has none
+pub none_taken : {wide : Bool} {n : ℕ} → (wide ≡ true × n ≡ 0) ⊎ (wide ≡ false) → wide ≡ true → n ≡ 0
+none_taken (inl both) h = both.1
+none_taken (inr narrow) h = absurd (cc (h, narrow))
 
 -- What a full device says: it has few blocks, since few were moved.
 pub eval_fills : (wide : Bool) (start : Option ℕ) (tells : Bool) (y w : List ℕ) (slots : Slot → SlotState) {a c : RigState}
@@ -131,15 +136,15 @@ module _ (wide : Bool) (start : Option ℕ) (tells : Bool) (x y stimulus : List 
       → KeepsEval wide start tells y stimulus slots a c
   circuit_keeps slots a c is moves = λ t d.
       let size = circuit_read start (slots First) y in
-      let rounds = rounds_of wide (steps_read start y (slots Second) stimulus) in
+      let steps = steps_read start y (slots Second) stimulus in
       let passes = passes_read start y in
       let own : c.moves ≤ a.moves + circuit_moves a.pool.shape size passes =
       subst (λ (v : List ℕ). c.moves ≤ a.moves
       + circuit_moves a.pool.shape (circuit_read start (slots First) v) (passes_read start v)) (e t) (moves t d) in
       part_within c.moves a.moves (circuit_moves a.pool.shape size passes)
-      (making_moves a.pool.shape size + steps_moves a.pool.shape size rounds)
-      (eval_cost a.pool.shape size rounds passes) own
-      (evaluation_within a.pool.shape size passes rounds is)
+      (making_moves a.pool.shape size + rounds_moves wide a.pool.shape size steps)
+      (eval_cost a.pool.shape size (rounds_of wide steps) passes) own
+      (evaluation_within wide a.pool.shape size passes steps is)
 
   module _ {IsState : List ℕ → Type 0} {took : List ℕ → List ℕ → List ℕ}
       (rule : IsRule IsState took) (old new : Outside) (ok : IsState old.output)
@@ -238,7 +243,7 @@ module _ (wide : Bool) {start : Option ℕ} (tells told : Bool) (x y z w : List 
       + circuit_moves a.pool.shape (circuit_read start (slots First) x) (passes_read start x))
       → (IsTrue tells → IsTrue m.device.told → c.moves ≤ m.moves
       + (making_moves m.pool.shape (circuit_size o.header)
-      + steps_moves m.pool.shape (circuit_size o.header)
+      + rounds_moves wide m.pool.shape (circuit_size o.header)
       (steps_of o.header.inputs z (slots Second))))
       → KeepsEval wide start tells y w slots a c
   steps_keep slots a c sound touches small first then = λ t d.
@@ -259,25 +264,18 @@ module _ (wide : Bool) {start : Option ℕ} (tells told : Bool) (x y z w : List 
       subst (λ (v : List ℕ). m.moves ≤ a.moves
       + circuit_moves shape (circuit_read start (slots First) v) (passes_read start v)) (e t) (first t d) in
       let size = circuit_size o.header in
-      let steps : c.moves ≤ m.moves + (making_moves shape size + steps_moves shape size n) =
-      subst (λ (v : ShapeNumbers). c.moves ≤ m.moves + (making_moves v size + steps_moves v size n))
+      let steps : c.moves ≤ m.moves + (making_moves shape size + rounds_moves wide shape size n) =
+      subst (λ (v : ShapeNumbers). c.moves ≤ m.moves + (making_moves v size + rounds_moves wide v size n))
       touches.shape (then t (touches.told ∙ d)) in
       let makes : making_moves shape size ≤ making_moves shape read =
       making_rises shape size read some large in
       subst (λ (k : ℕ). c.moves ≤ a.moves + eval_cost shape read (rounds_of wide k) passes) (sym count)
-      (in_rounds wide (both_within c.moves m.moves a.moves (circuit_moves shape read passes)
-      (making_moves shape size + steps_moves shape size n)
-      (making_moves shape read + steps_moves shape read n) (eval_cost shape read n passes) own steps
-      (both_rise (making_moves shape size) (making_moves shape read) (steps_moves shape size n)
-      (steps_moves shape read n) makes (steps_moves_rise shape size read n some large))
-      (evaluation_within shape read passes n sound.shape)))
-    where
-      in_rounds : (wide : Bool) → c.moves ≤ a.moves + eval_cost a.pool.shape (circuit_read start (slots First) y)
-          (steps_of o.header.inputs z (slots Second)) (passes_read start y)
-          → c.moves ≤ a.moves + eval_cost a.pool.shape (circuit_read start (slots First) y)
-          (rounds_of wide (steps_of o.header.inputs z (slots Second))) (passes_read start y)
-      in_rounds false h = h
-      in_rounds true h = ?
+      (both_within c.moves m.moves a.moves (circuit_moves shape read passes)
+      (making_moves shape size + rounds_moves wide shape size n)
+      (making_moves shape read + rounds_moves wide shape read n) (eval_cost shape read (rounds_of wide n) passes) own steps
+      (both_rise (making_moves shape size) (making_moves shape read) (rounds_moves wide shape size n)
+      (rounds_moves wide shape read n) makes (rounds_rise wide shape size read n some large))
+      (evaluation_within wide shape read passes n sound.shape))
 
   told_here : (old : Outside) → old.device.told ≡ told → IsTrue old.device.told → IsTrue told
   told_here old same d = subst (λ (b : Bool). IsTrue b) same d
@@ -323,15 +321,15 @@ module _ (wide : Bool) {start : Option ℕ} (tells told : Bool) (x y w : List �
       (text_none start y c (spells t).place [] reads ((spells t).orders d).is.ordered.faultless)
       reads wide is (λ h. some (ap (λ (v : Header). v.latches) (sym (spells t).header) ∙ h))
 
-  module _ {IsState : List ℕ → Type 0} {took : List ℕ → List ℕ → List ℕ} {shape : ShapeNumbers} {blocks : ℕ}
-      (rule : IsRule IsState took) (old new : Outside) (ok : IsState old.output)
-      (same : new.output ≡ old.output) (before : old.device.told ≡ told) where
+  module _ {IsState : List ℕ → Type 0} {took : List ℕ → List ℕ → List ℕ} (rule : IsRule IsState took)
+      (old new : Outside) (ok : IsState old.output) (same : new.output ≡ old.output)
+      (before : old.device.told ≡ told) where
     -- nothing is due
     nothing : IsTrue tells → IsTrue old.device.told → eval_output wide start y w ≡ []
     nothing t d = nothing_due wide start y w Latched 0
         (latched_first t (subst (λ (b : Bool). IsTrue b) before d))
 
-    pub ended_latched : KeepsMoves tells (asked_of_eval wide start y w) shape old new
+    pub ended_latched : {shape : ShapeNumbers} {blocks : ℕ} → KeepsMoves tells (asked_of_eval wide start y w) shape old new
         → Ended tells took (asked_of_eval wide start y w) shape blocks old new (Malformed (Aig Latched) 0)
     ended_latched kept = ended_due (asked_of_eval wide start y w) (Malformed (Aig Latched) 0)
         (malformed_whole (Aig Latched) 0)

@@ -27,7 +27,7 @@ use Rattle.aig_forward.specs.Outputs.{KeepsFront}
 use Rattle.aig_forward.specs.Step.{step_moves}
 use Rattle.aig_forward.specs.declared.evaluator.Evaluator.{Evaluator}
 use Rattle.aig_order.specs.OrderGraph.{OrdersCircuit}
-use Rattle.emtool.specs.EvalMoves.{circuit_moves, making_moves, steps_moves}
+use Rattle.emtool.specs.EvalMoves.{circuit_moves, making_moves, rounds_moves}
 use Rattle.emtool.specs.EvalSize.{circuit_read, given_of, passes_read}
 use Rattle.emtool.specs.Opens.{IsAllRead}
 use Rattle.emtool.specs.Run.{IsReady, ReadsFirst}
@@ -238,7 +238,7 @@ pub record PrintsAll (took : List ℕ → List ℕ → List ℕ) (lines old new 
 -- An evaluation by these edges, which are all that is on the rig: as `PrintsSteps`, with nothing pending,
 -- for a circuit in any order of its gates, from the state in which each latch has its reset. At every end the
 -- moves are those of making an evaluator, and of the steps that were begun.
-pub record RunsSteps {H W : Type 0} (h : ShelfGhosts H) (w : SinkGhosts W) (s t : RigState)
+pub record RunsSteps {H W : Type 0} (wide : Bool) (h : ShelfGhosts H) (w : SinkGhosts W) (s t : RigState)
     (o : Ordered) (shelf shelf_after : H) (out out_after : W) (result : Result (Unit {0}) Stop)
     : Type 0 where
   pub goes : Goes (ordered_blocks s o) s t
@@ -257,6 +257,6 @@ pub record RunsSteps {H W : Type 0} (h : ShelfGhosts H) (w : SinkGhosts W) (s t 
   pub full : IfErr result (λ stop. IfStopsFull stop (FillsEval t))
   pub moves : IsTrue h.tells → IsTrue s.device.told
       → t.moves ≤ s.moves + (making_moves s.pool.shape (circuit_size o.header)
-      + steps_moves s.pool.shape (circuit_size o.header)
+      + rounds_moves wide s.pool.shape (circuit_size o.header)
       (steps_of o.header.inputs ((h.stand shelf).slot Second).left
       ((h.stand shelf_after).slot Second)))

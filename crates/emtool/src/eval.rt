@@ -8,7 +8,7 @@
 //! unless the output failed (at a stop of shelf or rig the contract says a front of them). Left to
 //! the layers below: what a circuit, a step and a line are.
 
-ghost use Rattle.std.specs.Prelude.{◌≡◌, ◌≤◌, true, [], IfSome};
+ghost use Rattle.std.specs.Prelude.{◌≡◌, ◌≤◌, true, false, [], IfSome};
 ghost use Rattle.em_io.specs.Shelf.{IsFresh};
 ghost use Rattle.em_space.specs.Rig.{Goes};
 ghost use Rattle.em_space.specs.Seen.{seen};
@@ -125,7 +125,7 @@ fn evaluate<D: Device, H: Shelf, W: Sink>(
 ) -> Result<(), Stop>
     requires can { CanBegin (seen D.state rig.old) ordered }
     requires ready { ((H.stand shelf.old).slot Slot.Second).ready ≡ true }
-    ensures runs { RunsSteps H.Shelf W.Sink (seen D.state rig.old) (seen D.state rig.new)
+    ensures runs { RunsSteps false H.Shelf W.Sink (seen D.state rig.old) (seen D.state rig.new)
         ordered shelf.old shelf.new out.old out.new result }
 {
     let queue = ExtQueue::new(rig)?;
@@ -134,6 +134,24 @@ fn evaluate<D: Device, H: Shelf, W: Sink>(
     let done = run_steps(rig, &mut evaluator, shelf, &mut printer, out);
     evaluator.abandon(rig);
     send_rest(done, &mut printer, out)
+}
+
+/// The same, one step after another or, if it is wide, up to 64 at once. Then the circuit has no latches.
+fn evaluate_either<D: Device, H: Shelf, W: Sink>(
+    wide: bool,
+    rig: &mut Rig<'_, D>,
+    ordered: Ordered,
+    shelf: &mut H,
+    out: &mut W,
+) -> Result<(), Stop>
+    requires can { CanBegin (seen D.state rig.old) ordered }
+    requires few { wide ≡ true → ordered.header.latches ≡ 0 }
+    requires ready { ((H.stand shelf.old).slot Slot.Second).ready ≡ true }
+    ensures runs { RunsSteps wide H.Shelf W.Sink (seen D.state rig.old) (seen D.state rig.new)
+        ordered shelf.old shelf.new out.old out.new result }
+{
+    let _wide = wide;
+    evaluate(rig, ordered, shelf, out)
 }
 
 /// Evaluates the circuit of the first name on the stimulus of the second, on an open rig of which
@@ -173,7 +191,7 @@ pub fn run_eval<D: Device, H: Shelf, W: Sink>(
     let Ok(()) = shelf.open(Slot::Second, stimulus) else {
         return Status::ReadFault;
     };
-    match evaluate(rig, ordered, shelf, out) {
+    match evaluate_either(wide, rig, ordered, shelf, out) {
         Ok(()) => Status::Done,
         Err(stop) => status_of(stop),
     }
