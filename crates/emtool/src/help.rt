@@ -46,6 +46,10 @@ Options, before the operands:
   --uninit=N    at `eval` alone: 0 or 1, the bit with which a latch begins if its reset is its own
                 literal; no default: without the option such a circuit is refused
                 example: emtool eval --uninit=0 counter.aag counter.txt
+  --wide        at `eval` alone: up to 64 lines of STIMULUS at once, with the same output; a circuit
+                with latches is refused; it pays if STIMULUS has many lines and the circuit is larger
+                than memory
+                example: emtool eval --wide sorter.aag sorter.txt
   --stats       after the run, `moves N peak K` on the error stream: block moves, and the greatest
                 number of frames in use at once; not with exit code 1 or 7
                 example: emtool map --stats prices.txt
