@@ -84,7 +84,7 @@ pub record Whole (status : Status) : Type 1 where
 pub done_whole : Whole Done
 done_whole = record { on_end = λ P p. p; full = λ P. tt; damaged = λ P. tt }
 
-malformed_whole : (kind : Malform) (place : ℕ) → Whole (Malformed kind place)
+pub malformed_whole : (kind : Malform) (place : ℕ) → Whole (Malformed kind place)
 malformed_whole kind place = record { on_end = λ P p. p; full = λ P. tt; damaged = λ P. tt }
 
 -- So status, output and moves are all that has to be shown.

@@ -1,17 +1,20 @@
 -- The moves of an evaluation's parts add up to its transfer cost: reading and ordering a circuit in r
--- passes, and making its evaluator, is within r + 2 times the cost of 2E records, and T steps within T times
--- that. None of these numbers falls if a size rises.
-use Rattle.std.proofs.Common.{◌≡◌, ℕ, ◌+◌, ◌*◌, ◌<◌, ◌≤◌, zero, suc, arith}
+-- passes, and making its evaluator, is within r + 2 times the cost of 2E records, T steps are within T times
+-- that, and n groups within 2n times that. None of these numbers falls if a size rises.
+use Rattle.std.proofs.Common.{◌≡◌, ℕ, ◌+◌, ◌*◌, ◌<◌, ◌≤◌, zero, suc, Bool, true, false, refl, subst, sym, arith}
 use Rattle.std.proofs.Math.Nat.{mul-le-mul}
-use Rattle.em_record.specs.Cost.{blocks_of, cost}
-use Rattle.em_record.specs.Shape.{IsShape, ShapeNumbers, payload_of}
+use Rattle.std.specs.Int.{div_ceil}
+use Rattle.em_record.specs.Cost.{blocks_of, cost, lev}
+use Rattle.em_record.specs.Shape.{IsShape, ShapeNumbers, fan_of, payload_of}
+use Rattle.em_record.proofs.Blocks.{ceil_holds, ceil_least, shares_add}
+use Rattle.em_record.proofs.Levels.{lev-more, lev_rises}
 use Rattle.em_chain.specs.Counts.{ceiling}
 use Rattle.em_chain.proofs.Sessions.{ceiling_rises}
 use Rattle.em_tree_cost.specs.Shares.{cost_unit, floors_of, queue_share}
 use Rattle.em_tree_cost.proofs.Circuits.{queue_units}
 use Rattle.em_tree_cost.proofs.Rising.{cost_rises, queue_share_rises}
-use Rattle.emtool.specs.EvalMoves.{circuit_moves, making_moves, steps_moves}
-use Rattle.emtool.specs.EvalSize.{eval_cost}
+use Rattle.emtool.specs.EvalMoves.{calling_moves, circuit_moves, groups_moves, making_moves, rounds_moves, steps_moves}
+use Rattle.emtool.specs.EvalSize.{eval_cost, rounds_of}
 use Rattle.emtool.proofs.RoomLaws.{ceiling_most, fits_payloads, times_rises}
 
 -- half of both
@@ -41,10 +44,10 @@ circuit_sum : (r u first second lists : ℕ) → first ≤ 240 * 3 * u → secon
     → lists ≤ (10 * r + 68) * u → lists + first + second ≤ (r + 2) * (2048 * u)
 circuit_sum r u first second lists a b c = omega (arith, a, b, c)
 
--- those of steps
-steps_sum : (t u queue lists : ℕ) → queue ≤ 240 * t * u → lists ≤ 9 * t * u
+-- those of rounds
+rounds_sum : (t u queue lists : ℕ) → queue ≤ 1440 * t * u → lists ≤ 9 * t * u
     → lists + queue ≤ t * (2048 * u)
-steps_sum t u queue lists a b = omega (arith, a, b)
+rounds_sum t u queue lists a b = omega (arith, a, b)
 
 -- the moves of a circuit's lists, in one sum
 circuit_lists : (r c x y : ℕ) → ((10 * r + 62) * c + r + 40 + x + y) + (6 * c + 10)
@@ -81,33 +84,155 @@ circuit_within shape size passes is =
     (circuit_lists passes c x y) (cost_units shape size)
     (circuit_sum passes u x y ((10 * passes + 68) * c + (passes + 50)) first second lists)
 
--- T steps move at most T times that, and no step moves nothing.
-pub steps_within : (shape : ShapeNumbers) (size steps : ℕ) → IsShape shape
-    → steps_moves shape size steps ≤ steps * cost shape (2 * size)
-steps_within shape size zero is = omega arith
-steps_within shape size (suc n) is =
+-- the calls of a round of either kind are few: they fill at most twice as many blocks as 2E records, and two
+-- more
+calls_blocks : (shape : ShapeNumbers) (size : ℕ) → IsShape shape
+    → blocks_of shape (4 * size + 252) ≤ 2 * blocks_of shape (2 * size) + 2
+calls_blocks shape size is =
+    let q = blocks_of shape (2 * size) in
+    let low = is.block_low in
+    let holds = ceil_holds (2 * size) shape.block (omega (arith, low)) in
+    ceil_least (4 * size + 252) shape.block (2 * q + 2) (omega (arith, low))
+    (parts (2 * size) (4 * size) q shape.block low holds (omega arith))
+  where
+    parts : (n m q b : ℕ) → 128 ≤ b → n ≤ q * b → m ≡ 2 * n → m + 252 ≤ (2 * q + 2) * b
+    parts n m q b low holds e = omega (arith, low, holds, e)
+
+-- this many blocks and two fit where q of them do, a level down
+fits : (q fan : ℕ) → 16 ≤ fan → 2 * suc q + 2 ≤ suc q * fan
+fits q fan low =
+    let more = times_rises (suc q) 16 fan low in omega (arith, more)
+
+-- and so they have at most one level more
+level_more : (shape : ShapeNumbers) (q : ℕ) → IsShape shape
+    → lev shape (2 * q + 2) ≤ 1 + lev shape q
+level_more shape zero is =
+    let fan : 16 ≤ fan_of shape = omega (arith, is.frames_low) in
+    let step = lev-more shape 2 2 0 (div_ceil 2 (fan_of shape)) is (omega arith) refl (omega arith) in
+    let part : div_ceil 2 (fan_of shape) ≤ 1 = ceil_least 2 (fan_of shape) 1 (omega (arith, fan))
+    (omega (arith, fan)) in
+    let fewer = lev_rises shape (div_ceil 2 (fan_of shape)) 1 is part in
+    let none : lev shape 1 ≡ 0 = refl in
+    omega (arith, step, fewer, none)
+level_more shape (suc q) is =
+    let fan : 16 ≤ fan_of shape = omega (arith, is.frames_low) in
+    let most = 2 * suc q + 2 in
+    let step = lev-more shape most most 0 (div_ceil most (fan_of shape)) is (omega arith) refl
+    (omega arith) in
+    let part : div_ceil most (fan_of shape) ≤ suc q =
+    ceil_least most (fan_of shape) (suc q) (omega (arith, fan)) (fits q (fan_of shape) fan) in
+    let fewer = lev_rises shape (div_ceil most (fan_of shape)) (suc q) is part in
+    omega (arith, step, fewer)
+
+-- so that they have at most one level more
+calls_floors : (shape : ShapeNumbers) (size : ℕ) → IsShape shape
+    → floors_of shape (4 * size + 252) ≤ 2 * floors_of shape (2 * size)
+calls_floors shape size is =
+    let q = blocks_of shape (2 * size) in
+    let few = lev_rises shape (blocks_of shape (4 * size + 252)) (2 * q + 2) is
+    (calls_blocks shape size is) in
+    let more = level_more shape q is in
+    omega (arith, few, more)
+
+-- The queue of n groups moves at most 1440 * n units.
+groups_units : (shape : ShapeNumbers) (size n : ℕ) → IsShape shape → 1 ≤ n
+    → queue_share shape ((4 * size + 252) * n) (4 * size + 252)
+    ≤ 1440 * n * cost_unit shape size
+groups_units shape size n is one =
+    let q = blocks_of shape (2 * size) in
+    let floors = floors_of shape (2 * size) in
+    let calls = 4 * size + 252 in
+    let each = times_rises n (blocks_of shape calls) (2 * q + 2) (calls_blocks shape size is) in
+    let all : blocks_of shape (calls * n) ≤ n * blocks_of shape calls =
+    turned shape calls n (shares_add shape n calls is) in
+    let blocks : blocks_of shape (calls * n) + 1 ≤ 3 * n * (q + 1) =
+    most n q (blocks_of shape (calls * n)) (n * blocks_of shape calls) one all each in
+    let sum : 240 * (blocks_of shape (calls * n) + 1) * floors_of shape calls
+    ≤ 240 * (3 * n * (q + 1)) * (2 * floors) =
+    mul-le-mul {n₁ = 240 * (blocks_of shape (calls * n) + 1)} {m₁ = floors_of shape calls}
+    {n₂ = 240 * (3 * n * (q + 1))} {m₂ = 2 * floors} (omega (arith, blocks))
+    (calls_floors shape size is) in
+    units (240 * (blocks_of shape (calls * n) + 1) * floors_of shape calls) n q floors sum
+  where
+    turned : (shape : ShapeNumbers) (calls n : ℕ)
+        → blocks_of shape (n * calls) ≤ n * blocks_of shape calls
+        → blocks_of shape (calls * n) ≤ n * blocks_of shape calls
+    turned shape calls n h =
+        let e : n * calls ≡ calls * n = omega arith in
+        subst (λ (x : ℕ). blocks_of shape x ≤ n * blocks_of shape calls) e h
+    most : (n q b x : ℕ) → 1 ≤ n → b ≤ x → x ≤ n * (2 * q + 2) → b + 1 ≤ 3 * n * (q + 1)
+    most n q b x one h k = omega (arith, one, h, k)
+    units : (x n q floors : ℕ) → x ≤ 240 * (3 * n * (q + 1)) * (2 * floors)
+        → x ≤ 1440 * n * ((q + 1) * floors)
+    units x n q floors h = omega (arith, h)
+
+-- n rounds move at most this many times the cost of 2E records, by what their queue moves at most
+calling_within : (shape : ShapeNumbers) (size calls n k : ℕ) → IsShape shape
+    → (1 ≤ n → queue_share shape (calls * n) calls ≤ 1440 * k * cost_unit shape size) → n ≤ k
+    → calling_moves shape size calls n ≤ k * cost shape (2 * size)
+calling_within shape size calls zero k is queue few = omega arith
+calling_within shape size calls (suc n) k is queue few =
     let c = ceiling size (payload_of shape) in
     let u = cost_unit shape size in
-    let z = queue_share shape (2 * size * suc n) (2 * size) in
-    let queue : z ≤ 240 * suc n * u =
-    queue_units shape size (suc n) (2 * size * suc n) (2 * size) is (omega arith) (omega arith)
-    (omega arith) in
+    let z = queue_share shape (calls * suc n) calls in
     let lists = lists_units (9 * suc n) c (7 * suc n) u (list_unit shape size is) (omega arith) in
-    within (steps_moves shape size (suc n)) ((9 * suc n * c + 7 * suc n) + z) (2048 * u)
-    (cost shape (2 * size)) (suc n) (step_lists (suc n) c z) (cost_units shape size)
-    (steps_sum (suc n) u z (9 * suc n * c + 7 * suc n) queue lists)
+    let more : 9 * suc n * u ≤ 9 * k * u =
+    mul-le-mul {n₁ = 9 * suc n} {m₁ = u} {n₂ = 9 * k} {m₂ = u} (omega (arith, few)) (omega arith) in
+    within (calling_moves shape size calls (suc n)) ((9 * suc n * c + 7 * suc n) + z) (2048 * u)
+    (cost shape (2 * size)) k (round_lists (suc n) c z) (cost_units shape size)
+    (rounds_sum k u z (9 * suc n * c + 7 * suc n) (queue (omega arith)) (omega (arith, lists, more)))
   where
-    step_lists : (t c z : ℕ) → t * (9 * c + 7) + z ≡ (9 * t * c + 7 * t) + z
-    step_lists t c z = omega arith
+    round_lists : (t c z : ℕ) → t * (9 * c + 7) + z ≡ (9 * t * c + 7 * t) + z
+    round_lists t c z = omega arith
+
+-- T steps move at most T times the cost of 2E records, and no step moves nothing.
+pub steps_within : (shape : ShapeNumbers) (size steps : ℕ) → IsShape shape
+    → steps_moves shape size steps ≤ steps * cost shape (2 * size)
+steps_within shape size steps is = calling_within shape size (2 * size) steps steps is
+    (λ one.
+    let queue = queue_units shape size steps (2 * size * steps) (2 * size) is one (omega arith)
+    (omega arith) in
+    let u = cost_unit shape size in
+    wider (queue_share shape (2 * size * steps) (2 * size)) steps u queue)
+    (omega arith)
+  where
+    wider : (x t u : ℕ) → x ≤ 240 * t * u → x ≤ 1440 * t * u
+    wider x t u h = omega (arith, h)
+
+-- n groups move at most 2n times that.
+pub groups_within : (shape : ShapeNumbers) (size groups : ℕ) → IsShape shape
+    → groups_moves shape size groups ≤ (2 * groups) * cost shape (2 * size)
+groups_within shape size groups is =
+    calling_within shape size (4 * size + 252) groups (2 * groups) is
+    (λ one.
+    let queue = groups_units shape size groups is one in
+    wider (queue_share shape ((4 * size + 252) * groups) (4 * size + 252)) groups
+    (cost_unit shape size) queue)
+    (omega arith)
+  where
+    wider : (x t u : ℕ) → x ≤ 1440 * t * u → x ≤ 1440 * (2 * t) * u
+    wider x t u h = omega (arith, h)
+
+-- a step is a round
+pub one_each : (n : ℕ) → ceiling n 1 ≡ n
+one_each n = omega arith
+
+-- So the rounds of T lines, as steps or as groups, move at most as many times that as the papers' bound
+pub rounds_within : (wide : Bool) (shape : ShapeNumbers) (size lines : ℕ) → IsShape shape
+    → rounds_moves wide shape size lines ≤ rounds_of wide lines * cost shape (2 * size)
+rounds_within false shape size lines is = subst (λ (n : ℕ).
+    calling_moves shape size (2 * size) n ≤ lines * cost shape (2 * size)) (sym (one_each lines))
+    (steps_within shape size lines is)
+rounds_within true shape size lines is = groups_within shape size (ceiling lines 64) is
 
 -- So all parts of an evaluation together are within its cost.
-pub evaluation_within : (shape : ShapeNumbers) (size passes steps : ℕ) → IsShape shape
-    → circuit_moves shape size passes + (making_moves shape size + steps_moves shape size steps)
-    ≤ eval_cost shape size steps passes
-evaluation_within shape size passes steps is =
+pub evaluation_within : (wide : Bool) (shape : ShapeNumbers) (size passes lines : ℕ) → IsShape shape
+    → circuit_moves shape size passes + (making_moves shape size + rounds_moves wide shape size lines)
+    ≤ eval_cost shape size (rounds_of wide lines) passes
+evaluation_within wide shape size passes lines is =
     together (circuit_moves shape size passes) (making_moves shape size)
-    (steps_moves shape size steps) passes steps (cost shape (2 * size))
-    (circuit_within shape size passes is) (steps_within shape size steps is)
+    (rounds_moves wide shape size lines) passes (rounds_of wide lines) (cost shape (2 * size))
+    (circuit_within shape size passes is) (rounds_within wide shape size lines is)
   where
     together : (a b d r t w : ℕ) → a + b ≤ (r + 2) * w → d ≤ t * w
         → a + (b + d) ≤ (t + r + 2) * w
@@ -119,19 +244,29 @@ pub making_rises : (shape : ShapeNumbers) (small large : ℕ) → 0 < payload_of
 making_rises shape small large some h =
     let lists = ceiling_rises small large (payload_of shape) some h in omega (arith, lists)
 
--- and no fewer steps along them make no fewer.
-pub steps_moves_rise : (shape : ShapeNumbers) (small large steps : ℕ) → 0 < payload_of shape
-    → small ≤ large → steps_moves shape small steps ≤ steps_moves shape large steps
-steps_moves_rise shape small large zero some h = omega arith
-steps_moves_rise shape small large (suc n) some h =
+-- and no fewer rounds of no fewer calls along them make no fewer.
+calling_rise : (shape : ShapeNumbers) (small large few many n : ℕ) → 0 < payload_of shape
+    → small ≤ large → few ≤ many
+    → calling_moves shape small few n ≤ calling_moves shape large many n
+calling_rise shape small large few many zero some h k = omega arith
+calling_rise shape small large few many (suc n) some h k =
     let p = payload_of shape in
     let lists = ceiling_rises small large p some h in
     let rises = times_rises (suc n) (9 * ceiling small p + 7) (9 * ceiling large p + 7)
     (omega (arith, lists)) in
-    let twice = times_rises (suc n) small large h in
-    let queue = queue_share_rises shape (2 * small * suc n) (2 * large * suc n) (2 * small)
-    (2 * large) (omega (arith, twice)) (omega (arith, h)) in
+    let more = times_rises (suc n) few many k in
+    let queue = queue_share_rises shape (few * suc n) (many * suc n) few many
+    (omega (arith, more)) k in
     omega (arith, rises, queue)
+
+pub rounds_rise : (wide : Bool) (shape : ShapeNumbers) (small large lines : ℕ)
+    → 0 < payload_of shape → small ≤ large
+    → rounds_moves wide shape small lines ≤ rounds_moves wide shape large lines
+rounds_rise false shape small large lines some h =
+    calling_rise shape small large (2 * small) (2 * large) (ceiling lines 1) some h (omega (arith, h))
+rounds_rise true shape small large lines some h =
+    calling_rise shape small large (4 * small + 252) (4 * large + 252) (ceiling lines 64) some h
+    (omega (arith, h))
 
 -- A greater circuit with no fewer steps costs no less.
 pub eval_cost_rises : (shape : ShapeNumbers) (small large few many passes : ℕ) → small ≤ large

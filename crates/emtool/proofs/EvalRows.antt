@@ -1,9 +1,9 @@
 -- Worked evaluations: what is due of them, and their size.
-use Rattle.std.specs.Prelude.{◌≡◌, ℕ, List, [], ◌∷◌, ◌++◌, true, false, codes, map, refl, Option, None, Some}
+use Rattle.std.specs.Prelude.{◌≡◌, ℕ, List, [], ◌∷◌, ◌++◌, Bool, true, false, codes, map, refl, Option, None, Some}
 use Rattle.em_io.specs.Shelf.{SlotState}
-use Rattle.aig_defs.specs.declared.fault.AigKind.TheVariants.{BadDelta, BadReset, BadSymbol, Cyclic, Extension, Fairness, Justice, LiteralRange, Short, StimLength, Twice, Undefined, Uninit}
+use Rattle.aig_defs.specs.declared.fault.AigKind.TheVariants.{BadDelta, BadReset, BadSymbol, Cyclic, Extension, Fairness, Justice, Latched, LiteralRange, Short, StimLength, Twice, Undefined, Uninit}
 use Rattle.emtool.specs.EvalDue.{eval_output, eval_status}
-use Rattle.emtool.specs.EvalSize.{circuit_read, eval_cost, passes_read, steps_read}
+use Rattle.emtool.specs.EvalSize.{circuit_read, eval_cost, passes_read, rounds_of, steps_read}
 use Rattle.emtool.specs.declared.status.Malform.TheVariants.{Aig}
 use Rattle.emtool.specs.declared.status.Status.{Status}
 use Rattle.emtool.specs.declared.status.Status.TheVariants.{Done, Malformed}
@@ -38,6 +38,16 @@ cycle = codes "aag 4 1 0 1 3\n2\n4\n4 2 6\n6 2 8\n8 2 6\n"
 abbrev cycle_beside : List ℕ
 cycle_beside = codes "aag 4 1 0 1 3\n2\n4\n4 2 2\n6 2 8\n8 2 6\n"
 
+-- a latch beside a gate that uses what isn't defined, beside a variable of two gates, and beside a cycle
+abbrev latched_undefined : List ℕ
+latched_undefined = codes "aag 5 0 1 1 1\n2 3\n6\n6 2 10\n"
+
+abbrev latched_twice : List ℕ
+latched_twice = codes "aag 5 0 1 1 2\n2 3\n6\n6 2 2\n6 2 3\n"
+
+abbrev latched_cycle : List ℕ
+latched_cycle = codes "aag 3 0 1 1 2\n2 3\n4\n4 2 6\n6 2 4\n"
+
 -- a latch with a greater variable than the gate that reads it, which is 1 after the first 1 of the
 -- input
 abbrev above : List ℕ
@@ -56,19 +66,19 @@ half_adder = codes "aig 5 2 0 2 3\n10\n6\n" ++ 2 ∷ 2 ∷ 3 ∷ 2 ∷ 1 ∷ 2 �
 abbrev Row : Type 0
 Row = (List ℕ × List ℕ) × (Status × List ℕ)
 
--- with this value for uninitialised latches, if one is given
-abbrev HoldFrom : Option ℕ → List Row → Type 0
-HoldFrom start rows =
-    map (λ (row : Row). (eval_status start row.0.0 row.0.1, eval_output start row.0.0 row.0.1)) rows
+-- one step after another or many at once, with this value for uninitialised latches, if one is given
+abbrev HoldFor : Bool → Option ℕ → List Row → Type 0
+HoldFor wide start rows = map
+    (λ (row : Row). (eval_status wide start row.0.0 row.0.1, eval_output wide start row.0.0 row.0.1)) rows
     ≡ map (λ (row : Row). row.1) rows
 
-evaluations : HoldFrom None (
+-- circuits without latches, or with another fault
+abbrev without_latches : List Row
+without_latches =
     ((conjunction, codes "00\n01\n10\n11\n"), (Done, codes "0\n0\n0\n1\n"))
     ∷ ((conjunction, codes "11\n0\n"), (Malformed (Aig StimLength) 4, codes "1\n"))
     ∷ ((conjunction, []), (Done, []))
-    ∷ ((toggle, codes "\n\n\n"), (Done, codes "01\n10\n01\n"))
     ∷ ((codes "aag 3 2 0 1 1 0\n", codes "00\n"), (Malformed (Aig Short) 16, []))
-    ∷ ((codes "aag 1 0 1 1 0\n2 3 1\n2\n", codes "\n\n\n"), (Done, codes "1\n0\n1\n"))
     ∷ ((codes "aag 1 0 1 1 0\n2 3 2\n2\n", codes "\n\n\n"), (Malformed (Aig Uninit) 18, []))
     ∷ ((codes "aag 1 1 0 1 0 1 1\n2\n2\n3\n2\n", codes "0\n1\n"), (Done, codes "010\n101\n"))
     ∷ ((codes "aag 1 0 1 1 0\n2 3 5\n2\n", codes "\n"), (Malformed (Aig BadReset) 18, []))
@@ -77,7 +87,6 @@ evaluations : HoldFrom None (
     ∷ ((codes "aag 3 2 0 1 1 0 0 0 0 0\n", codes "00\n"), (Malformed (Aig Extension) 21, []))
     ∷ ((codes "aag 3 2 0 1 1\n2\n4\n9\n6 2 4\n", []), (Malformed (Aig LiteralRange) 18, []))
     ∷ ((late_line, codes "00\n01\n10\n11\n"), (Done, codes "0\n0\n0\n1\n"))
-    ∷ ((above, codes "0\n1\n0\n0\n"), (Done, codes "0\n0\n1\n1\n"))
     ∷ ((greater, codes "1\n0\n"), (Done, codes "1\n0\n"))
     ∷ ((report_adder, codes "00\n01\n10\n11\n"), (Done, codes "00\n10\n10\n01\n"))
     ∷ ((binary_conjunction, codes "00\n01\n10\n11\n"), (Done, codes "0\n0\n0\n1\n"))
@@ -95,17 +104,48 @@ evaluations : HoldFrom None (
     ∷ ((codes "aag 5 1 0 1 2\n2\n6\n6 2 10\n6 2 2\n", []), (Malformed (Aig Twice) 3, []))
     ∷ ((cycle, codes "0\n"), (Malformed (Aig Cyclic) 2, []))
     ∷ ((cycle_beside, codes "0\n"), (Malformed (Aig Cyclic) 3, []))
-    ∷ [])
+    ∷ ((latched_undefined, []), (Malformed (Aig Undefined) 5, []))
+    ∷ ((latched_twice, []), (Malformed (Aig Twice) 3, []))
+    ∷ ((latched_cycle, []), (Malformed (Aig Cyclic) 2, []))
+    ∷ []
+
+evaluations : HoldFor false None without_latches
 evaluations = refl
 
+-- Many steps at once give the same.
+wide_evaluations : HoldFor true None without_latches
+wide_evaluations = refl
+
+evaluations_with_latches : HoldFor false None (
+    ((toggle, codes "\n\n\n"), (Done, codes "01\n10\n01\n"))
+    ∷ ((codes "aag 1 0 1 1 0\n2 3 1\n2\n", codes "\n\n\n"), (Done, codes "1\n0\n1\n"))
+    ∷ ((above, codes "0\n1\n0\n0\n"), (Done, codes "0\n0\n1\n1\n"))
+    ∷ [])
+evaluations_with_latches = refl
+
+-- With latches many steps at once are refused, whatever the stimulus is.
+latched_evaluations : HoldFor true None (
+    ((toggle, codes "\n\n\n"), (Malformed (Aig Latched) 0, []))
+    ∷ ((toggle, []), (Malformed (Aig Latched) 0, []))
+    ∷ ((toggle, codes "x"), (Malformed (Aig Latched) 0, []))
+    ∷ ((above, codes "0\n"), (Malformed (Aig Latched) 0, []))
+    ∷ ((codes "aig 1 0 1 1 0\n3\n2\n", codes "\n"), (Malformed (Aig Latched) 0, []))
+    ∷ [])
+latched_evaluations = refl
+
 -- a latch whose reset is its own literal
-evaluations_from_0 : HoldFrom (Some 0)
+evaluations_from_0 : HoldFor false (Some 0)
     (((codes "aag 1 0 1 1 0\n2 3 2\n2\n", codes "\n\n\n"), (Done, codes "0\n1\n0\n")) ∷ [])
 evaluations_from_0 = refl
 
-evaluations_from_1 : HoldFrom (Some 1)
+evaluations_from_1 : HoldFor false (Some 1)
     (((codes "aag 1 0 1 1 0\n2 3 2\n2\n", codes "\n\n\n"), (Done, codes "1\n0\n1\n")) ∷ [])
 evaluations_from_1 = refl
+
+-- many steps at once: its start is known, and it has latches
+latched_evaluations_from_0 : HoldFor true (Some 0)
+    (((codes "aag 1 0 1 1 0\n2 3 2\n2\n", codes "\n\n\n"), (Malformed (Aig Latched) 0, [])) ∷ [])
+latched_evaluations_from_0 = refl
 
 -- a slot that was opened, with so much left
 abbrev slot_with : List ℕ → SlotState
@@ -136,6 +176,15 @@ cost_of_report_adder = refl
 -- empty: they fill two blocks, on one level, and cost 3 times 4096 moves, here 8 times.
 cost_of_two_blocks : eval_cost (record { block = 128; frames = 64 }) 100 4 2 ≡ 98304
 cost_of_two_blocks = refl
+
+-- Each group of up to 64 steps has two rounds.
+rounds_of_many : map (rounds_of true) (0 ∷ 1 ∷ 64 ∷ 65 ∷ 128 ∷ 130 ∷ []) ≡ 0 ∷ 2 ∷ 2 ∷ 4 ∷ 4 ∷ 6 ∷ []
+rounds_of_many = refl
+
+-- So 130 steps of the conjunction, with its pass, cost 9 times 4096 moves if many are taken at once, and else 133 times.
+costs_of_130_steps : map (λ wide. eval_cost (record { block = 1024; frames = 256 }) 5 (rounds_of wide 130) 1)
+    (true ∷ false ∷ []) ≡ 36864 ∷ 544768 ∷ []
+costs_of_130_steps = refl
 
 -- the header's line and the first byte of the next one were given: one input
 size_of_a_front : circuit_read None (slot_with (codes "\n4\n6\n6 2 4\n")) conjunction ≡ 1

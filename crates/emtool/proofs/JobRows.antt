@@ -70,22 +70,22 @@ another_command : job_of (codes "evaluate" ∷ codes "a" ∷ codes "b" ∷ []) �
 another_command = refl
 
 a_plain_evaluation : job_of (codes "eval" ∷ codes "a" ∷ codes "b" ∷ [])
-    ≡ job_of_task (Eval None) 1024 256 1048576 false 1
+    ≡ job_of_task (Eval None false) 1024 256 1048576 false 1
 a_plain_evaluation = refl
 
 an_evaluation_of_64_frames :
     job_of (codes "eval" ∷ codes "--frames=64" ∷ codes "a" ∷ codes "--stats" ∷ [])
-    ≡ job_of_task (Eval None) 1024 64 1048576 false 2
+    ≡ job_of_task (Eval None false) 1024 64 1048576 false 2
 an_evaluation_of_64_frames = refl
 
 an_evaluation_from_1 :
     job_of (codes "eval" ∷ codes "--uninit=1" ∷ codes "a" ∷ codes "b" ∷ [])
-    ≡ job_of_task (Eval (Some true)) 1024 256 1048576 false 2
+    ≡ job_of_task (Eval (Some true) false) 1024 256 1048576 false 2
 an_evaluation_from_1 = refl
 
 an_evaluation_from_0 :
     job_of (codes "eval" ∷ codes "--stats" ∷ codes "--uninit=0" ∷ codes "a" ∷ codes "b" ∷ [])
-    ≡ job_of_task (Eval (Some false)) 1024 256 1048576 true 3
+    ≡ job_of_task (Eval (Some false) false) 1024 256 1048576 true 3
 an_evaluation_from_0 = refl
 
 an_evaluation_from_2 : job_of (codes "eval" ∷ codes "--uninit=2" ∷ codes "a" ∷ codes "b" ∷ [])
@@ -113,6 +113,43 @@ an_evaluation_from_both = refl
 an_evaluation_from_00 : job_of (codes "eval" ∷ codes "--uninit=00" ∷ codes "a" ∷ codes "b" ∷ [])
     ≡ refused BadValue 1
 an_evaluation_from_00 = refl
+
+-- words before the names of two files, and what `eval` gives of them
+abbrev EvalRow : Type 0
+EvalRow = List (List ℕ) × Result Job Usage
+
+-- each row says what its words give
+abbrev Evaluate : List EvalRow → Type 0
+Evaluate rows = map (λ (row : EvalRow). job_of (codes "eval" ∷ row.0 ++ codes "a" ∷ codes "b" ∷ [])) rows
+    ≡ map (λ (row : EvalRow). row.1) rows
+
+-- many steps at once: alone, twice, with a value, and beside other options in either order
+wide_evaluations : Evaluate (
+    (codes "--wide" ∷ [], job_of_task (Eval None true) 1024 256 1048576 false 2)
+    ∷ (
+      codes "--wide" ∷ codes "--uninit=1" ∷ [],
+      job_of_task (Eval (Some true) true) 1024 256 1048576 false 3,
+    )
+    ∷ (
+      codes "--uninit=0" ∷ codes "--wide" ∷ [],
+      job_of_task (Eval (Some false) true) 1024 256 1048576 false 3,
+    )
+    ∷ (
+      codes "--frames=64" ∷ codes "--wide" ∷ codes "--stats" ∷ [],
+      job_of_task (Eval None true) 1024 64 1048576 true 4,
+    )
+    ∷ (codes "--wide" ∷ codes "--wide" ∷ [], refused RepeatedOption 2)
+    ∷ (codes "--wide" ∷ codes "--wide=1" ∷ [], refused RepeatedOption 2)
+    ∷ (codes "--wide=" ∷ [], refused BadValue 1)
+    ∷ (codes "--wide=1" ∷ [], refused BadValue 1)
+    ∷ (codes "--stats" ∷ codes "--wide=0" ∷ codes "--wide" ∷ [], refused BadValue 2)
+    ∷ (codes "--wide" ∷ codes "--uninit=2" ∷ [], refused BadValue 2)
+    ∷ (codes "--wider" ∷ [], refused UnknownOption 1)
+    ∷ [])
+wide_evaluations = refl
+
+a_wide_queue : job_of (codes "queue" ∷ codes "--wide" ∷ codes "a" ∷ []) ≡ refused UnknownOption 1
+a_wide_queue = refl
 
 an_evaluation_of_one_operand : job_of (codes "eval" ∷ codes "--stats" ∷ codes "a" ∷ [])
     ≡ refused MissingOperand 3
@@ -151,7 +188,7 @@ jobs_made : MakesJobs (
       codes "stab" ∷ codes "18446744073709551615" ∷ codes "1073741824" ∷ [],
       made (Answer Stab) 18446744073709551615 1073741824,
     )
-    ∷ (codes "eval" ∷ codes "00000000000000000007" ∷ codes "02" ∷ [], made (Eval None) 7 2)
+    ∷ (codes "eval" ∷ codes "00000000000000000007" ∷ codes "02" ∷ [], made (Eval None false) 7 2)
     ∷ (
       codes "--block=128" ∷ codes "--stats" ∷ codes "map" ∷ codes "1" ∷ codes "8" ∷ [],
       job_on (Answer Map) (Made 1 8) 128 64 1048576 true 3,
@@ -174,6 +211,7 @@ jobs_refused : MakesJobs (
     ∷ (codes "--frames=60" ∷ codes "map" ∷ codes "1" ∷ codes "0" ∷ [], refused CountRange 4)
     ∷ (codes "--frames=60" ∷ codes "map" ∷ codes "1" ∷ codes "8" ∷ [], refused FramesRange 1)
     ∷ (codes "--x" ∷ codes "tree" ∷ [], refused UnknownOption 1)
+    ∷ (codes "--wide" ∷ codes "eval" ∷ codes "1" ∷ codes "8" ∷ [], refused UnknownOption 1)
     ∷ [])
 jobs_refused = refl
 
@@ -191,6 +229,8 @@ options : Hold (
     ∷ (codes "--frames=64" ∷ codes "--frames=64" ∷ [], refused RepeatedOption 2)
     ∷ (codes "--stats" ∷ codes "--stats=1" ∷ [], refused RepeatedOption 2)
     ∷ (codes "--stats=" ∷ [], refused BadValue 1)
+    ∷ (codes "--wide" ∷ [], refused UnknownOption 1)
+    ∷ (codes "--wide=1" ∷ [], refused UnknownOption 1)
     ∷ (codes "--block" ∷ [], refused BadValue 1)
     ∷ (codes "--block=" ∷ [], refused BadValue 1)
     ∷ (codes "--block=+1" ∷ [], refused BadValue 1)

@@ -14,6 +14,7 @@ pub mod EvalMoves
 mod EvalRows
 pub mod Evaluated
 pub mod Evaluating
+pub mod GroupRound
 pub mod InOrder
 mod JobRows
 pub mod LineLemmas
@@ -36,13 +37,15 @@ pub mod ReadLaws
 pub mod ReadingStops
 pub mod RefusalLaws
 pub mod RoomLaws
+pub mod RoundLoop
+pub mod Rounds
 pub mod Running
 pub mod Scanning
 pub mod ServiceMoves
 pub mod Serving
 pub mod StabAnswers
 pub mod Stabbing
-pub mod StepLoop
+pub mod StepRound
 pub mod Stepping
 pub mod Steps
 pub mod Summed

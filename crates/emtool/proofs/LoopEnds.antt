@@ -1,5 +1,5 @@
--- The loop over the steps of a stimulus: how it ends, by what the last step says.
-use Rattle.std.proofs.Common.{◌≡◌, ℕ, ◌+◌, ◌-◌, ◌*◌, ◌^◌, ◌<◌, ◌≤◌, ◌⊎◌, ⊎_elim, inl, inr, max, Bool, true, cond, List, [], ◌∷◌, ◌++◌, length, ap, sym, subst, ◌∙◌, refl, arith, IsTrue, Result, Ok, Err}
+-- The loop over the rounds of an evaluation: how it ends, by what the last round says.
+use Rattle.std.proofs.Common.{◌≡◌, ℕ, ◌+◌, ◌-◌, ◌*◌, ◌^◌, ◌<◌, ◌≤◌, ◌⊎◌, ⊎_elim, inl, inr, max, Bool, true, cond, List, [], ◌∷◌, ◌++◌, length, ap, sym, subst, ◌∙◌, refl, arith, IsTrue, Option, Some, None, Result, Ok, Err}
 use Rattle.std.proofs.lemmas.List.{length-append}
 use Rattle.std.specs.Prelude.{IfErr, OnOk}
 use Rattle.em_record.specs.Shape.{ShapeNumbers}
@@ -14,42 +14,31 @@ use Rattle.em_space.proofs.Paying.{pays_more, pays_then}
 use Rattle.em_space.proofs.Queues.{shares_none, shares_then}
 use Rattle.em_space.proofs.Steps.{cause_after, goes_nothing}
 use Rattle.em_space.proofs.Within.{touches_within}
+use Rattle.em_chain.specs.Counts.{ceiling}
+use Rattle.em_chain.proofs.Counts.{ceiling_more}
 use Rattle.em_chain.proofs.Keeps.{touches_none}
 use Rattle.em_queued.specs.Queued.{RunsBeside}
 use Rattle.em_queued.proofs.Queued.{called_then, shares_frames}
 use Rattle.aig_defs.specs.Items.{Reading, Reads, Fails}
-use Rattle.aig_defs.specs.Stimulus.{begun_from, stimulus_from}
+use Rattle.aig_defs.specs.Stimulus.{Stimulus, begun_from, stimulus_from, stimulus_line}
 use Rattle.aig_defs.specs.declared.circuit.Header.{Header}
+use Rattle.aig_defs.proofs.Stimulus.{begun_read, begun_stops}
 use Rattle.aig_text.specs.Reads.{Advances}
 use Rattle.aig_text.specs.Source.{Source, left}
-use Rattle.aig_edges.specs.Graph.{edge_count}
 use Rattle.aig_edges.specs.declared.stop.StepStop.{StepStop}
 use Rattle.aig_edges.specs.declared.stop.StepStop.TheVariants as stop
-use Rattle.aig_forward.specs.Evaluator.{Halted, IsEvaluator, evaluator_blocks, lists_size}
-use Rattle.aig_forward.specs.Lists.{lists_account}
-use Rattle.aig_forward.specs.Step.{ActsAfterByte, FollowsText, Scene, StepCause, StepCosts, line_at, step_account, step_calls, step_moves, step_room}
-use Rattle.aig_forward.specs.declared.evaluator.Evaluator.{Evaluator}
-use Rattle.aig_forward.specs.declared.step_end.StepEnd.{StepEnd}
-use Rattle.aig_forward.specs.declared.step_end.StepEnd.TheVariants.{Printed, End}
+use Rattle.aig_sweep.specs.Lists.{lists_account}
+use Rattle.aig_sweep.specs.Scene.{ActsAfterByte, Scene, StepCause}
+use Rattle.aig_sweep.specs.Sweeper.{Halted, IsSweeper, lists_size, sweeper_blocks}
+use Rattle.aig_sweep.specs.declared.sweeper.Sweeper.{Sweeper}
+use Rattle.aig_wide.specs.Group.{stimulus_at}
 use Rattle.emtool.specs.EvalSize.{given_of}
-use Rattle.emtool.specs.Evaluation.{EndsSteps, ReadsSecond, StepsCause, StepsMove}
+use Rattle.emtool.specs.Evaluation.{EndsSteps, ReadsSecond, Round, RoundsMove, StepsCause}
 use Rattle.emtool.specs.Opens.{IsAllRead}
-use Rattle.emtool.specs.Stop.{fault_counts, step_stop}
-use Rattle.emtool.specs.declared.stop.Stop.{Stop}
+use Rattle.emtool.specs.Stop.{fault_counts}
 use Rattle.emtool.proofs.RoomLaws.{times_rises}
-use Rattle.emtool.proofs.StepLoop.{FollowsLines, MadeSteps, beside_owing, calls_more, calls_most, moves_kept, size_kept}
-use Rattle.emtool.proofs.Stepping.{begun_here, begun_next, fault_here}
-
--- the result of the loop, by that of the last step
-abbrev pub result_of : Result StepEnd StepStop → Result (Unit {0}) Stop
-result_of (Ok end) = Ok tt
-result_of (Err stopped) = Err (step_stop stopped)
-
--- it printed no line
-abbrev pub IsLast : Result StepEnd StepStop → Type 0
-IsLast (Ok Printed) = ⊥
-IsLast (Ok End) = Unit {0}
-IsLast (Err stopped) = Unit {0}
+use Rattle.emtool.proofs.RoundLoop.{FollowsLines, MadeRounds, beside_owing, calls_more, ceiling_full, ceiling_next, size_kept}
+use Rattle.emtool.proofs.Rounds.{FollowsRound, IsLast, RoundCosts, result_of}
 
 -- Calls that weren't refused, and then such that stopped.
 halted_then : {i j p q u : ℕ} {held ks : List ℕ} {a b : Account} {c d e : QueueCounts}
@@ -72,13 +61,13 @@ halted_then {u = u} {held = held} {ks = ks} {c = c} {d = d} {e = e} {s = s} {t =
     }
 
 -- No call came.
-halted_none : {Q : Type 0} (queue : QueueGhosts Q) (s : RigState) (e : Evaluator Q) → Sound s
-    → (queue.counts e.queue).unstored ≤ s.pool.shape.frames
-    → Halted (step_calls e.header) (step_room s e) 1 (evaluator_blocks queue s e)
-    (step_account s e) (queue.counts e.queue) (queue.counts e.queue) s s
-halted_none queue s e sound stored = record {
+halted_none : {Q : Type 0} (queue : QueueGhosts Q) (round : Round) (s : RigState) (e : Sweeper Q)
+    → Sound s → (queue.counts e.queue).unstored ≤ s.pool.shape.frames
+    → Halted round.calls round.room 1 (sweeper_blocks queue s e)
+    (lists_account (lists_size e) round.moves) (queue.counts e.queue) (queue.counts e.queue) s s
+halted_none queue round s e sound stored = record {
   sound = sound;
-  touches = touches_none (evaluator_blocks queue s e) s s (goes_nothing s sound).touches;
+  touches = touches_none (sweeper_blocks queue s e) s s (goes_nothing s sound).touches;
   frames = shares_none (queue.counts e.queue) s.pool;
   called = record { n = omega arith; k = omega arith; more = omega arith };
   most = omega arith;
@@ -86,140 +75,131 @@ halted_none queue s e sound stored = record {
   pays = record { is = inr (omega (arith, stored)) };
 }
 
--- What the last step cost.
-last_halted : {Q : Type 0} (queue : QueueGhosts Q) {s t : RigState} (e f : Evaluator Q)
-    (r : Result StepEnd StepStop) → IsLast r → StepCosts queue s t e f r → Sound s
+-- What the last round cost.
+last_halted : {Q : Type 0} (queue : QueueGhosts Q) (round : Round) {s t : RigState} (e f : Sweeper Q)
+    (r : Result (Option ℕ) StepStop) → IsLast r → RoundCosts queue round s t e f r → Sound s
     → (queue.counts e.queue).unstored ≤ s.pool.shape.frames
-    → Halted (step_calls e.header) (step_room s e) 1 (evaluator_blocks queue s e)
-    (step_account s e) (queue.counts e.queue) (queue.counts f.queue) s t
-last_halted queue e f (Ok Printed) last costs sound stored = absurd last
-last_halted {Q} queue {s} {t} e f (Ok End) last costs sound stored =
-    subst (λ (x : RigState). Halted (step_calls e.header) (step_room s e) 1
-    (evaluator_blocks queue s e) (step_account s e) (queue.counts e.queue) (queue.counts f.queue)
+    → Halted round.calls round.room 1 (sweeper_blocks queue s e)
+    (lists_account (lists_size e) round.moves) (queue.counts e.queue) (queue.counts f.queue) s t
+last_halted queue round e f (Ok (Some count)) last costs sound stored = absurd last
+last_halted {Q} queue round {s} {t} e f (Ok None) last costs sound stored =
+    subst (λ (x : RigState). Halted round.calls round.room 1 (sweeper_blocks queue s e)
+    (lists_account (lists_size e) round.moves) (queue.counts e.queue) (queue.counts f.queue)
     s x) (sym costs.0)
-    (subst (λ (x : Evaluator Q). Halted (step_calls e.header) (step_room s e) 1
-    (evaluator_blocks queue s e) (step_account s e) (queue.counts e.queue) (queue.counts x.queue)
-    s s) (sym costs.1) (halted_none queue s e sound stored))
-last_halted queue e f (Err stopped) last costs sound stored = costs
+    (subst (λ (x : Sweeper Q). Halted round.calls round.room 1 (sweeper_blocks queue s e)
+    (lists_account (lists_size e) round.moves) (queue.counts e.queue) (queue.counts x.queue)
+    s s) (sym costs.1) (halted_none queue round s e sound stored))
+last_halted queue round e f (Err stopped) last costs sound stored = costs
 
 -- It did nothing unless it took something of the stimulus.
-pub last_idle : {Q : Type 0} (queue : QueueGhosts Q) (old new : Scene Q)
-    (r : Result StepEnd StepStop) → IsLast r
-    → StepCosts queue old.rig new.rig old.evaluator new.evaluator r
+pub last_idle : {Q : Type 0} (queue : QueueGhosts Q) (round : Round) (old new : Scene Q)
+    (r : Result (Option ℕ) StepStop) → IsLast r
+    → RoundCosts queue round old.rig new.rig old.evaluator new.evaluator r
     → IfErr r (λ stopped. ActsAfterByte old.rig new.rig old.evaluator new.evaluator
     old.text.feed.place new.text.feed.place)
     → ActsAfterByte old.rig new.rig old.evaluator new.evaluator old.text.feed.place
     new.text.feed.place
-last_idle queue old new (Ok Printed) last costs idle = absurd last
-last_idle queue old new (Ok End) last costs idle =
+last_idle queue round old new (Ok (Some count)) last costs idle = absurd last
+last_idle queue round old new (Ok None) last costs idle =
     let same = ap (λ (x : RigState). x.moves) costs.0 in inl (costs.1, omega (arith, same))
-last_idle queue old new (Err stopped) last costs idle = idle
+last_idle queue round old new (Err stopped) last costs idle = idle
 
 -- So it made no call of the queue.
-pub idle_calls : {Q : Type 0} (queue : QueueGhosts Q) (s t : RigState) (e f : Evaluator Q)
+pub idle_calls : {Q : Type 0} (queue : QueueGhosts Q) (s t : RigState) (e f : Sweeper Q)
     (place later : ℕ) → ActsAfterByte s t e f place later
     → ((queue.counts f.queue).n ≤ (queue.counts e.queue).n) ⊎ (place < later)
 idle_calls {Q} queue s t e f place later (inl still) =
-    let same = ap (λ (x : Evaluator Q). (queue.counts x.queue).n) still.0 in
+    let same = ap (λ (x : Sweeper Q). (queue.counts x.queue).n) still.0 in
     inl (omega (arith, same))
 idle_calls queue s t e f place later (inr further) = inr further
 
--- the moves of some steps, and of one more that was begun, by how many were begun
-moves_few : (steps begun each owed now before spent after later : ℕ) → steps + 1 ≤ begun
-    → owed ≡ steps * each → now ≡ each → later + (before + 0) ≤ spent + ((owed + now) + after)
+-- the moves of some rounds, and of one more that was begun, by how many were begun
+moves_few : (rounds begun each before spent after later : ℕ) → rounds + 1 ≤ begun
+    → later + (before + 0) ≤ spent + ((rounds * each + each) + after)
     → later + before ≤ spent + after + begun * each
-moves_few steps begun each owed now before spent after later few e f h =
-    let rises = times_rises each (steps + 1) begun few in omega (arith, rises, e, f, h)
+moves_few rounds begun each before spent after later few h =
+    let rises = times_rises each (rounds + 1) begun few in omega (arith, rises, h)
 
--- the moves of some steps alone
-moves_none : (steps begun each owed before spent after mid later : ℕ) → steps ≤ begun
-    → owed ≡ steps * each → mid + (before + 0) ≤ spent + (owed + (after + 0)) → later ≤ mid
+-- the moves of some rounds alone
+moves_none : (rounds begun each before spent after mid later : ℕ) → rounds ≤ begun
+    → mid + (before + 0) ≤ spent + (rounds * each + (after + 0)) → later ≤ mid
     → later + before ≤ spent + after + begun * each
-moves_none steps begun each owed before spent after mid later few e h still =
-    let rises = times_rises each steps begun few in omega (arith, rises, e, h, still)
+moves_none rounds begun each before spent after mid later few h still =
+    let rises = times_rises each rounds begun few in omega (arith, rises, h, still)
 
-module _ {Q : Type 0} {queue : QueueGhosts Q} {tells : Bool} {took : List ℕ → List ℕ → List ℕ}
-    {first mid : Scene Q} (m : MadeSteps queue tells took first mid)
-    (is : IsEvaluator queue first.rig first.evaluator) where
-  -- What all steps cost.
-  pub steps_halted : (t : RigState) (f : Evaluator Q) (r : Result StepEnd StepStop) → IsLast r
-      → StepCosts queue mid.rig t mid.evaluator f r
+module _ {Q : Type 0} {queue : QueueGhosts Q} {round : Round} {tells : Bool}
+    {took : List ℕ → List ℕ → List ℕ} {first mid : Scene Q}
+    (m : MadeRounds queue round tells took first mid)
+    (is : IsSweeper queue first.rig first.evaluator) where
+  -- What all rounds cost.
+  pub rounds_halted : (t : RigState) (f : Sweeper Q) (r : Result (Option ℕ) StepStop) → IsLast r
+      → RoundCosts queue round mid.rig t mid.evaluator f r
       → (queue.counts mid.evaluator.queue).unstored ≤ mid.rig.pool.shape.frames
-      → Halted (2 * edge_count first.evaluator.header * m.steps + step_calls mid.evaluator.header)
-      (max (step_room first.rig first.evaluator) (step_room mid.rig mid.evaluator)) 1
-      (evaluator_blocks queue first.rig first.evaluator)
-      (lists_account (lists_size first.evaluator) (m.owed + step_moves mid.rig mid.evaluator))
+      → Halted (round.calls * m.rounds + round.calls) (max round.room round.room) 1
+      (sweeper_blocks queue first.rig first.evaluator)
+      (lists_account (lists_size first.evaluator) (m.rounds * round.moves + round.moves))
       (queue.counts first.evaluator.queue) (queue.counts f.queue) first.rig t
-  steps_halted t f r last costs stored =
+  rounds_halted t f r last costs stored =
       let shape = m.runs.runs.session.touches.shape in
       let size = size_kept queue first.rig mid.rig first.evaluator mid.evaluator m.keeps shape is
       m.is in
-      let moves = step_moves mid.rig mid.evaluator in
-      let own = last_halted queue mid.evaluator f r last costs m.runs.runs.session.sound stored in
-      halted_then (beside_owing moves m.runs)
-      (subst (λ (n : ℕ). Halted (step_calls mid.evaluator.header) (step_room mid.rig mid.evaluator)
-      1 (evaluator_blocks queue mid.rig mid.evaluator) (lists_account n moves)
+      let own = last_halted queue round mid.evaluator f r last costs m.runs.runs.session.sound stored
+      in
+      halted_then (beside_owing round.moves m.runs)
+      (subst (λ (n : ℕ). Halted round.calls round.room 1
+      (sweeper_blocks queue mid.rig mid.evaluator) (lists_account n round.moves)
       (queue.counts mid.evaluator.queue) (queue.counts f.queue) mid.rig t) size own)
 
-  -- The last one makes at most two calls of the queue for each edge.
-  pub last_calls : step_calls mid.evaluator.header ≤ 2 * edge_count first.evaluator.header
-  last_calls =
-      let same : edge_count mid.evaluator.header ≡ edge_count first.evaluator.header =
-      ap (λ (x : Header). edge_count x) m.keeps.header in
-      omega (arith, same, calls_most mid.evaluator.header)
-
-  -- So the queue's calls between two moments at which it is empty are those of one step,
-  pub last_run : (t : RigState) (f : Evaluator Q) (r : Result StepEnd StepStop) → IsLast r
-      → StepCosts queue mid.rig t mid.evaluator f r
+  -- The queue's calls between two moments at which it is empty are those of one round.
+  pub last_run : (t : RigState) (f : Sweeper Q) (r : Result (Option ℕ) StepStop) → IsLast r
+      → RoundCosts queue round mid.rig t mid.evaluator f r
       → (queue.counts mid.evaluator.queue).unstored ≤ mid.rig.pool.shape.frames
       → (queue.counts mid.evaluator.queue).since ≡ 0
       → (queue.counts f.queue).k
-      ≤ max (queue.counts first.evaluator.queue).k (2 * edge_count first.evaluator.header)
+      ≤ max (queue.counts first.evaluator.queue).k round.calls
   last_run t f r last costs stored since =
-      let own = last_halted queue mid.evaluator f r last costs m.runs.runs.session.sound stored in
-      omega (arith, own.called.k, since, m.run, last_calls)
+      let own = last_halted queue round mid.evaluator f r last costs m.runs.runs.session.sound stored
+      in
+      omega (arith, own.called.k, since, m.run)
 
-  -- The moves beside the queue's are those of the steps, if the last one did nothing,
-  quiet_moves : (t : RigState) (f : Evaluator Q) (begun : ℕ) → m.steps ≤ begun
+  -- The moves beside the queue's are those of the rounds, if the last one did nothing,
+  quiet_moves : (t : RigState) (f : Sweeper Q) (begun : ℕ) → m.rounds ≤ begun
       → f ≡ mid.evaluator → t.moves ≤ mid.rig.moves
       → (t.moves ≤ first.rig.moves)
-      ⊎ StepsMove queue first.rig t first.evaluator f begun
+      ⊎ RoundsMove queue first.rig t first.evaluator f round begun
   quiet_moves t f begun few same still =
       let run = m.runs.runs.spends.moves in
       let spent : (queue.counts f.queue).spent ≡ (queue.counts mid.evaluator.queue).spent =
-      ap (λ (x : Evaluator Q). (queue.counts x.queue).spent) same in
+      ap (λ (x : Sweeper Q). (queue.counts x.queue).spent) same in
       ⊎_elim (λ (none : mid.rig.moves ≤ first.rig.moves). inl (omega (arith, none, still)))
-      (λ (some : 0 < m.steps). inr (record {
+      (λ (some : 0 < m.rounds). inr (record {
         some = omega (arith, some, few);
         most = subst (λ (n : ℕ). t.moves + (queue.counts first.evaluator.queue).spent
-            ≤ first.rig.moves + n + begun * step_moves first.rig first.evaluator) (sym spent)
-            (moves_none m.steps begun (step_moves first.rig first.evaluator) m.owed
+            ≤ first.rig.moves + n + begun * round.moves) (sym spent)
+            (moves_none m.rounds begun round.moves
             (queue.counts first.evaluator.queue).spent first.rig.moves
-            (queue.counts mid.evaluator.queue).spent mid.rig.moves t.moves few m.owed_is
+            (queue.counts mid.evaluator.queue).spent mid.rig.moves t.moves few
             (omega (arith, run)) still);
       }))
       m.idle
 
-  -- and else those of the steps that were begun: it was one of them.
-  pub last_moves : (t : RigState) (f : Evaluator Q) (r : Result StepEnd StepStop)
-      (place later begun : ℕ) → IsLast r → StepCosts queue mid.rig t mid.evaluator f r
-      → (queue.counts mid.evaluator.queue).unstored ≤ mid.rig.pool.shape.frames → m.steps ≤ begun
-      → (place < later → m.steps + 1 ≤ begun)
+  -- and else those of the rounds that were begun: it was one of them.
+  pub last_moves : (t : RigState) (f : Sweeper Q) (r : Result (Option ℕ) StepStop)
+      (place later begun : ℕ) → IsLast r → RoundCosts queue round mid.rig t mid.evaluator f r
+      → (queue.counts mid.evaluator.queue).unstored ≤ mid.rig.pool.shape.frames → m.rounds ≤ begun
+      → (place < later → m.rounds + 1 ≤ begun)
       → ActsAfterByte mid.rig t mid.evaluator f place later
       → (t.moves ≤ first.rig.moves)
-      ⊎ StepsMove queue first.rig t first.evaluator f begun
+      ⊎ RoundsMove queue first.rig t first.evaluator f round begun
   last_moves t f r place later begun last costs stored few further (inl idle) =
       quiet_moves t f begun few idle.0 idle.1
   last_moves t f r place later begun last costs stored few further (inr less) =
       let more = further less in
-      let all = steps_halted t f r last costs stored in
-      let each = moves_kept queue first.rig mid.rig first.evaluator mid.evaluator m.keeps
-      m.runs.runs.session.touches.shape in
+      let all = rounds_halted t f r last costs stored in
       inr (record {
         some = omega (arith, more);
-        most = moves_few m.steps begun (step_moves first.rig first.evaluator) m.owed
-            (step_moves mid.rig mid.evaluator) (queue.counts first.evaluator.queue).spent
-            first.rig.moves (queue.counts f.queue).spent t.moves more m.owed_is each all.moves;
+        most = moves_few m.rounds begun round.moves (queue.counts first.evaluator.queue).spent
+            first.rig.moves (queue.counts f.queue).spent t.moves more all.moves;
       })
 
 -- Blocks of which all but some were stored at first are stored but for those in frames.
@@ -238,13 +218,13 @@ steps_paid s t own before sound paid few pays later shape =
     (λ (b : t.used + s.moves + before ≤ s.used + t.moves + (s.pool.shape.frames + 1)).
     inr (omega (arith, a, b, few, frames, low))) pays.is) paid
 
--- why steps stopped, by the cause of the last one
+-- why steps stopped, by the cause of the last round
 pub cause_of : (old mid new out middle after : ℕ) (s t u : RigState) (held : List ℕ)
-    (r : Result StepEnd StepStop) → IsLast r → Touches held s t → old ≤ mid → out ≤ middle
+    (r : Result (Option ℕ) StepStop) → IsLast r → Touches held s t → old ≤ mid → out ≤ middle
     → IfErr r (StepCause mid new middle after t u)
     → IfErr (result_of r) (StepsCause (fault_counts old out) (fault_counts new after) s u)
-cause_of old mid new out middle after s t u held (Ok Printed) last x a b h = absurd last
-cause_of old mid new out middle after s t u held (Ok End) last x a b h = tt
+cause_of old mid new out middle after s t u held (Ok (Some count)) last x a b h = absurd last
+cause_of old mid new out middle after s t u held (Ok None) last x a b h = tt
 cause_of old mid new out middle after s t u held (Err (stop.Fault kind place)) last x a b h = tt
 cause_of old mid new out middle after s t u held (Err stop.Read) last x a b h = omega (arith, a, h)
 cause_of old mid new out middle after s t u held (Err stop.Write) last x a b h = omega (arith, b, h)
@@ -272,18 +252,19 @@ none_behind [] ys e = e
 none_behind (x ∷ xs) ys e = cc
 
 -- At the end of the stimulus all of it was read.
-pub all_read : {tells : Bool} {first new : Source} (inputs : ℕ) (mid : Source)
-    (r : Result StepEnd StepStop) → IsLast r → Advances tells first new → first.feed.slot ≡ Second
-    → (first.stand.slot Second).ready ≡ true → (IsTrue tells → FollowsText inputs mid new r)
+pub all_read : {tells : Bool} {first new : Source} (lines inputs : ℕ) (mid : Source)
+    (r : Result (Option ℕ) StepStop) → IsLast r → Advances tells first new
+    → first.feed.slot ≡ Second → (first.stand.slot Second).ready ≡ true
+    → (IsTrue tells → FollowsRound lines inputs mid new r)
     → OnOk (result_of r) (IsAllRead tells (new.stand.slot Second))
-all_read inputs mid (Ok Printed) last a e ready f = absurd last
-all_read {new = new} inputs mid (Ok End) last a e ready f = record {
+all_read lines inputs mid (Ok (Some count)) last a e ready f = absurd last
+all_read {new = new} lines inputs mid (Ok None) last a e ready f = record {
   opened = (reads_second a e).ready ∙ ready;
   nothing_left = λ z. none_behind new.feed.ahead (new.stand.slot Second).left
       (subst (λ (k : Slot). new.feed.ahead ++ (new.stand.slot k).left ≡ []) (a.steady.slot ∙ e)
       (f z).left_is);
 }
-all_read inputs mid (Err stopped) last a e ready f = tt
+all_read lines inputs mid (Err stopped) last a e ready f = tt
 
 -- No fewer bytes were given than were taken.
 pub given_least : {tells : Bool} {first new : Source} → IsTrue tells → Advances tells first new
@@ -302,68 +283,74 @@ given_least {tells} {first} {new} z a e ready zero =
     omega (arith, given, long, sum, whole, zero)
 
 -- The fault with which steps ended is the stimulus's first one.
-pub ends_of : {inputs steps : ℕ} {first mid : Source} (new : Source)
-    (r : Result StepEnd StepStop) → IsLast r → FollowsLines inputs steps first mid → FollowsText inputs mid new r
+pub ends_of : {lines inputs rounds : ℕ} {first mid : Source} (new : Source)
+    (r : Result (Option ℕ) StepStop) → IsLast r → FollowsLines lines inputs rounds first mid
+    → FollowsRound lines inputs mid new r
     → EndsSteps (stimulus_from inputs first.feed.place (left first)) (result_of r)
-ends_of new (Ok Printed) last f t = absurd last
-ends_of {inputs} {mid = mid} new (Ok End) last f t =
+ends_of new (Ok (Some count)) last f t = absurd last
+ends_of {inputs = inputs} {mid = mid} new (Ok None) last f t =
     f.fault ∙ ap (λ (x : List ℕ). (stimulus_from inputs mid.feed.place x).fault) t.none_left
-ends_of {inputs} {mid = mid} new (Err (stop.Fault kind place)) last f t =
-    f.fault ∙ fault_here inputs mid.feed.place (left mid) kind place t.some t.fails
+ends_of {inputs = inputs} {mid = mid} new (Err (stop.Fault kind place)) last f t =
+    f.fault ∙ ap (λ (s : Stimulus). s.fault) t.1
 ends_of new (Err stop.Read) last f t = tt
 ends_of new (Err stop.Write) last f t = tt
 ends_of new (Err (stop.Em fault)) last f t = tt
 
--- If something was taken, a line more was begun.
-line_taken : {inputs steps : ℕ} {first mid : Source} (given : ℕ) (reading : Reading (List Bool))
-    → line_at inputs mid ≡ reading → FollowsLines inputs steps first mid
-    → (left mid ≡ [] → ⊥) → mid.feed.place < given
-    → steps + 1 ≤ begun_from inputs given first.feed.place (left first)
-line_taken {inputs} {steps} {first} {mid} given (Reads bits q y) e f some low =
-    let all = begun_next inputs given (begun_from inputs given first.feed.place (left first)) steps
-    mid.feed.place (left mid) bits q y (f.begun given (omega (arith, low))) some low e in
-    omega (arith, all)
-line_taken {inputs} {steps} {first} {mid} given (Fails kind place) e f some low =
-    let all = begun_here inputs given (begun_from inputs given first.feed.place (left first)) steps
-    mid.feed.place (left mid) kind place (f.begun given (omega (arith, low))) some low e in
-    omega (arith, all)
+-- If something is left, and its first byte was given, a line more was begun.
+line_here : (inputs given p : ℕ) (x : List ℕ) (reading : Reading (List Bool))
+    → stimulus_line inputs p x ≡ reading → (x ≡ [] → ⊥) → p < given
+    → 0 < begun_from inputs given p x
+line_here inputs given p x (Reads bits q y) e some low =
+    let more = begun_read inputs given p x bits q y some low e in omega (arith, more)
+line_here inputs given p x (Fails kind place) e some low =
+    let more = begun_stops inputs given p x kind place some low e in omega (arith, more)
 
--- The same of a reader that took something.
-pub line_begun : {tells : Bool} {inputs steps : ℕ} {first mid new : Source} (given : ℕ)
-    → IsTrue tells → FollowsLines inputs steps first mid → Advances tells mid new
-    → mid.feed.place < new.feed.place → new.feed.place ≤ given
-    → steps + 1 ≤ begun_from inputs given first.feed.place (left first)
-line_begun {inputs = inputs} {mid = mid} given z f a less low =
-    let whole = a.steady.whole z in
-    let some : left mid ≡ [] → ⊥ = λ e.
-    let none = ap (λ (x : List ℕ). length x) e in absurd (omega (arith, whole, none, less)) in
-    line_taken given (line_at inputs mid) refl f some (omega (arith, less, low))
-
--- The steps that were made were begun.
-pub steps_begun_few : {tells : Bool} {inputs steps : ℕ} {first mid new : Source} (given : ℕ)
-    → FollowsLines inputs steps first mid → Advances tells mid new → new.feed.place ≤ given
-    → steps ≤ begun_from inputs given first.feed.place (left first)
-steps_begun_few given f a low =
+-- The rounds that were made were begun.
+pub rounds_few : {tells : Bool} {lines inputs rounds : ℕ} {first mid new : Source} (given : ℕ)
+    → 0 < lines → FollowsLines lines inputs rounds first mid → Advances tells mid new
+    → new.feed.place ≤ given
+    → rounds ≤ ceiling (begun_from inputs given first.feed.place (left first)) lines
+rounds_few {lines = lines} {inputs} {rounds} {first} {mid} given some f a low =
     let forward = a.steady.forward in
-    let here = f.begun given (omega (arith, low, forward)) in
-    omega (arith, here)
-
--- All calls of the queue are two at most for each edge and each line that was begun.
-pub calls_begun : {tells : Bool} {inputs steps : ℕ} {first mid new : Source} (given x i j n : ℕ)
-    → IsTrue tells → FollowsLines inputs steps first mid → Advances tells mid new
-    → new.feed.place ≤ given → i ≤ x * steps → n ≤ x * steps + j → j ≤ x
-    → (n ≤ i) ⊎ (mid.feed.place < new.feed.place)
-    → n ≤ x * begun_from inputs given first.feed.place (left first)
-calls_begun {inputs = inputs} {steps} {first} {mid} {new} given x i j n z f a low before calls most
-    idle =
     let all = begun_from inputs given first.feed.place (left first) in
-    ⊎_elim (λ (none : n ≤ i).
-    let forward = a.steady.forward in
     let here = f.begun given (omega (arith, low, forward)) in
-    let rises = times_rises x steps all (omega (arith, here)) in
+    ⊎_elim (λ (e : f.count ≡ lines * rounds).
+    ceiling_full lines rounds all some (omega (arith, here, e)))
+    (λ (z : (left mid ≡ []) × (rounds ≤ ceiling f.count lines)).
+    let more = ceiling_more f.count all lines some (omega (arith, here)) in
+    omega (arith, z.1, more)) f.whole
+
+-- If something was taken, a round more was begun.
+pub round_begun : {tells : Bool} {lines inputs rounds : ℕ} {first mid new : Source} (given : ℕ)
+    → IsTrue tells → 0 < lines → FollowsLines lines inputs rounds first mid → Advances tells mid new
+    → mid.feed.place < new.feed.place → new.feed.place ≤ given
+    → rounds + 1 ≤ ceiling (begun_from inputs given first.feed.place (left first)) lines
+round_begun {lines = lines} {inputs} {rounds} {first} {mid} given z some f a less low =
+    let whole = a.steady.whole z in
+    let all = begun_from inputs given first.feed.place (left first) in
+    let there : left mid ≡ [] → ⊥ = λ e.
+    let none = ap (λ (x : List ℕ). length x) e in absurd (omega (arith, whole, none, less)) in
+    let here = f.begun given (omega (arith, less, low)) in
+    let more = line_here inputs given mid.feed.place (left mid)
+    (stimulus_line inputs mid.feed.place (left mid)) refl there (omega (arith, less, low)) in
+    ⊎_elim (λ (e : f.count ≡ lines * rounds).
+    ceiling_next lines rounds all some (omega (arith, here, e, more)))
+    (λ (z : (left mid ≡ []) × (rounds ≤ ceiling f.count lines)). absurd (there z.0)) f.whole
+
+-- All calls of the queue are those of the rounds that were begun.
+pub calls_begun : {tells : Bool} {lines inputs rounds : ℕ} {first mid new : Source} (given x i n : ℕ)
+    → IsTrue tells → 0 < lines → FollowsLines lines inputs rounds first mid → Advances tells mid new
+    → new.feed.place ≤ given → i ≤ x * rounds → n ≤ x * rounds + x
+    → (n ≤ i) ⊎ (mid.feed.place < new.feed.place)
+    → n ≤ x * ceiling (begun_from inputs given first.feed.place (left first)) lines
+calls_begun {lines = lines} {inputs} {rounds} {first} {mid} {new} given x i n z some f a low before
+    calls idle =
+    let all = ceiling (begun_from inputs given first.feed.place (left first)) lines in
+    ⊎_elim (λ (none : n ≤ i).
+    let rises = times_rises x rounds all (rounds_few given some f a low) in
     omega (arith, none, before, rises))
     (λ (less : mid.feed.place < new.feed.place).
-    let more = line_begun given z f a less low in
-    let rises = times_rises x (steps + 1) all more in
-    let next = calls_more x steps in
-    omega (arith, calls, most, rises, next)) idle
+    let more = round_begun given z some f a less low in
+    let rises = times_rises x (rounds + 1) all more in
+    let next = calls_more x rounds in
+    omega (arith, calls, rises, next)) idle

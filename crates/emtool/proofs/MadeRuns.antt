@@ -55,7 +55,7 @@ asked_made : (task : Task) (start count : ℕ)
 asked_made (Answer Map) start count = refl
 asked_made (Answer Queue) start count = refl
 asked_made (Answer Stab) start count = refl
-asked_made (Eval uninit) start count = refl
+asked_made (Eval uninit wide) start count = refl
 
 -- the outside of the task's run: the shelf and the tally never fail
 abbrev within : DeviceState → GenState → List ℕ → Outside

@@ -3,8 +3,8 @@ use Rattle.std.proofs.Common.{◌≡◌, ℕ, ◌||◌, List, [], Bool, true, fa
 use Rattle.em_io.specs.Shelf.{IsFresh, Leaves, SlotState, Stand}
 use Rattle.em_io.specs.declared.shelf.Slot.{Slot}
 use Rattle.em_io.specs.declared.shelf.Slot.TheVariants.{First, Second}
-use Rattle.aig_defs.specs.TextFault.{text_fault}
 use Rattle.emtool.specs.Due.{names_of, text_in}
+use Rattle.emtool.specs.EvalDue.{job_fault}
 use Rattle.emtool.specs.Opens.{IsAllRead, OpensNamed, ReadsNamed}
 use Rattle.em_space.specs.declared.fault.EmFault.TheVariants as em
 use Rattle.emtool.specs.Run.{ReadsFirst, stop_status}
@@ -55,7 +55,7 @@ module _ (tells told : Bool) (kind : FileKind) (name : List ℕ) (a b : Stand) (
         sym (ap (λ (x : Bool). x || is_none (a.text First name)) fresh.first.lost) ∙ sym (lost t) ∙ l
 
     -- It isn't there, or the shelf failed.
-    pub opens_missing : OpensNamed None tells told names a b ReadFault
+    pub opens_missing : OpensNamed (Answer kind) tells told names a b ReadFault
     opens_missing = record {
       texts = leaves.text;
       others = others;
@@ -89,7 +89,7 @@ module _ (tells told : Bool) (kind : FileKind) (name : List ℕ) (a b : Stand) (
       some_text : IsTrue tells → IsSome (a.text First name)
       some_text t = rw (whole t) refl
 
-      pub opens_file : (s : Status) → OpensNamed None tells told names a c s
+      pub opens_file : (s : Status) → OpensNamed (Answer kind) tells told names a c s
       opens_file s = record {
         texts = reads.leaves.text ∙ leaves.text;
         others = others;
@@ -161,16 +161,16 @@ not_done (Em (em.Full used)) P = tt
 not_done (Em (em.Damaged block)) P = tt
 
 -- What an evaluation does to a shelf, from what it does to each slot.
-pub opens_eval : (uninit : Option Bool) (tells told : Bool) (circuit stimulus : List ℕ) (a e : Stand) (s : Status)
+pub opens_eval : (uninit : Option Bool) (wide tells told : Bool) (circuit stimulus : List ℕ) (a e : Stand) (s : Status)
     → e.text ≡ a.text
     → (IsTrue tells → (e.slot First).lost ≡ true → is_none (a.text First circuit) ≡ true)
     → (IsTrue tells → (e.slot Second).lost ≡ true → is_none (a.text Second stimulus) ≡ true)
     → (IsTrue tells → OnEnd s (IsSome (a.text First circuit)))
     → (IsTrue tells → OnDone s (IsSome (a.text Second stimulus)))
     → (IsTrue tells → IsTrue told → (e.slot Second).opened ≡ true
-    → text_fault (start_of uninit) (text_in a First (Some circuit)) ≡ None)
-    → OpensNamed (start_of uninit) tells told (names_of (Eval uninit) circuit stimulus) a e s
-opens_eval uninit tells told circuit stimulus a e s text first second end done faultless = record {
+    → job_fault wide (start_of uninit) (text_in a First (Some circuit)) ≡ None)
+    → OpensNamed (Eval uninit wide) tells told (names_of (Eval uninit wide) circuit stimulus) a e s
+opens_eval uninit wide tells told circuit stimulus a e s text first second end done faultless = record {
   texts = text;
   others = others;
   lost = lost_of;
@@ -179,24 +179,24 @@ opens_eval uninit tells told circuit stimulus a e s text first second end done f
   second = faultless;
 }
   where
-    others : (slot : Slot) → IsNone (names_of (Eval uninit) circuit stimulus slot)
+    others : (slot : Slot) → IsNone (names_of (Eval uninit wide) circuit stimulus slot)
         → e.slot slot ≡ a.slot slot
     others First n = cc
     others Second n = cc
 
     lost_of : (slot : Slot) → IsTrue tells → (e.slot slot).lost ≡ true
-        → IfSome (names_of (Eval uninit) circuit stimulus slot) (λ n. is_none (a.text slot n) ≡ true)
+        → IfSome (names_of (Eval uninit wide) circuit stimulus slot) (λ n. is_none (a.text slot n) ≡ true)
     lost_of First t l = first t l
     lost_of Second t l = second t l
 
     there : (slot : Slot) → IsTrue tells
-        → IfSome (names_of (Eval uninit) circuit stimulus slot) (λ n. OnDone s (IsSome (a.text slot n)))
+        → IfSome (names_of (Eval uninit wide) circuit stimulus slot) (λ n. OnDone s (IsSome (a.text slot n)))
     there First t = done_end s (IsSome (a.text First circuit)) (end t)
     there Second t = done t
 
 -- Both slots were read to their ends, if all was done.
-pub reads_both : (uninit : Option Bool) (tells : Bool) (circuit stimulus : List ℕ) (e : Stand) (s : Status)
+pub reads_both : (uninit : Option Bool) (wide tells : Bool) (circuit stimulus : List ℕ) (e : Stand) (s : Status)
     → OnDone s (IsAllRead tells (e.slot First)) → OnDone s (IsAllRead tells (e.slot Second))
-    → ReadsNamed tells (names_of (Eval uninit) circuit stimulus) e s
-reads_both uninit tells circuit stimulus e s first second First = first
-reads_both uninit tells circuit stimulus e s first second Second = second
+    → ReadsNamed tells (names_of (Eval uninit wide) circuit stimulus) e s
+reads_both uninit wide tells circuit stimulus e s first second First = first
+reads_both uninit wide tells circuit stimulus e s first second Second = second

@@ -20,7 +20,7 @@ abbrev unnamed : Slot → Option (List ℕ)
 unnamed = by_slot None None
 
 -- so a shelf that stays as it is meets all that is said of names
-pub opens_unnamed : {start : Option ℕ} (tells told : Bool) (a : Stand) (s : Status) → OpensNamed start tells told unnamed a a s
+pub opens_unnamed : {task : Task} (tells told : Bool) (a : Stand) (s : Status) → OpensNamed task tells told unnamed a a s
 opens_unnamed tells told a s = record {
   texts = refl;
   others = λ slot n. refl;

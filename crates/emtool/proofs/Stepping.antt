@@ -1,76 +1,60 @@
--- The loop over the steps of a stimulus: what its step does to what is left of the stimulus, and to
--- what is still to be printed.
-use Rattle.std.proofs.Common.{◌≡◌, ℕ, ◌+◌, ◌<◌, Bool, List, [], ◌++◌, ap, subst, refl, arith, append_assoc, Some}
-use Rattle.em_io.specs.Sink.{IsRule, Sent}
-use Rattle.em_io.proofs.Sent.{sent-more, sent-rest}
-use Rattle.aig_defs.specs.declared.fault.AigKind.{AigKind}
+-- The lines of some steps of a circuit, and of those that are left.
+use Rattle.std.proofs.Common.{◌≡◌, ℕ, Bool, List, [], ◌∷◌, ◌++◌, take, drop, ap, sym, ◌∙◌, refl}
+use Rattle.std.proofs.lemmas.List.{take-append-drop}
 use Rattle.aig_defs.specs.Circuit.{Circuit}
-use Rattle.aig_defs.specs.Items.{Reads, Fails}
-use Rattle.aig_defs.specs.Stimulus.{Stimulus, begun_from, output_line, output_lines, stimulus_from, stimulus_line}
+use Rattle.aig_defs.specs.Stimulus.{Stimulus, output_lines, stimulus_from}
 use Rattle.aig_defs.specs.Value.{run_from, step_of}
-use Rattle.aig_defs.proofs.Stimulus.{begun_read, begun_stops, stimulus_read, stimulus_stops}
+use Rattle.aig_defs.proofs.Stimulus.{output_lines_append}
+use Rattle.aig_text.specs.Source.{Source, left}
+use Rattle.aig_wide.specs.Group.{after_steps, stimulus_at}
+
+-- the state after some steps
+abbrev pub state_after : Circuit → List Bool → List (List Bool) → List Bool
+state_after c state [] = state
+state_after c state (bits ∷ steps) = state_after c (step_of c state bits).1 steps
+
+-- the lines of some steps, from this state
+abbrev pub lines_from : Circuit → List Bool → List (List Bool) → List ℕ
+lines_from c state steps = output_lines (run_from c state steps)
 
 -- the lines that are still to be printed, from this state and from this place of the stimulus on
 abbrev pub lines_left : Circuit → List Bool → ℕ → List ℕ → List ℕ
-lines_left c state p x =
-    output_lines (run_from c state (stimulus_from c.header.inputs p x).steps)
+lines_left c state p x = lines_from c state (stimulus_from c.header.inputs p x).steps
 
--- The next line of the stimulus was read: its line is the first one that is to be printed.
-pub lines_next : (c : Circuit) (state : List Bool) (p : ℕ) (x : List ℕ) (bits : List Bool) (q : ℕ)
-    (y : List ℕ) → (x ≡ [] → ⊥) → stimulus_line c.header.inputs p x ≡ Reads bits q y
-    → lines_left c state p x
-    ≡ output_line (step_of c state bits).0 ++ lines_left c (step_of c state bits).1 q y
-lines_next c state p x bits q y some e =
-    ap (λ (s : Stimulus). output_lines (run_from c state s.steps))
-    (stimulus_read c.header.inputs p x bits q y some e)
+-- the lines of the next round, if it reads at most so many
+abbrev pub lines_next : ℕ → Circuit → List Bool → Source → List ℕ
+lines_next lines c state s = lines_from c state (take lines (stimulus_at c.header.inputs s).steps)
 
--- After the text's end nothing is to be printed,
-pub lines_none : (c : Circuit) (state : List Bool) (p : ℕ) → lines_left c state p [] ≡ []
-lines_none c state p = refl
+run_append : (c : Circuit) (state : List Bool) (xs ys : List (List Bool))
+    → run_from c state (xs ++ ys) ≡ run_from c state xs ++ run_from c (state_after c state xs) ys
+run_append c state [] ys = refl
+run_append c state (bits ∷ xs) ys =
+    ap (λ (r : List (List Bool)). (step_of c state bits).0 ∷ r)
+    (run_append c (step_of c state bits).1 xs ys)
 
--- nor at a fault.
-pub lines_stop : (c : Circuit) (state : List Bool) (p : ℕ) (x : List ℕ) (kind : AigKind) (place : ℕ)
-    → (x ≡ [] → ⊥) → stimulus_line c.header.inputs p x ≡ Fails kind place
-    → lines_left c state p x ≡ []
-lines_stop c state p x kind place some e =
-    ap (λ (s : Stimulus). output_lines (run_from c state s.steps))
-    (stimulus_stops c.header.inputs p x kind place some e)
+-- The lines of steps one after the other stand so, too.
+pub lines_append : (c : Circuit) (state : List Bool) (xs ys : List (List Bool))
+    → lines_from c state (xs ++ ys)
+    ≡ lines_from c state xs ++ lines_from c (state_after c state xs) ys
+lines_append c state xs ys =
+    ap output_lines (run_append c state xs ys)
+    ∙ output_lines_append (run_from c state xs) (run_from c (state_after c state xs) ys)
 
--- The first fault is that of the lines that are left,
-pub fault_next : (inputs p : ℕ) (x : List ℕ) (bits : List Bool) (q : ℕ) (y : List ℕ)
-    → (x ≡ [] → ⊥) → stimulus_line inputs p x ≡ Reads bits q y
-    → (stimulus_from inputs p x).fault ≡ (stimulus_from inputs q y).fault
-fault_next inputs p x bits q y some e =
-    ap (λ (s : Stimulus). s.fault) (stimulus_read inputs p x bits q y some e)
+-- Lines of the stimulus were read: their lines are the first ones that are to be printed.
+pub lines_taken : (c : Circuit) (state : List Bool) (bits : List (List Bool)) (old new : Source)
+    → stimulus_at c.header.inputs old ≡ after_steps bits (stimulus_at c.header.inputs new)
+    → lines_left c state old.feed.place (left old) ≡ lines_from c state bits
+    ++ lines_left c (state_after c state bits) new.feed.place (left new)
+lines_taken c state bits old new e =
+    ap (λ (s : Stimulus). lines_from c state s.steps) e
+    ∙ lines_append c state bits (stimulus_at c.header.inputs new).steps
 
--- or that of the next one.
-pub fault_here : (inputs p : ℕ) (x : List ℕ) (kind : AigKind) (place : ℕ) → (x ≡ [] → ⊥)
-    → stimulus_line inputs p x ≡ Fails kind place
-    → (stimulus_from inputs p x).fault ≡ Some (kind, place)
-fault_here inputs p x kind place some e =
-    ap (λ (s : Stimulus). s.fault) (stimulus_stops inputs p x kind place some e)
-
--- k steps were made, and so k lines were begun before those that are left
-pub begun_next : (inputs given all k p : ℕ) (x : List ℕ) (bits : List Bool) (q : ℕ) (y : List ℕ)
-    → all ≡ k + begun_from inputs given p x → (x ≡ [] → ⊥) → p < given
-    → stimulus_line inputs p x ≡ Reads bits q y → all ≡ (k + 1) + begun_from inputs given q y
-begun_next inputs given all k p x bits q y e some low r =
-    let more = begun_read inputs given p x bits q y some low r in omega (arith, e, more)
-
-pub begun_here : (inputs given all k p : ℕ) (x : List ℕ) (kind : AigKind) (place : ℕ)
-    → all ≡ k + begun_from inputs given p x → (x ≡ [] → ⊥) → p < given
-    → stimulus_line inputs p x ≡ Fails kind place → all ≡ k + 1
-begun_here inputs given all k p x kind place e some low r =
-    let more = begun_stops inputs given p x kind place some low r in omega (arith, e, more)
-
-module _ {IsState : List ℕ → Type 0} {took : List ℕ → List ℕ → List ℕ} (rule : IsRule IsState took)
-    {old : List ℕ} (ok : IsState old) where
-  -- Of the whole text all went out but what is pending, a line and a rest. Then some of what is pending
-  -- and of the line went out.
-  pub sent_on : {whole mid new left : List ℕ} (pending line rest : List ℕ)
-      → Sent took old whole mid (pending ++ (line ++ rest))
-      → Sent took mid (pending ++ line) new left → Sent took old whole new (left ++ rest)
-  sent_on {whole} {mid} {new} {left} pending line rest p q =
-      sent-rest rule ok p
-      (subst (λ (bytes : List ℕ). Sent took mid bytes new (left ++ rest))
-      (append_assoc pending line rest) (sent-more rest q))
+-- The lines of the next round are the first ones.
+pub lines_parted : (n : ℕ) (c : Circuit) (state : List Bool) (s : Source)
+    → lines_left c state s.feed.place (left s) ≡ lines_next n c state s
+    ++ lines_from c (state_after c state (take n (stimulus_at c.header.inputs s).steps))
+    (drop n (stimulus_at c.header.inputs s).steps)
+lines_parted n c state s =
+    let steps = (stimulus_at c.header.inputs s).steps in
+    ap (λ (x : List (List Bool)). lines_from c state x) (sym (take-append-drop n steps))
+    ∙ lines_append c state (take n steps) (drop n steps)

@@ -26,7 +26,6 @@ use Rattle.emtool.specs.Promise.{Completes, EndsAsDue, FullHasCause, GivesDue, K
 use Rattle.emtool.specs.Run.{Caused, Ended, HasSizes, Outside, RunsJob, RunsOn, outside}
 use Rattle.emtool.specs.Status.{OnBegun, OnUsage}
 use Rattle.emtool.proofs.EndLaws.{ended_opened, told_if}
-use Rattle.emtool.specs.Job.{start_for}
 
 -- the blocks that a task's run may hold are fewer than its bound, with four for each frame
 task_small : (task : Task) (shape : ShapeNumbers) (texts : Slot → List ℕ)
@@ -34,7 +33,7 @@ task_small : (task : Task) (shape : ShapeNumbers) (texts : Slot → List ℕ)
     → used ≤ (asked_of task texts).most shape slots
     → used < transfer_bound task shape texts slots + 4 * shape.frames
 task_small (Answer kind) shape texts slots used is h = let some = is.frames_low in omega (arith, h, some)
-task_small (Eval start) shape texts slots used is h = let some = is.frames_low in omega (arith, h, some)
+task_small (Eval uninit wide) shape texts slots used is h = let some = is.frames_low in omega (arith, h, some)
 
 -- so are those of its run on texts of this origin
 origin_small : (origin : Origin) (task : Task) (shape : ShapeNumbers) (texts : Slot → List ℕ)
@@ -51,9 +50,9 @@ origin_moves : (origin : Origin) (task : Task) (shape : ShapeNumbers) (texts : S
     → IfSome (asked_on origin task texts).moves (λ f. after ≤ before + f shape slots)
     → after - before ≤ transfer_bound task shape texts (slots_of origin slots)
 origin_moves Files (Answer kind) shape texts slots before after h = omega (arith, h)
-origin_moves Files (Eval start) shape texts slots before after h = omega (arith, h)
+origin_moves Files (Eval uninit wide) shape texts slots before after h = omega (arith, h)
 origin_moves (Made start count) (Answer kind) shape texts slots before after h = omega (arith, h)
-origin_moves (Made start count) (Eval uninit) shape texts slots before after h = omega (arith, h)
+origin_moves (Made start count) (Eval uninit wide) shape texts slots before after h = omega (arith, h)
 
 -- Where the device isn't begun or there is no memory, shelf and output stay.
 pub leaves_unbegun : {H W : Type 0} (origin : Origin) (shelf : H) (out : W)
@@ -153,7 +152,7 @@ pub record Besides {H W : Type 0} (h : ShelfGhosts H) (w : SinkGhosts W) (job : 
     (out_after : W) (status : Status) : Type 0 where
   pub caused : Caused (outside h w device shelf out)
       (outside h w device_after shelf_after out_after) status
-  pub opens : OpensNamed (start_for job.task) (tells_of job.origin h.tells) device.told names (h.stand shelf)
+  pub opens : OpensNamed job.task (tells_of job.origin h.tells) device.told names (h.stand shelf)
       (h.stand shelf_after) status
   pub all_read : ReadsNamed (tells_of job.origin h.tells) names (h.stand shelf_after) status
   pub leaves : OnMade job.origin (LeavesOutside shelf out shelf_after out_after status)

@@ -5,6 +5,7 @@ use Rattle.std.specs.List.{sum_by}
 use Rattle.std.proofs.lemmas.List.Sums.{sum_by-append}
 use Rattle.em_record.specs.Cost.{cost}
 use Rattle.em_record.specs.Shape.{ShapeNumbers}
+use Rattle.em_chain.proofs.Sessions.{ceiling_rises}
 use Rattle.em_io.specs.Shelf.{SlotState}
 use Rattle.em_io.specs.declared.shelf.Slot.{Slot}
 use Rattle.em_io.specs.declared.shelf.Slot.TheVariants.{First, Second}
@@ -18,7 +19,7 @@ use Rattle.aig_defs.proofs.Begun.{text_size_rises}
 use Rattle.aig_defs.proofs.Stimulus.{steps_begun_rises}
 use Rattle.emtool.specs.Asked.{asked_of}
 use Rattle.emtool.specs.CommandLine.{good_commands}
-use Rattle.emtool.specs.EvalSize.{circuit_read, eval_cost, given_of, passes_read, steps_after, steps_read}
+use Rattle.emtool.specs.EvalSize.{circuit_read, eval_cost, given_of, passes_read, rounds_of, steps_after, steps_read}
 use Rattle.emtool.specs.Made.{read_whole}
 use Rattle.emtool.specs.RunSize.{commands_taken, run_size}
 use Rattle.emtool.specs.declared.job.Task.{Task}
@@ -84,13 +85,18 @@ file_rises : (kind : FileKind) (shape : ShapeNumbers) (text left : List ℕ)
 file_rises kind shape text left = cost_rises shape (run_size kind text left) (run_size kind text [])
     (size_rises kind text left [] (omega arith))
 
+-- more steps take no fewer rounds
+more_rounds : (wide : Bool) (few many : ℕ) → few ≤ many → rounds_of wide few ≤ rounds_of wide many
+more_rounds false few many h = h
+more_rounds true few many h = let more = ceiling_rises few many 64 (omega arith) h in omega (arith, more)
+
 -- nor is that of an evaluation of whole texts
-eval_rises : (start : Option ℕ) (shape : ShapeNumbers) (circuit stimulus : List ℕ) (slots : Slot → SlotState)
+eval_rises : (wide : Bool) (start : Option ℕ) (shape : ShapeNumbers) (circuit stimulus : List ℕ) (slots : Slot → SlotState)
     → eval_cost shape (circuit_read start (slots First) circuit)
-    (steps_read start circuit (slots Second) stimulus) (passes_read start circuit)
-    ≤ eval_cost shape (circuit_read start read_whole circuit) (steps_read start circuit read_whole stimulus)
-    (passes_read start circuit)
-eval_rises start shape circuit stimulus slots =
+    (rounds_of wide (steps_read start circuit (slots Second) stimulus)) (passes_read start circuit)
+    ≤ eval_cost shape (circuit_read start read_whole circuit)
+    (rounds_of wide (steps_read start circuit read_whole stimulus)) (passes_read start circuit)
+eval_rises wide start shape circuit stimulus slots =
     let size : circuit_read start (slots First) circuit ≤ circuit_read start read_whole circuit =
     text_size_rises start (given_of (slots First) circuit) (given_of read_whole circuit) circuit
     (given_most (slots First) circuit) in
@@ -99,8 +105,10 @@ eval_rises start shape circuit stimulus slots =
     steps_rise (either_text start 0 circuit) (given_of (slots Second) stimulus)
     (given_of read_whole stimulus) stimulus (given_most (slots Second) stimulus) in
     eval_cost_rises shape (circuit_read start (slots First) circuit) (circuit_read start read_whole circuit)
-    (steps_read start circuit (slots Second) stimulus) (steps_read start circuit read_whole stimulus)
-    (passes_read start circuit) size steps
+    (rounds_of wide (steps_read start circuit (slots Second) stimulus))
+    (rounds_of wide (steps_read start circuit read_whole stimulus)) (passes_read start circuit) size
+    (more_rounds wide (steps_read start circuit (slots Second) stimulus)
+    (steps_read start circuit read_whole stimulus) steps)
 
 -- No fewer blocks for whole texts.
 pub most_rises : (task : Task) (texts : Slot → List ℕ) (shape : ShapeNumbers)
@@ -109,12 +117,13 @@ pub most_rises : (task : Task) (texts : Slot → List ℕ) (shape : ShapeNumbers
     ≤ (asked_of task texts).most shape (λ slot. read_whole)
 most_rises (Answer kind) texts shape slots =
     let more = file_rises kind shape (texts First) (slots First).left in omega (arith, more)
-most_rises (Eval start) texts shape slots =
-    let more = eval_rises (start_of start) shape (texts First) (texts Second) slots in omega (arith, more)
+most_rises (Eval uninit wide) texts shape slots =
+    let more = eval_rises wide (start_of uninit) shape (texts First) (texts Second) slots in omega (arith, more)
 
 -- Nor fewer moves.
 pub moves_rise : (task : Task) (texts : Slot → List ℕ) (shape : ShapeNumbers)
     (slots : Slot → SlotState) → IfSome (asked_of task texts).moves
     (λ f. f shape slots ≤ f shape (λ slot. read_whole))
 moves_rise (Answer kind) texts shape slots = file_rises kind shape (texts First) (slots First).left
-moves_rise (Eval start) texts shape slots = eval_rises (start_of start) shape (texts First) (texts Second) slots
+moves_rise (Eval uninit wide) texts shape slots =
+    eval_rises wide (start_of uninit) shape (texts First) (texts Second) slots

@@ -6,7 +6,7 @@ use Rattle.em_io.specs.Shelf.{SlotState}
 use Rattle.em_io.specs.declared.shelf.Slot.{Slot}
 use Rattle.em_io.specs.declared.shelf.Slot.TheVariants.{First, Second}
 use Rattle.emtool.specs.EvalDue.{eval_output, eval_status}
-use Rattle.emtool.specs.EvalSize.{circuit_read, eval_cost, passes_read, steps_read}
+use Rattle.emtool.specs.EvalSize.{circuit_read, eval_cost, passes_read, rounds_of, steps_read}
 use Rattle.emtool.specs.FileDue.{due_status, output_text}
 use Rattle.emtool.specs.RunSize.{run_size}
 use Rattle.emtool.specs.declared.job.Task.{Task}
@@ -79,19 +79,20 @@ asked_of_file kind text = asked_by by_cost kind text
 
 -- What an evaluation asks, by the texts of the circuit and of the stimulus. Whether the circuit has
 -- a fault is found from what the device gives back.
-abbrev pub asked_of_eval : Option ℕ → List ℕ → List ℕ → Asked
-asked_of_eval start circuit stimulus = record {
-  status = eval_status start circuit stimulus;
+abbrev pub asked_of_eval : Bool → Option ℕ → List ℕ → List ℕ → Asked
+asked_of_eval wide start circuit stimulus = record {
+  status = eval_status wide start circuit stimulus;
   status_told = true;
-  output = eval_output start circuit stimulus;
+  output = eval_output wide start circuit stimulus;
   moves = Some (λ shape slots. eval_cost shape (circuit_read start (slots First) circuit)
-      (steps_read start circuit (slots Second) stimulus) (passes_read start circuit));
+      (rounds_of wide (steps_read start circuit (slots Second) stimulus)) (passes_read start circuit));
   most = λ shape slots. eval_cost shape (circuit_read start (slots First) circuit)
-      (steps_read start circuit (slots Second) stimulus) (passes_read start circuit) + 2 * shape.frames;
+      (rounds_of wide (steps_read start circuit (slots Second) stimulus)) (passes_read start circuit) + 2 * shape.frames;
   most_told = true;
 }
 
 -- what a task asks, by the text of each slot
 abbrev pub asked_of : Task → (Slot → List ℕ) → Asked
 asked_of (Answer kind) texts = asked_of_file kind (texts First)
-asked_of (Eval start) texts = asked_of_eval (start_of start) (texts First) (texts Second)
+asked_of (Eval uninit wide) texts =
+    asked_of_eval wide (start_of uninit) (texts First) (texts Second)

@@ -5,7 +5,7 @@ use Rattle.em_record.specs.Shape.{ShapeNumbers}
 use Rattle.em_io.specs.Shelf.{SlotState}
 use Rattle.em_io.specs.declared.shelf.Slot.{Slot}
 use Rattle.em_io.specs.declared.shelf.Slot.TheVariants.{First, Second}
-use Rattle.emtool.specs.EvalSize.{circuit_read, eval_cost, passes_read, steps_read}
+use Rattle.emtool.specs.EvalSize.{circuit_read, eval_cost, passes_read, rounds_of, steps_read}
 use Rattle.emtool.specs.Origin.{slots_of}
 use Rattle.emtool.specs.RunSize.{run_size}
 use Rattle.emtool.specs.declared.job.Job.{Job}
@@ -17,9 +17,10 @@ use Rattle.emtool.specs.Job.{start_of}
 abbrev pub transfer_bound : Task → ShapeNumbers → (Slot → List ℕ) → (Slot → SlotState) → ℕ
 transfer_bound (Answer kind) shape texts slots =
     cost shape (run_size kind (texts First) (slots First).left)
-transfer_bound (Eval start) shape texts slots =
-    eval_cost shape (circuit_read (start_of start) (slots First) (texts First))
-    (steps_read (start_of start) (texts First) (slots Second) (texts Second)) (passes_read (start_of start) (texts First))
+transfer_bound (Eval uninit wide) shape texts slots =
+    eval_cost shape (circuit_read (start_of uninit) (slots First) (texts First))
+    (rounds_of wide (steps_read (start_of uninit) (texts First) (slots Second) (texts Second)))
+    (passes_read (start_of uninit) (texts First))
 
 -- the blocks that are enough for a run: its transfer cost, and four for each frame
 abbrev pub stated_room : Job → (Slot → List ℕ) → (Slot → SlotState) → ℕ

@@ -16,7 +16,7 @@ use Rattle.emtool.specs.declared.status.Usage.{Usage}
 -- the name of each slot's file, if the task opens the slot, by the words of its operands
 abbrev pub names_of : Task → List ℕ → List ℕ → Slot → Option (List ℕ)
 names_of (Answer kind) first second = by_slot (Some first) None
-names_of (Eval start) first second = by_slot (Some first) (Some second)
+names_of (Eval uninit wide) first second = by_slot (Some first) (Some second)
 
 -- the same by where the texts come from: made ones have no name
 abbrev pub names_on : Origin → Task → List ℕ → List ℕ → Slot → Option (List ℕ)

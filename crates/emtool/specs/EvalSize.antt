@@ -1,7 +1,8 @@
 -- The size of an evaluation that stops somewhere in its texts: three numbers.
-use Rattle.std.specs.Prelude.{ℕ, ◌+◌, ◌-◌, ◌*◌, if◌then◌else◌, List, length, Option, Some}
+use Rattle.std.specs.Prelude.{ℕ, ◌+◌, ◌-◌, ◌*◌, Bool, if◌then◌else◌, List, length, Option, Some}
 use Rattle.em_record.specs.Cost.{cost}
 use Rattle.em_record.specs.Shape.{ShapeNumbers}
+use Rattle.em_chain.specs.Counts.{ceiling}
 use Rattle.em_io.specs.Shelf.{SlotState}
 use Rattle.aig_defs.specs.declared.fault.AigKind.{AigKind}
 use Rattle.aig_defs.specs.declared.fault.AigKind.TheVariants.{Twice, Undefined}
@@ -46,6 +47,10 @@ passes_after (Fails kind place) = 0
 abbrev pub passes_read : Option ℕ → List ℕ → ℕ
 passes_read start circuit = passes_after (either_text start 0 circuit)
 
--- the transfer cost of an evaluation: (T + r + 2) times that of 2E records
+-- the rounds of this many steps: one a step, or two a group of up to 64, if they are taken many at once
+abbrev pub rounds_of : Bool → ℕ → ℕ
+rounds_of wide steps = if wide then 2 * ceiling steps 64 else steps
+
+-- the transfer cost of an evaluation: (rounds + r + 2) times that of 2E records
 abbrev pub eval_cost : ShapeNumbers → ℕ → ℕ → ℕ → ℕ
-eval_cost shape size steps passes = (steps + passes + 2) * cost shape (2 * size)
+eval_cost shape size rounds passes = (rounds + passes + 2) * cost shape (2 * size)

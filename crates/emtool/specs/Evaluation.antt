@@ -22,12 +22,13 @@ use Rattle.aig_defs.specs.TextFault.{either_text, text_fault}
 use Rattle.aig_defs.specs.Value.{run_from, run_of}
 use Rattle.aig_edges.specs.Graph.{IsOrdered, IsOrderedOf, edge_count, ordered_blocks, ordered_size}
 use Rattle.aig_edges.specs.declared.graph.Ordered.{Ordered}
-use Rattle.aig_forward.specs.Evaluator.{Evaluates, HasEvaluatorFrames, IsEvaluator, evaluator_blocks}
-use Rattle.aig_forward.specs.Outputs.{KeepsFront}
-use Rattle.aig_forward.specs.Step.{step_moves}
-use Rattle.aig_forward.specs.declared.evaluator.Evaluator.{Evaluator}
+use Rattle.aig_sweep.specs.Scene.{KeepsFront}
+use Rattle.aig_sweep.specs.Sweeper.{Evaluates, HasSweeperFrames, IsSweeper, sweeper_blocks}
+use Rattle.aig_sweep.specs.declared.sweeper.Sweeper.{Sweeper}
+use Rattle.aig_forward.specs.Step.{step_calls, step_moves, step_room}
+use Rattle.aig_wide.specs.Group.{group_calls, group_moves, group_room}
 use Rattle.aig_order.specs.OrderGraph.{OrdersCircuit}
-use Rattle.emtool.specs.EvalMoves.{circuit_moves, making_moves, steps_moves}
+use Rattle.emtool.specs.EvalMoves.{circuit_moves, making_moves, rounds_moves}
 use Rattle.emtool.specs.EvalSize.{circuit_read, given_of, passes_read}
 use Rattle.emtool.specs.Opens.{IsAllRead}
 use Rattle.emtool.specs.Run.{IsReady, ReadsFirst}
@@ -150,12 +151,12 @@ pub record CanBegin (s : RigState) (o : Ordered) : Type 0 where
   pub packed : o.edges.blocks ≤ ceiling (edge_count o.header) (payload_in s)
   pub paid : (2 ^ 64 - 1 ≤ s.moves) ⊎ (s.used ≤ s.moves)
 
--- An evaluator can make steps. It has made no call of its queue, and all blocks in use are its own and
+-- An evaluator can make rounds. It has made no call of its queue, and all blocks in use are its own and
 -- were stored, but those that its queue says.
-pub record CanRunSteps {Q : Type 0} (queue : QueueGhosts Q) (s : RigState) (e : Evaluator Q)
+pub record CanRunSteps {Q : Type 0} (queue : QueueGhosts Q) (s : RigState) (e : Sweeper Q)
     : Type 0 where
   pub sound : Sound s
-  pub is : IsEvaluator queue s e
+  pub is : IsSweeper queue s e
   pub free : 2 * fan_of s.pool.shape + 10 ≤ s.pool.free
   pub areas : 1 ≤ s.pool.free_areas
   pub rack : s.pool.rack_out ≡ false
@@ -164,26 +165,52 @@ pub record CanRunSteps {Q : Type 0} (queue : QueueGhosts Q) (s : RigState) (e : 
       ≡ (queue.counts e.queue).blocks + (e.given.blocks + (e.gates.blocks + e.state.blocks))
   pub paid : (2 ^ 64 - 1 ≤ s.moves) ⊎ (s.used ≤ s.moves + (queue.counts e.queue).unstored)
 
+-- The numbers of a round of an evaluation, which is a step or a group: how many lines it reads at most, its
+-- calls of the queue, and the blocks and moves beside the queue's.
+pub record Round : Type 0 where
+  pub lines : ℕ
+  pub calls : ℕ
+  pub room : ℕ
+  pub moves : ℕ
+
+-- a step reads a line
+abbrev pub step_round : {Q : Type 0} → RigState → Sweeper Q → Round
+step_round s e = record {
+  lines = 1;
+  calls = step_calls e.header;
+  room = step_room s e;
+  moves = step_moves s e;
+}
+
+-- a group reads up to 64
+abbrev pub group_round : {Q : Type 0} → RigState → Sweeper Q → Round
+group_round s e = record {
+  lines = 64;
+  calls = group_calls e.header;
+  room = group_room s e;
+  moves = group_moves s e;
+}
+
 -- how many steps were begun, by what is left of the second slot
 abbrev pub steps_of : ℕ → List ℕ → SlotState → ℕ
 steps_of inputs text slot = steps_begun inputs (given_of slot text) text
 
--- Steps were begun, this many, and beside the queue's moves come those of so many steps.
-pub record StepsMove {Q : Type 0} (queue : QueueGhosts Q) (s t : RigState) (e d : Evaluator Q)
-    (steps : ℕ) : Type 0 where
-  pub some : 0 < steps
+-- Rounds were begun, this many, and beside the queue's moves come those of so many rounds.
+pub record RoundsMove {Q : Type 0} (queue : QueueGhosts Q) (s t : RigState) (e d : Sweeper Q)
+    (round : Round) (rounds : ℕ) : Type 0 where
+  pub some : 0 < rounds
   pub most : t.moves + (queue.counts e.queue).spent
-      ≤ s.moves + (queue.counts d.queue).spent + steps * step_moves s e
+      ≤ s.moves + (queue.counts d.queue).spent + rounds * round.moves
 
--- Steps over the stimulus in the second slot, from each state of a circuit that the evaluator has. Between
--- two moments at which its queue is empty come the calls of one step. Nothing is moved before the first
--- step is begun.
+-- Steps over the stimulus in the second slot, a round of them at a time, from each state of a circuit that the
+-- evaluator has. Between two moments at which its queue is empty come the calls of one round. Nothing is moved
+-- before the first step is begun.
 pub record PrintsSteps {H W Q : Type 0} (h : ShelfGhosts H) (w : SinkGhosts W) (queue : QueueGhosts Q)
-    (s t : RigState) (e d : Evaluator Q) (shelf shelf_after : H) (out out_after : W)
+    (round : Round) (s t : RigState) (e d : Sweeper Q) (shelf shelf_after : H) (out out_after : W)
     (pending : List ℕ) (result : Result (Unit {0}) Stop) : Type 0 where
   pub sound : Sound t
-  pub touches : Touches (evaluator_blocks queue s e) s t
-  pub frames : HasEvaluatorFrames queue t d
+  pub touches : Touches (sweeper_blocks queue s e) s t
+  pub frames : HasSweeperFrames queue t d
   pub shares : Shares (queue.counts e.queue) (queue.counts d.queue) s.pool t.pool
   pub reads : ReadsSecond h.tells (h.stand shelf) (h.stand shelf_after)
   pub read_later : h.faults shelf ≤ h.faults shelf_after
@@ -198,13 +225,13 @@ pub record PrintsSteps {H W Q : Type 0} (h : ShelfGhosts H) (w : SinkGhosts W) (
       (w.state out) (w.state out_after) pending result
   pub cause : IfErr result (StepsCause (fault_counts (h.faults shelf) (w.faults out))
       (fault_counts (h.faults shelf_after) (w.faults out_after)) s t)
-  pub called : IsTrue h.tells → (queue.counts d.queue).n ≤ 2 * edge_count e.header
-      * steps_of e.header.inputs ((h.stand shelf).slot Second).left
-      ((h.stand shelf_after).slot Second)
-  pub run : (queue.counts d.queue).k ≤ max (queue.counts e.queue).k (2 * edge_count e.header)
-  pub moves : IsTrue h.tells → (t.moves ≤ s.moves) ⊎ StepsMove queue s t e d
-      (steps_of e.header.inputs ((h.stand shelf).slot Second).left
-      ((h.stand shelf_after).slot Second))
+  pub called : IsTrue h.tells → (queue.counts d.queue).n ≤ round.calls
+      * ceiling (steps_of e.header.inputs ((h.stand shelf).slot Second).left
+      ((h.stand shelf_after).slot Second)) round.lines
+  pub run : (queue.counts d.queue).k ≤ max (queue.counts e.queue).k round.calls
+  pub moves : IsTrue h.tells → (t.moves ≤ s.moves) ⊎ RoundsMove queue s t e d round
+      (ceiling (steps_of e.header.inputs ((h.stand shelf).slot Second).left
+      ((h.stand shelf_after).slot Second)) round.lines)
   pub paid : (2 ^ 64 - 1 ≤ t.moves) ⊎ (t.used ≤ t.moves + 2 * t.pool.shape.frames)
 
 -- steps ended as due: all were made, or the stimulus has a fault
@@ -237,8 +264,9 @@ pub record PrintsAll (took : List ℕ → List ℕ → List ℕ) (lines old new 
 
 -- An evaluation by these edges, which are all that is on the rig: as `PrintsSteps`, with nothing pending,
 -- for a circuit in any order of its gates, from the state in which each latch has its reset. At every end the
--- moves are those of making an evaluator, and of the steps that were begun.
-pub record RunsSteps {H W : Type 0} (h : ShelfGhosts H) (w : SinkGhosts W) (s t : RigState)
+-- moves are those of making an evaluator, and of the rounds of the steps that were begun: of one step each, or
+-- of up to 64 if it is wide.
+pub record RunsSteps {H W : Type 0} (wide : Bool) (h : ShelfGhosts H) (w : SinkGhosts W) (s t : RigState)
     (o : Ordered) (shelf shelf_after : H) (out out_after : W) (result : Result (Unit {0}) Stop)
     : Type 0 where
   pub goes : Goes (ordered_blocks s o) s t
@@ -257,6 +285,6 @@ pub record RunsSteps {H W : Type 0} (h : ShelfGhosts H) (w : SinkGhosts W) (s t 
   pub full : IfErr result (λ stop. IfStopsFull stop (FillsEval t))
   pub moves : IsTrue h.tells → IsTrue s.device.told
       → t.moves ≤ s.moves + (making_moves s.pool.shape (circuit_size o.header)
-      + steps_moves s.pool.shape (circuit_size o.header)
+      + rounds_moves wide s.pool.shape (circuit_size o.header)
       (steps_of o.header.inputs ((h.stand shelf).slot Second).left
       ((h.stand shelf_after).slot Second)))

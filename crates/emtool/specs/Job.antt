@@ -41,7 +41,7 @@ unless (Some usage) next = Err usage
 -- how many operands a task has: a name for each of its files
 abbrev pub operand_count : Task → ℕ
 operand_count (Answer kind) = 1
-operand_count (Eval start) = 2
+operand_count (Eval uninit wide) = 2
 
 -- how many operands a command has: `gen` has a kind, a start and a count
 abbrev pub operands_wanted : Verb → ℕ
@@ -98,17 +98,12 @@ task_of word =
     if bytes_eq word (codes "map") then Some (Answer Map)
     else (if bytes_eq word (codes "queue") then Some (Answer Queue)
     else (if bytes_eq word (codes "stab") then Some (Answer Stab)
-    else (if bytes_eq word (codes "eval") then Some (Eval None) else None)))
+    else (if bytes_eq word (codes "eval") then Some (Eval None false) else None)))
 
 -- the bit with which an uninitialised latch begins, as a number
 abbrev pub start_of : Option Bool → Option ℕ
 start_of None = None
 start_of (Some bit) = Some (if bit then 1 else 0)
-
--- the same of a task
-abbrev pub start_for : Task → Option ℕ
-start_for (Answer kind) = None
-start_for (Eval start) = start_of start
 
 -- a bit that a number says
 abbrev pub bit_said : ℕ → Option Bool
@@ -122,12 +117,12 @@ uninit_with options = bit_said (number_or (codes "--uninit") options 2)
 -- the task as the options say
 abbrev pub task_with : Task → List (List ℕ) → Task
 task_with (Answer kind) options = Answer kind
-task_with (Eval start) options = Eval (uninit_with options)
+task_with (Eval uninit wide) options = Eval (uninit_with options) (has_option (codes "--wide") options)
 
 -- whether a command evaluates a circuit of its files
 abbrev pub evaluates : Verb → Bool
 evaluates (Over (Answer kind)) = false
-evaluates (Over (Eval start)) = true
+evaluates (Over (Eval uninit wide)) = true
 evaluates Generate = false
 
 -- what the word of a command asks for

@@ -19,7 +19,7 @@ abbrev pub kind_for : Task → GenKind
 kind_for (Answer Map) = gen.Map
 kind_for (Answer Queue) = gen.Queue
 kind_for (Answer Stab) = gen.Stab
-kind_for (Eval start) = gen.Eval
+kind_for (Eval uninit wide) = gen.Eval
 
 -- the texts that are made for a task, by slot
 abbrev pub made_texts : Task → ℕ → ℕ → Slot → List ℕ
@@ -34,7 +34,7 @@ abbrev pub task_name : Task → List ℕ
 task_name (Answer Map) = codes "map"
 task_name (Answer Queue) = codes "queue"
 task_name (Answer Stab) = codes "stab"
-task_name (Eval start) = codes "eval"
+task_name (Eval uninit wide) = codes "eval"
 
 -- the tally of a text: its newlines, its bytes and their sum
 abbrev pub tally_of : List ℕ → List ℕ

@@ -3,9 +3,10 @@ use Rattle.std.specs.Prelude.{◌≡◌, ℕ, Bool, true, IsTrue, IsNone, IsSome
 use Rattle.em_io.specs.Shelf.{SlotState, Stand}
 use Rattle.em_io.specs.declared.shelf.Slot.{Slot}
 use Rattle.em_io.specs.declared.shelf.Slot.TheVariants.{First, Second}
-use Rattle.aig_defs.specs.TextFault.{text_fault}
 use Rattle.emtool.specs.Due.{text_in}
+use Rattle.emtool.specs.EvalDue.{fault_for}
 use Rattle.emtool.specs.Status.{OnDone, OnEnd}
+use Rattle.emtool.specs.declared.job.Task.{Task}
 use Rattle.emtool.specs.declared.status.Status.{Status}
 
 -- The slot was opened with Ok, and nothing of its text is left.
@@ -20,8 +21,8 @@ ReadsNamed tells names new status =
 
 -- No text changed, and no slot that has no name. If the shelf tells, a slot is lost only if no file
 -- has its name; at Done each name is that of a file, and at Malformed the first one is. If the device
--- tells too, the second slot, that of a stimulus, is opened only if the circuit has no fault.
-pub record OpensNamed (start : Option ℕ) (tells told : Bool) (names : Slot → Option (List ℕ)) (old new : Stand)
+-- tells too, the second slot, that of a stimulus, is opened only if the circuit has no fault for the task.
+pub record OpensNamed (task : Task) (tells told : Bool) (names : Slot → Option (List ℕ)) (old new : Stand)
     (status : Status) : Type 0 where
   pub texts : new.text ≡ old.text
   pub others : (slot : Slot) → IsNone (names slot) → new.slot slot ≡ old.slot slot
@@ -32,4 +33,4 @@ pub record OpensNamed (start : Option ℕ) (tells told : Bool) (names : Slot →
   pub first : IsTrue tells
       → IfSome (names First) (λ name. OnEnd status (IsSome (old.text First name)))
   pub second : IsTrue tells → IsTrue told → (new.slot Second).opened ≡ true → IfSome (names Second)
-      (λ name. text_fault start (text_in old First (names First)) ≡ None)
+      (λ name. fault_for task (text_in old First (names First)) ≡ None)

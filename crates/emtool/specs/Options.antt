@@ -37,10 +37,18 @@ abbrev pub option_names : List (List ℕ)
 option_names =
     codes "--block" ∷ codes "--frames" ∷ codes "--blocks" ∷ codes "--stats" ∷ []
 
--- the name is one of an option; `--uninit` is one of a command that evaluates a circuit
+-- the names of those that a command has besides if it evaluates a circuit
+abbrev pub eval_names : List (List ℕ)
+eval_names = codes "--uninit" ∷ codes "--wide" ∷ []
+
+-- the name is one of an option of a command that evaluates a circuit, or of another one
 abbrev pub knows : Bool → List ℕ → Bool
-knows evaluates name = if bytes_eq name (codes "--uninit") then evaluates
+knows evaluates name = if list_any (bytes_eq name) eval_names then evaluates
     else list_any (bytes_eq name) option_names
+
+-- the names of the options without a value
+abbrev pub flag_names : List (List ℕ)
+flag_names = codes "--stats" ∷ codes "--wide" ∷ []
 
 -- the place, from 0, of the option of this name among these option words, if it stands there
 abbrev pub place_of : List ℕ → List (List ℕ) → Option ℕ
@@ -50,11 +58,11 @@ place_of name options = position (has_name name) options
 abbrev pub has_option : List ℕ → List (List ℕ) → Bool
 has_option name options = is_some (place_of name options)
 
--- the word of an option has the value that it wants: `--stats` none, `--uninit` a bit, and every other a
--- number
+-- the word of an option has the value that it wants: `--stats` and `--wide` none, `--uninit` a bit, and every
+-- other a number
 abbrev pub has_value : List ℕ → Bool
 has_value word =
-    if has_name (codes "--stats") word then bytes_eq word (codes "--stats")
+    if list_any (bytes_eq (name_of word)) flag_names then bytes_eq word (name_of word)
     else (if has_name (codes "--uninit") word
     then bytes_eq word (codes "--uninit=0") || bytes_eq word (codes "--uninit=1")
     else is_some (number_in word))

@@ -12,7 +12,7 @@ use Rattle.emtool.specs.Asked.{ToldIf}
 use Rattle.emtool.specs.Due.{Due, due_of}
 use Rattle.emtool.specs.Origin.{LeavesOutside, OnMade, slots_of, tells_of}
 use Rattle.emtool.specs.Opens.{OpensNamed, ReadsNamed}
-use Rattle.emtool.specs.Job.{texts_of, start_for}
+use Rattle.emtool.specs.Job.{texts_of}
 use Rattle.emtool.specs.Outcome.{HasStats, report_text}
 use Rattle.emtool.specs.Run.{HasSizes, IsQuiet, Outside, outside}
 use Rattle.emtool.specs.Status.{IfEndsDamaged, IfEndsFull, OnBegun, OnEnd}
@@ -106,7 +106,7 @@ KeepsCost (Err usage) = Unit {0}
 -- No slot is touched but those of the job's files.
 abbrev pub Opens : Result Run Usage → Status → Type 0
 Opens (Ok run) status =
-    OpensNamed (start_for run.due.job.task) run.tells run.old.device.told run.due.names run.old.stand run.new.stand status
+    OpensNamed run.due.job.task run.tells run.old.device.told run.due.names run.old.stand run.new.stand status
 Opens (Err usage) status = Unit {0}
 
 -- A run on made texts leaves the shelf and its count of faults, and takes its summary alone of the

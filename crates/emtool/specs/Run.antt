@@ -28,7 +28,6 @@ use Rattle.emtool.specs.Opens.{IsAllRead, OpensNamed, ReadsNamed}
 use Rattle.emtool.specs.Made.{made_texts}
 use Rattle.emtool.specs.Origin.{LeavesOutside, OnMade, UnlessSummed, asked_on, tells_of}
 use Rattle.emtool.specs.Status.{OnBegun, OnDone, OnEnd, OnNoMemory, OnUsage, IfEndsFull, IfEndsDamaged}
-use Rattle.emtool.specs.Job.{start_for}
 
 -- The outside at one moment: the device, the state of the output, what stands on the shelf, and how
 -- often shelf and output failed.
@@ -147,7 +146,7 @@ pub record RunsTask {H W : Type 0} (h : ShelfGhosts H) (w : SinkGhosts W) (task 
       (outside h w s.device shelf out) (outside h w t.device shelf_after out_after) status
   pub caused : Caused (outside h w s.device shelf out)
       (outside h w t.device shelf_after out_after) status
-  pub opens : OpensNamed (start_for task) h.tells s.device.told names (h.stand shelf) (h.stand shelf_after) status
+  pub opens : OpensNamed task h.tells s.device.told names (h.stand shelf) (h.stand shelf_after) status
   pub all_read : ReadsNamed h.tells names (h.stand shelf_after) status
   pub no_usage : OnUsage status ⊥
   pub no_memory : OnNoMemory status ⊥
@@ -186,7 +185,7 @@ pub record RunsOn {H W : Type 0} (h : ShelfGhosts H) (w : SinkGhosts W) (task : 
       (outside h w s.device shelf out) (outside h w t.device shelf_after out_after) status
   pub caused : Caused (outside h w s.device shelf out)
       (outside h w t.device shelf_after out_after) status
-  pub opens : OpensNamed (start_for task) (tells_of origin h.tells) s.device.told names (h.stand shelf)
+  pub opens : OpensNamed task (tells_of origin h.tells) s.device.told names (h.stand shelf)
       (h.stand shelf_after) status
   pub all_read : ReadsNamed (tells_of origin h.tells) names (h.stand shelf_after) status
   pub leaves : OnMade origin (LeavesOutside shelf out shelf_after out_after status)
@@ -210,7 +209,7 @@ pub record RunsJob {H W : Type 0} (h : ShelfGhosts H) (w : SinkGhosts W) (job : 
       (outside h w device shelf out) (outside h w device_after shelf_after out_after) status
   pub caused : Caused (outside h w device shelf out)
       (outside h w device_after shelf_after out_after) status
-  pub opens : OpensNamed (start_for job.task) (tells_of job.origin h.tells) device.told names (h.stand shelf)
+  pub opens : OpensNamed job.task (tells_of job.origin h.tells) device.told names (h.stand shelf)
       (h.stand shelf_after) status
   pub all_read : ReadsNamed (tells_of job.origin h.tells) names (h.stand shelf_after) status
   pub leaves : OnMade job.origin (LeavesOutside shelf out shelf_after out_after status)

@@ -8,7 +8,7 @@
 //! unless the output failed (at a stop of shelf or rig the contract says a front of them). Left to
 //! the layers below: what a circuit, a step and a line are.
 
-ghost use Rattle.std.specs.Prelude.{◌≡◌, ◌≤◌, true, [], IfSome};
+ghost use Rattle.std.specs.Prelude.{◌≡◌, ◌≤◌, true, false, [], IfSome};
 ghost use Rattle.em_io.specs.Shelf.{IsFresh};
 ghost use Rattle.em_space.specs.Rig.{Goes};
 ghost use Rattle.em_space.specs.Seen.{seen};
@@ -20,9 +20,10 @@ ghost use Rattle.emtool.specs.Service.{IsUnused};
 
 use crate::job::Task;
 use crate::run::status_of;
-use crate::status::Status;
+use crate::status::{Malform, Status};
 use crate::stop::Stop;
 use aig_bin::read_either;
+use aig_defs::AigKind;
 use aig_edges::{Ordered, check_and_build};
 use aig_forward::{Evaluator, StepEnd};
 use aig_order::order;
@@ -124,7 +125,7 @@ fn evaluate<D: Device, H: Shelf, W: Sink>(
 ) -> Result<(), Stop>
     requires can { CanBegin (seen D.state rig.old) ordered }
     requires ready { ((H.stand shelf.old).slot Slot.Second).ready ≡ true }
-    ensures runs { RunsSteps H.Shelf W.Sink (seen D.state rig.old) (seen D.state rig.new)
+    ensures runs { RunsSteps false H.Shelf W.Sink (seen D.state rig.old) (seen D.state rig.new)
         ordered shelf.old shelf.new out.old out.new result }
 {
     let queue = ExtQueue::new(rig)?;
@@ -135,10 +136,30 @@ fn evaluate<D: Device, H: Shelf, W: Sink>(
     send_rest(done, &mut printer, out)
 }
 
+/// The same, one step after another or, if it is wide, up to 64 at once. Then the circuit has no latches.
+fn evaluate_either<D: Device, H: Shelf, W: Sink>(
+    wide: bool,
+    rig: &mut Rig<'_, D>,
+    ordered: Ordered,
+    shelf: &mut H,
+    out: &mut W,
+) -> Result<(), Stop>
+    requires can { CanBegin (seen D.state rig.old) ordered }
+    requires few { wide ≡ true → ordered.header.latches ≡ 0 }
+    requires ready { ((H.stand shelf.old).slot Slot.Second).ready ≡ true }
+    ensures runs { RunsSteps wide H.Shelf W.Sink (seen D.state rig.old) (seen D.state rig.new)
+        ordered shelf.old shelf.new out.old out.new result }
+{
+    let _wide = wide;
+    evaluate(rig, ordered, shelf, out)
+}
+
 /// Evaluates the circuit of the first name on the stimulus of the second, on an open rig of which
-/// no block is or was in use. The stimulus isn't opened if the circuit has a fault.
+/// no block is or was in use. The stimulus isn't opened if the circuit has a fault, or if the job is wide
+/// and the circuit has latches.
 pub fn run_eval<D: Device, H: Shelf, W: Sink>(
     uninit: Option<bool>,
+    wide: bool,
     rig: &mut Rig<'_, D>,
     shelf: &mut H,
     circuit: &str,
@@ -150,8 +171,8 @@ pub fn run_eval<D: Device, H: Shelf, W: Sink>(
     requires none_moved { (seen D.state rig.old).moves ≡ 0 }
     requires fresh { IsFresh (H.stand shelf.old) }
     ensures goes { Goes [] (seen D.state rig.old) (seen D.state rig.new) }
-    ensures runs { RunsTask H.Shelf W.Sink (Task.Eval uninit)
-        (names_of (Task.Eval uninit) circuit.now stimulus.now)
+    ensures runs { RunsTask H.Shelf W.Sink (Task.Eval uninit wide)
+        (names_of (Task.Eval uninit wide) circuit.now stimulus.now)
         (seen D.state rig.old) (seen D.state rig.new) shelf.old out.old shelf.new out.new result }
 {
     let Ok(()) = shelf.open(Slot::First, circuit) else {
@@ -161,10 +182,16 @@ pub fn run_eval<D: Device, H: Shelf, W: Sink>(
         Ok(ordered) => ordered,
         Err(stop) => return status_of(stop),
     };
+    if wide && ordered.header.latches != 0 {
+        return Status::Malformed {
+            kind: Malform::Aig(AigKind::Latched),
+            place: 0,
+        };
+    }
     let Ok(()) = shelf.open(Slot::Second, stimulus) else {
         return Status::ReadFault;
     };
-    match evaluate(rig, ordered, shelf, out) {
+    match evaluate_either(wide, rig, ordered, shelf, out) {
         Ok(()) => Status::Done,
         Err(stop) => status_of(stop),
     }

@@ -30,7 +30,7 @@ fn kind_for(task: Task) -> GenKind
         Task::Answer(FileKind::Map) => GenKind::Map,
         Task::Answer(FileKind::Queue) => GenKind::Queue,
         Task::Answer(FileKind::Stab) => GenKind::Stab,
-        Task::Eval(_) => GenKind::Eval,
+        Task::Eval { .. } => GenKind::Eval,
     }
 }
 
@@ -43,7 +43,7 @@ fn task_name(task: Task) -> &'static [u8]
         Task::Answer(FileKind::Map) => b"map",
         Task::Answer(FileKind::Queue) => b"queue",
         Task::Answer(FileKind::Stab) => b"stab",
-        Task::Eval(_) => b"eval",
+        Task::Eval { .. } => b"eval",
     }
 }
 

@@ -2,7 +2,7 @@ ghost use Rattle.std.specs.Prelude.{◌≡◌, ◌+◌, ◌-◌, ◌<◌, ◌≤
 ghost use Rattle.emtool.specs.Job.{texts_of, job_of, task_of, blocks_with, count_at, count_within, default_frames, evaluates, job_by, job_with, made_job, name_at, number_at, operand_count, operands_by, operands_of, operands_wanted, shape_with, task_at, task_with, uninit_with, verb_of, IsCount, IsJob, IsOrigin};
 
 use crate::option::{
-    BLOCK, BLOCKS, FRAMES, STATS, UNINIT, has_option, number, number_or, option_words,
+    BLOCK, BLOCKS, FRAMES, STATS, UNINIT, WIDE, has_option, number, number_or, option_words,
     test_options, word_of,
 };
 use crate::status::{Usage, UsageKind};
@@ -15,8 +15,9 @@ pub enum Task {
     /// A file of commands is answered.
     Answer(FileKind),
     /// A circuit is evaluated on a stimulus, which is its second file. An uninitialised latch begins with
-    /// this bit; without it a circuit that has one is refused.
-    Eval(Option<bool>),
+    /// the bit `uninit`; without it a circuit that has one is refused. With `wide` up to 64 steps are taken
+    /// at once, and a circuit that has latches is refused.
+    Eval { uninit: Option<bool>, wide: bool },
 }
 
 /// Where the texts of a run come from.
@@ -74,7 +75,10 @@ fn task_of(word: &str) -> Option<Task>
     } else if word == b"stab".as_slice() {
         Some(Task::Answer(FileKind::Stab))
     } else if word == b"eval".as_slice() {
-        Some(Task::Eval(None))
+        Some(Task::Eval {
+            uninit: None,
+            wide: false,
+        })
     } else {
         None
     }
@@ -157,7 +161,10 @@ fn task_with(task: Task, options: &[String]) -> Task
 {
     match task {
         Task::Answer(kind) => Task::Answer(kind),
-        Task::Eval(_) => Task::Eval(uninit_with(options)),
+        Task::Eval { .. } => Task::Eval {
+            uninit: uninit_with(options),
+            wide: has_option(options, WIDE),
+        },
     }
 }
 
@@ -166,7 +173,7 @@ fn evaluates(verb: Verb) -> bool
     ensures { result ≡ evaluates verb }
 {
     match verb {
-        Verb::Over(Task::Eval(_)) => true,
+        Verb::Over(Task::Eval { .. }) => true,
         Verb::Over(Task::Answer(_)) => false,
         Verb::Generate => false,
     }
@@ -179,7 +186,7 @@ fn operand_count(task: Task) -> u64
 {
     match task {
         Task::Answer(_) => 1,
-        Task::Eval(_) => 2,
+        Task::Eval { .. } => 2,
     }
 }
 

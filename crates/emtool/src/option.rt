@@ -1,9 +1,10 @@
 // The option words of a command. Words are numbered from 0, so the first option word is word 1.
-ghost use Rattle.std.specs.Prelude.{◌≡◌, ◌+◌, ◌==◌, [], not, position, string_bytes};
+ghost use Rattle.std.specs.List.{list_any};
+ghost use Rattle.std.specs.Prelude.{◌≡◌, ◌+◌, ◌==◌, [], bytes_eq, not, position, string_bytes};
 ghost use Rattle.std.specs.Result.{result_err, result_ok};
 ghost use Rattle.emtool.specs.CommandLine.{number_of};
 ghost use Rattle.emtool.specs.Job.{texts_of};
-ghost use Rattle.emtool.specs.Options.{has_name, has_option, has_value, is_option, name_of, number_in, number_or, knows, option_fault, option_words, options_refusal, word_of};
+ghost use Rattle.emtool.specs.Options.{has_name, has_option, has_value, is_option, eval_names, flag_names, name_of, number_in, number_or, knows, option_fault, option_words, options_refusal, word_of};
 
 use crate::status::{Usage, UsageKind};
 
@@ -22,7 +23,10 @@ pub const STATS: &[u8] = b"--stats";
 /// The option that gives the bit with which an uninitialised latch begins.
 pub const UNINIT: &[u8] = b"--uninit";
 
-/// The two words that are this option.
+/// The option that takes many steps of a circuit at once.
+pub const WIDE: &[u8] = b"--wide";
+
+/// The two words that are the option of an uninitialised latch.
 const UNINIT_0: &[u8] = b"--uninit=0";
 
 const UNINIT_1: &[u8] = b"--uninit=1";
@@ -101,11 +105,25 @@ fn has_name(word: &String, name: &[u8]) -> bool
     name_of(bytes_of(word)) == name
 }
 
+/// Whether the name is one of an option that a command has only if it evaluates a circuit.
+fn is_of_eval(name: &[u8]) -> bool
+    ensures { result ≡ list_any (bytes_eq name.now) eval_names }
+{
+    name == UNINIT || name == WIDE
+}
+
+/// Whether the name is one of an option without a value.
+fn is_flag(name: &[u8]) -> bool
+    ensures { result ≡ list_any (bytes_eq name.now) flag_names }
+{
+    name == STATS || name == WIDE
+}
+
 /// Whether the name is one of an option of a command that evaluates a circuit, or of another one.
 fn is_known(evaluates: bool, name: &[u8]) -> bool
     ensures { result ≡ knows evaluates name.now }
 {
-    if name == UNINIT {
+    if is_of_eval(name) {
         evaluates
     } else {
         name == BLOCK || name == FRAMES || name == BLOCKS || name == STATS
@@ -116,8 +134,8 @@ fn is_known(evaluates: bool, name: &[u8]) -> bool
 fn has_value(word: &[u8]) -> bool
     ensures { result ≡ has_value word.now }
 {
-    if name_of(word) == STATS {
-        word == STATS
+    if is_flag(name_of(word)) {
+        word == name_of(word)
     } else if name_of(word) == UNINIT {
         word == UNINIT_0 || word == UNINIT_1
     } else {

@@ -174,7 +174,7 @@ pub fn run_task<D: Device, H: Shelf, W: Sink>(
 {
     match task {
         Task::Answer(kind) => run_file(kind, rig, shelf, first, out),
-        Task::Eval(uninit) => run_eval(uninit, rig, shelf, first, second, out),
+        Task::Eval { uninit, wide } => run_eval(uninit, wide, rig, shelf, first, second, out),
     }
 }
 

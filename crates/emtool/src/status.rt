@@ -15,8 +15,8 @@ pub enum UsageKind {
     UnknownOption,
     /// An earlier word has the option's name.
     RepeatedOption,
-    /// The option wants a number of 64 bits after a `=`, or, as `--uninit` does, 0 or 1, or, as `--stats` does,
-    /// nothing.
+    /// The option wants a number of 64 bits after a `=`, or, as `--uninit` does, 0 or 1, or, as `--stats` and
+    /// `--wide` do, nothing.
     BadValue,
     /// The command wants one operand more.
     MissingOperand,

@@ -136,7 +136,7 @@ const EVALUATED: [&str; 11] = [
 ];
 
 /// Circuits with a fault, or with a stimulus that isn't there: no step is made, and the output isn't called.
-const REFUSED: [&str; 11] = [
+const REFUSED: [&str; 13] = [
     // A fault of a line is found before a list is stored: the device is only begun. The shelf: the call that opens the
     // circuit, and a read for each 3 bytes up to the one that is looked at last. That is byte 21 in the header of ten
     // numbers, byte 13 in the next one, the newline at 19 after the literal 9, also if there is no stimulus, and the space at 28 after the position 2.
@@ -164,6 +164,11 @@ const REFUSED: [&str; 11] = [
     // queue 8, merge 6 + 6, a pass 5, and 1 that loads the list to find the first gate without a rank. The shelf: 14 calls,
     // 12 of them for 36 bytes.
     "eval --block=128 --frames=64 a s|aag 4 1 0 1 3/2/4/4 2 6/6 2 8/8 2 6/|11/01/||2|52 0|14 0|",
+    // The latch whose next bit is its negation, with many steps at once, also if the stimulus isn't there. The device: 53
+    // calls, all that come before the first step but 4 for the queue of the steps and the 4 that part the edges. The shelf:
+    // 10 calls for the circuit's 22 bytes, and none for the stimulus.
+    "eval --block=128 --frames=64 --wide a s|aag 1 0 1 2 0/2 3/2/3/|///||2|53 0|10 0|",
+    "eval --block=128 --frames=64 --wide a t|aag 1 0 1 2 0/2 3/2/3/|///||2|53 0|10 0|",
 ];
 
 #[test]
