@@ -16,7 +16,8 @@ use Rattle.em_chain.specs.Effects.{OnlyMoves}
 use Rattle.em_chain.specs.Joins.{Joins}
 use Rattle.em_chain.specs.declared.chain.Chain.{Chain}
 use Rattle.em_chain.proofs.Readers.{length_items}
-use Rattle.aig_forward.specs.Lists.{JoinsBits, JoinsTo, lists_account}
+use Rattle.aig_sweep.specs.Lists.{lists_account}
+use Rattle.aig_forward.specs.Lists.{JoinsBits, JoinsTo}
 
 -- the length of a chain's list
 pub chain_length : {s : RigState} {c : Chain} → IsChain s c → IsTrue s.device.told

@@ -1,4 +1,4 @@
--- A line of outputs, one output after another.
+-- A line of columns, one after another.
 use Rattle.std.proofs.Common.{◌≡◌, ℕ, zero, suc, ◌+◌, ◌-◌, ◌≤◌, ◌<◌, ◌==◌, Bool, false, List, [], ◌∷◌, ◌++◌, length, take, drop, replicate, Option, Some, None, IfNone, option_to_list, IsTrue, refl, sym, ap, ◌∙◌, subst, arith, append_assoc, Err}
 use Rattle.std.proofs.lemmas.List.{append-nil}
 use Rattle.em_io.specs.Sink.{IsRule, Sent, SentPart}
@@ -20,8 +20,10 @@ use Rattle.em_queued.proofs.Queued.{calls_none, calls_one, calls_then, calls_wid
 use Rattle.aig_defs.specs.Stimulus.{bit_byte, output_line}
 use Rattle.aig_edges.specs.declared.stop.StepStop.{StepStop}
 use Rattle.aig_edges.specs.declared.stop.StepStop.TheVariants as stop
-use Rattle.aig_forward.specs.Bits.{bits_of}
-use Rattle.aig_forward.specs.Outputs.{FailsPut, HaltsOutputs, KeepsFront, OutputCause, OutputCosts, PopsOne, Printing, PrintsOutputs, PrintsPart, PutsBy, PutsFront, PutsOne, RunsAlone, message_bit, outputs_line, outputs_of}
+use Rattle.aig_sweep.specs.Bits.{bits_of}
+use Rattle.aig_forward.specs.Outputs.{FailsPut, HaltsOutputs, OutputCause, OutputCosts, PopsOne, Printing, PrintsOutputs, PrintsPart, PutsBy, PutsFront, PutsOne, RunsAlone, message_bit, outputs_line, outputs_of}
+use Rattle.aig_sweep.specs.Scene.{KeepsFront}
+use Rattle.aig_words.specs.Words.{lane, says}
 
 -- No call of the queue,
 pub alone_none : (s : RigState) (ks : List ℕ) (c : QueueCounts) → Sound s → c.blocks ≤ c.most
@@ -96,11 +98,11 @@ none_drop n (y ∷ x) e = absurd (omega (arith, e))
 
 -- No message is missing.
 pub outputs_all : (count : ℕ) (items : List Record) → count ≤ length items
-    → outputs_of count items ≡ bits_of (take count items)
+    → outputs_of count items ≡ bits_of (lane 0 (take count items))
 outputs_all count items l =
     let none : count - length items ≡ 0 = omega (arith, l) in
-    ap (λ (k : ℕ). bits_of (take count items) ++ replicate k false) none
-    ∙ append-nil (bits_of (take count items))
+    ap (λ (k : ℕ). bits_of (lane 0 (take count items)) ++ replicate k false) none
+    ∙ append-nil (bits_of (lane 0 (take count items)))
 
 -- the line of no output
 line_none : (x : List Record) → outputs_line 0 x ≡ 10 ∷ []
@@ -110,10 +112,10 @@ line_none x =
 
 -- one message, and then the others
 some_bits : (n : ℕ) (message : Record) (x : List Record)
-    → outputs_of (suc n) (message ∷ x) ≡ (message.c == 1) ∷ outputs_of n x
+    → outputs_of (suc n) (message ∷ x) ≡ says 0 message.c ∷ outputs_of n x
 some_bits n message x =
     let less : suc n - length (message ∷ x) ≡ n - length x = omega arith in
-    ap (λ (k : ℕ). bits_of (take (suc n) (message ∷ x)) ++ replicate k false) less
+    ap (λ (k : ℕ). bits_of (lane 0 (take (suc n) (message ∷ x))) ++ replicate k false) less
 
 -- The bits of outputs are that of the first message and those of the others.
 message_bits : (n : ℕ) (message : Option Record) (old new : List Record)

@@ -3,6 +3,7 @@ use Rattle.std.proofs.Common.{◌≡◌, ℕ, ◌+◌, ◌≤◌, max, min, Bool
 use Rattle.std.proofs.lemmas.List.{drop_all}
 use Rattle.std.specs.Result.{IsErrAnd}
 use Rattle.em_io.specs.Sink.{SentPart}
+use Rattle.em_record.specs.declared.record.Record.{Record}
 use Rattle.em_space.specs.Held.{Apart}
 use Rattle.em_space.specs.Ledger.{both, Runs, Session, Spends}
 use Rattle.em_space.specs.Queue.{Pays}
@@ -31,16 +32,18 @@ use Rattle.aig_defs.specs.declared.fault.AigKind.{AigKind}
 use Rattle.aig_text.specs.Source.{Source}
 use Rattle.aig_edges.specs.declared.stop.StepStop.{StepStop}
 use Rattle.aig_edges.specs.declared.stop.StepStop.TheVariants as stop
-use Rattle.aig_forward.specs.Bits.{bits_of}
-use Rattle.aig_forward.specs.Evaluator.{Evaluates, IsEvaluator, evaluator_blocks, lists_blocks, lists_size}
+use Rattle.aig_sweep.specs.Bits.{bits_of}
+use Rattle.aig_words.specs.Words.{lane}
+use Rattle.aig_sweep.specs.Sweeper.{Evaluates, IsSweeper, sweeper_blocks, lists_blocks, lists_size}
 use Rattle.aig_forward.specs.Line.{ReadsWholeLine}
-use Rattle.aig_forward.specs.Lists.{latch_room, lists_account}
-use Rattle.aig_forward.specs.Outputs.{HaltsOutputs, KeepsFront, OutputCause, Printing, PrintsPart, RunsAlone, outputs_line}
-use Rattle.aig_forward.specs.Step.{HaltsStep, Keeps, Scene, AnswersStep, StopsStep, TakesLine, input_room, line_of, scene, step_account, step_calls, step_room}
+use Rattle.aig_sweep.specs.Lists.{latch_room, lists_account, input_room}
+use Rattle.aig_forward.specs.Outputs.{HaltsOutputs, OutputCause, Printing, PrintsPart, RunsAlone, outputs_line}
+use Rattle.aig_forward.specs.Step.{HaltsStep, AnswersStep, StopsStep, TakesLine, line_of, step_account, step_calls, step_room}
 use Rattle.aig_forward.specs.StepPass.{Passed, PassesFor, pass_blocks}
-use Rattle.aig_forward.specs.declared.evaluator.Evaluator.{Evaluator}
+use Rattle.aig_sweep.specs.declared.sweeper.Sweeper.{Sweeper}
 use Rattle.aig_forward.specs.declared.step_end.StepEnd.{StepEnd}
 use Rattle.aig_forward.proofs.PutLines.{outputs_all}
+use Rattle.aig_sweep.specs.Scene.{KeepsFront, Keeps, Scene, scene}
 
 -- A line that was read whole was taken.
 pub takes_line : {inputs : ℕ} {old new : Source} {t : RigState} {c : Chain} {tells : Bool}
@@ -59,7 +62,7 @@ pub line_room : {inputs : ℕ} {old new : Source} {t : RigState} {c : Chain} {te
     → ReadsWholeLine tells inputs old new t c → c.blocks ≡ ceiling inputs (payload_in t)
 line_room {t = t} r = r.chain.blocks_is ∙ ap (λ (n : ℕ). ceiling n (payload_in t)) r.long
 
-module _ {Q : Type 0} (queue : Ghosts Q) {t u : RigState} {e f : Evaluator Q} {inputs : Chain}
+module _ {Q : Type 0} (queue : Ghosts Q) {t u : RigState} {e f : Sweeper Q} {inputs : Chain}
     (keeps : Keeps queue u e f) (p : Passed queue t u e f inputs)
     (len : (queue.counts f.queue).len ≡ length (queue.items f.queue u)) where
   -- The queue has a message for each output,
@@ -75,7 +78,7 @@ module _ {Q : Type 0} (queue : Ghosts Q) {t u : RigState} {e f : Evaluator Q} {i
       let l : columns f.header ≤ length items = omega (arith, n) in
       let m : length items ≤ columns f.header = omega (arith, n) in
       ap output_line (outputs_all (columns f.header) items l
-      ∙ ap bits_of (take_all (columns f.header) items m) ∙ v.outputs)
+      ∙ ap (λ (xs : List Record). bits_of (lane 0 xs)) (take_all (columns f.header) items m) ∙ v.outputs)
 
 -- The latches' blocks are as many on one rig as on another of its shape.
 rooms_as : {ks : List ℕ} {s u v : RigState} (g h : Header) → g ≡ h → Touches ks s v
@@ -84,20 +87,20 @@ rooms_as {ks} {s} {u} {v} g h e a b =
     let n : payload_in u ≡ payload_in v = payload_kept ks s u b ∙ sym (payload_kept ks s v a) in
     rw (e, n) refl
 
-module _ {Q : Type 0} (queue : Ghosts Q) {s t u v : RigState} (e f : Evaluator Q) (inputs : Chain)
-    (q : Q) (keeps : Keeps queue u e f) (i : IsEvaluator queue s e)
+module _ {Q : Type 0} (queue : Ghosts Q) {s t u v : RigState} (e f : Sweeper Q) (inputs : Chain)
+    (q : Q) (keeps : Keeps queue u e f) (i : IsSweeper queue s e)
     (line : Runs inputs.blocks [] (chain_blocks t inputs) no_account (chain_account 1 inputs) s t)
-    (first : Session (evaluator_blocks queue s e) s t (pass_blocks queue t e inputs))
+    (first : Session (sweeper_blocks queue s e) s t (pass_blocks queue t e inputs))
     (p : Passed queue t u e f inputs)
     (put : RunsAlone (columns f.header) (queue.blocks f.queue u) (queue.blocks q v)
     (queue.counts f.queue) (queue.counts q) u v) where
   abbrev qs : List ℕ
   qs = queue.blocks f.queue u
 
-  abbrev last : Evaluator Q
+  abbrev last : Sweeper Q
   last = record f { queue = q }
 
-  passed : Session (evaluator_blocks queue s e) s u (evaluator_blocks queue u f)
+  passed : Session (sweeper_blocks queue s e) s u (sweeper_blocks queue u f)
   passed = session_trans first p.runs.runs.session
 
   lists_apart : IsTrue u.device.told → Apart (lists_blocks u f) qs
@@ -123,11 +126,11 @@ module _ {Q : Type 0} (queue : Ghosts Q) {s t u v : RigState} (e f : Evaluator Q
       (λ z. apart_right (chain_blocks u f.given) (chain_blocks u f.gates) qs (edges_apart z))
       (rw (keeps.gates) p.gates_is)
 
-  whole : Session (evaluator_blocks queue s e) s v (evaluator_blocks queue v last)
+  whole : Session (sweeper_blocks queue s e) s v (sweeper_blocks queue v last)
   whole =
       let all = session_then qs (queue.blocks q v) (lists_blocks u f) passed put.runs.session in
       let told = passed.touches.told in
-      session_as (evaluator_blocks queue v last) all
+      session_as (sweeper_blocks queue v last) all
       (λ z. rw (
         state_last.blocks (told ∙ z),
         given_last.blocks (told ∙ z),
@@ -137,7 +140,7 @@ module _ {Q : Type 0} (queue : Ghosts Q) {s t u v : RigState} (e f : Evaluator Q
   -- It is an evaluator with no message.
   pub step_is : queue.IsQueue q v
       → (queue.counts q).len + min (columns f.header) (queue.counts f.queue).len
-      ≡ (queue.counts f.queue).len → IsEvaluator queue v last
+      ≡ (queue.counts f.queue).len → IsSweeper queue v last
   step_is is len =
       let h = keeps.header in
       let outputs = ap (λ (x : Header). columns x) h in
@@ -157,7 +160,7 @@ module _ {Q : Type 0} (queue : Ghosts Q) {s t u v : RigState} (e f : Evaluator Q
   -- Its lists have as many blocks as before.
   latch_same : latch_room e.header u ≡ latch_room e.header s
   latch_same = ap (λ (n : ℕ). ceiling e.header.latches n)
-      (payload_kept (evaluator_blocks queue s e) s u passed.touches)
+      (payload_kept (sweeper_blocks queue s e) s u passed.touches)
 
   size_same : lists_size f ≡ lists_size e
   size_same =
@@ -218,8 +221,8 @@ module _ {Q : Type 0} (queue : Ghosts Q) {s t u v : RigState} (e f : Evaluator Q
   -- What it cost.
   pub step_costs : (queue.counts e.queue).blocks ≤ (queue.counts e.queue).most
       → inputs.blocks ≡ input_room e.header t
-      → RunsBeside (step_calls e.header) (step_room s e) (evaluator_blocks queue s e)
-      (evaluator_blocks queue v last) (step_account s e) (lists_account (lists_size e) 0)
+      → RunsBeside (step_calls e.header) (step_room s e) (sweeper_blocks queue s e)
+      (sweeper_blocks queue v last) (step_account s e) (lists_account (lists_size e) 0)
       (queue.counts e.queue) (queue.counts q) s v
   step_costs most room =
       let outputs = ap (λ (h : Header). columns h) keeps.header in
@@ -250,15 +253,15 @@ module _ {Q : Type 0} (queue : Ghosts Q) {s t u v : RigState} (e f : Evaluator Q
         edges = rw (given, gates) h.edges;
         low = rw (given, keeps.header) h.low;
         high = rw (gates, keeps.header) h.high;
-        bits = ap bits_of (state_last.items z) ∙ w.next;
+        bits = ap (λ (xs : List Record). bits_of (lane 0 xs)) (state_last.items z) ∙ w.next;
         none =
             let n = outputs_long queue keeps p len in
             items ∙ drop_all (columns f.header) (queue.items f.queue u) (omega (arith, n));
       }
 
 -- After a line was read it evaluates the circuit that it did.
-pub evaluates_on : {Q : Type 0} (queue : Ghosts Q) {s t : RigState} (e : Evaluator Q)
-    → IsEvaluator queue s e → Touches [] s t → IsTrue s.device.told
+pub evaluates_on : {Q : Type 0} (queue : Ghosts Q) {s t : RigState} (e : Sweeper Q)
+    → IsSweeper queue s e → Touches [] s t → IsTrue s.device.told
     → queue.items e.queue t ≡ queue.items e.queue s
     → (c : Circuit) (order : List Gate) (state : List Bool)
     → Evaluates queue s e c order state → Evaluates queue t e c order state
@@ -273,7 +276,7 @@ evaluates_on queue {s} {t} e i k z same c order state h =
       edges = rw (given, gates) h.edges;
       low = rw given h.low;
       high = rw gates h.high;
-      bits = ap bits_of ((kept e.state i.state).items z) ∙ h.bits;
+      bits = ap (λ (xs : List Record). bits_of (lane 0 xs)) ((kept e.state i.state).items z) ∙ h.bits;
       none = same ∙ h.none;
     }
 
@@ -314,7 +317,7 @@ line_halts {took = took} c state old new bits line p = record {
 }
 
 module _ {Q : Type 0} (queue : Ghosts Q) {took : List ℕ → List ℕ → List ℕ} (c : Circuit)
-    (order : List Gate) (state bits : List Bool) (s t : RigState) (e f : Evaluator Q)
+    (order : List Gate) (state bits : List Bool) (s t : RigState) (e f : Sweeper Q)
     {text rest : Source} (count : ℕ) (before after : Printing) where
   -- Only the sink or the queue stops it.
   pub put_stops : (r : Result StepEnd StepStop) (x : StepStop) → IsErrAnd r (λ k. k ≡ x)

@@ -27,19 +27,31 @@ use Rattle.em_queued.proofs.Queued.{called_wider, calls_wider}
 use Rattle.aig_defs.specs.Circuit.{Circuit}
 use Rattle.aig_defs.specs.Value.{step_of}
 use Rattle.aig_defs.specs.declared.circuit.Gate.{Gate}
-use Rattle.aig_forward.specs.Bits.{bits_of}
-use Rattle.aig_forward.specs.Evaluates.{HasChains, Represents, bits_account, state_blocks}
-use Rattle.aig_forward.specs.Evaluates.{Evaluated}
+use Rattle.aig_sweep.specs.Bits.{bits_of}
+use Rattle.aig_sweep.specs.Evaluates.{HasChains, Represents, bits_account}
+use Rattle.aig_sweep.specs.Evaluates.{Evaluated}
 use Rattle.aig_edges.specs.Graph.{edge_count}
-use Rattle.aig_forward.specs.Evaluator.{Evaluates, IsEvaluator, evaluator_blocks}
-use Rattle.aig_forward.specs.Lists.{JoinsBits, latch_room, lists_account}
-use Rattle.aig_forward.specs.QueueState.{queue_state}
+use Rattle.aig_sweep.specs.Sweeper.{Evaluates, IsSweeper, sweeper_blocks}
+use Rattle.aig_sweep.specs.Lists.{latch_room, lists_account}
+use Rattle.aig_sweep.specs.QueueState.{queue_state}
 use Rattle.aig_forward.specs.StepPass.{FailsPass, IsInput, Passed, PassesFor, PassesTo, pass_blocks}
-use Rattle.aig_forward.specs.declared.evaluator.Evaluator.{Evaluator}
+use Rattle.aig_sweep.specs.declared.sweeper.Sweeper.{Sweeper}
+use Rattle.aig_words.specs.Words.{in_lane, lane}
 use Rattle.aig_forward.proofs.Joined.{chain_length}
 
-module _ {Q : Type 0} (queue : Ghosts Q) {s : RigState} (e : Evaluator Q) (inputs : Chain)
-    (sound : Sound s) (i : IsEvaluator queue s e) (n : IsInput s e.header inputs)
+-- the bits of a list in a lane are as many as its records
+bits_long : (t : ℕ) (xs : List Record) → length (bits_of (lane t xs)) ≡ length xs
+bits_long t xs = length-map (lane t xs) (λ (x : Record). x.c == 1) ∙ length-map xs (in_lane t)
+
+-- and those of two lists stand one after the other
+bits_append : (t : ℕ) (xs ys : List Record)
+    → bits_of (lane t (xs ++ ys)) ≡ bits_of (lane t xs) ++ bits_of (lane t ys)
+bits_append t xs ys = ap bits_of (map-append (in_lane t) xs ys)
+    ∙ map-append (λ (x : Record). x.c == 1) (lane t xs) (lane t ys)
+use Rattle.aig_forward.specs.Lists.{JoinsBits}
+
+module _ {Q : Type 0} (queue : Ghosts Q) {s : RigState} (e : Sweeper Q) (inputs : Chain)
+    (sound : Sound s) (i : IsSweeper queue s e) (n : IsInput s e.header inputs)
     (holds : IsTrue s.device.told → Holds s (pass_blocks queue s e inputs)) where
   abbrev qs : List ℕ
   qs = queue.blocks e.queue s
@@ -74,7 +86,7 @@ module _ {Q : Type 0} (queue : Ghosts Q) {s : RigState} (e : Evaluator Q) (input
       (lists_account (inputs.blocks + e.state.blocks) 4) s t fault
       → (queue.counts e.queue).blocks ≤ (queue.counts e.queue).most
       → (queue.counts e.queue).unstored ≤ s.pool.shape.frames
-      → (f : Evaluator Q) → f.queue ≡ e.queue → FailsPass queue s t e f inputs fault
+      → (f : Sweeper Q) → f.queue ≡ e.queue → FailsPass queue s t e f inputs fault
   pass_unjoined {t} {fault} k most stored f same =
       let c = queue.counts e.queue in
       let h = k.halts in
@@ -130,9 +142,9 @@ module _ {Q : Type 0} (queue : Ghosts Q) {s : RigState} (e : Evaluator Q) (input
     }
 
     -- The circuit wasn't evaluated.
-    pub pass_refused : {u : RigState} {fault : EmFault} (f : Evaluator Q)
-        → StopsBeside (2 * edge_count e.header) (c.blocks + state_blocks e.header t)
-        (2 * state_blocks e.header t + 1) 1 (queue.blocks e.queue t ++ chain_blocks t c)
+    pub pass_refused : {u : RigState} {fault : EmFault} (f : Sweeper Q)
+        → StopsBeside (2 * edge_count e.header) (c.blocks + latch_room e.header t)
+        (2 * latch_room e.header t + 1) 1 (queue.blocks e.queue t ++ chain_blocks t c)
         (bits_account e.given e.gates c) (queue.counts e.queue) (queue.counts f.queue) t u fault
         → FailsPass queue s u e f inputs fault
     pass_refused {u} {fault} f k =
@@ -145,7 +157,7 @@ module _ {Q : Type 0} (queue : Ghosts Q) {s : RigState} (e : Evaluator Q) (input
         let room = n.blocks_are in
         let latches = i.state_blocks in
         let blocks = j.blocks_are in
-        let latch : state_blocks e.header t ≡ latch_room e.header s =
+        let latch : latch_room e.header t ≡ latch_room e.header s =
         ap (λ (p : ℕ). ceiling e.header.latches p) (payload_kept ks s t j.runs.session.touches) in
         let shape : t.pool.shape.frames ≡ s.pool.shape.frames =
         ap (λ (p : ShapeNumbers). p.frames) j.runs.session.touches.shape in
@@ -172,7 +184,7 @@ module _ {Q : Type 0} (queue : Ghosts Q) {s : RigState} (e : Evaluator Q) (input
           cause = cause_after (qs ++ (ks ++ ys)) s t u fault on.touches k.cause;
         }
 
-    module _ {u : RigState} (f : Evaluator Q) (next : Chain) (q : Q)
+    module _ {u : RigState} (f : Sweeper Q) (next : Chain) (q : Q)
         (v : Evaluated e.header e.given e.gates c (queue_state queue e.queue t)
         (queue_state queue q u) next) where
       behind : Session (queue.blocks e.queue t ++ chain_blocks t c) t u
@@ -198,7 +210,7 @@ module _ {Q : Type 0} (queue : Ghosts Q) {s : RigState} (e : Evaluator Q) (input
           (session_others (queue.blocks e.queue t ++ chain_blocks t c) edges_now before
           (sym before.touches.told ∙ z))) gates_kept.is
 
-      abbrev pub after : Evaluator Q
+      abbrev pub after : Sweeper Q
       after = record {
         header = e.header;
         given = e.given;
@@ -207,12 +219,12 @@ module _ {Q : Type 0} (queue : Ghosts Q) {s : RigState} (e : Evaluator Q) (input
         queue = q;
       }
 
-      whole : Session (qs ++ (ks ++ ys)) s u (evaluator_blocks queue u after)
+      whole : Session (qs ++ (ks ++ ys)) s u (sweeper_blocks queue u after)
       whole =
           let all = session_then (queue.blocks e.queue t ++ chain_blocks t c)
           (queue.blocks q u ++ chain_blocks u next) edges_now before behind in
           let told = before.touches.told in
-          session_as (evaluator_blocks queue u after) all
+          session_as (sweeper_blocks queue u after) all
           (λ z. rw (
             append_assoc (queue.blocks q u) (chain_blocks u next) edges_now,
             given_last.blocks (told ∙ z),
@@ -227,7 +239,7 @@ module _ {Q : Type 0} (queue : Ghosts Q) {s : RigState} (e : Evaluator Q) (input
           let room = n.blocks_are in
           let latches = i.state_blocks in
           let blocks = j.blocks_are in
-          let latch : state_blocks e.header t ≡ latch_room e.header s =
+          let latch : latch_room e.header t ≡ latch_room e.header s =
           ap (λ (p : ℕ). ceiling e.header.latches p) (payload_kept ks s t j.runs.session.touches) in
           let last : latch_room e.header u ≡ latch_room e.header s =
           ap (λ (p : ℕ). ceiling e.header.latches p)
@@ -263,32 +275,31 @@ module _ {Q : Type 0} (queue : Ghosts Q) {s : RigState} (e : Evaluator Q) (input
       pub passed_for : IsTrue s.device.told
           → ((c2 : Circuit) (order : List Gate) (state bits : List Bool)
           → Represents c2 order state bits e.header (chain_items t e.given) (chain_items t e.gates)
-          (chain_items t c)
-          → (bits_of (chain_items u next) ≡ (step_of c2 state bits).1)
-          × (bits_of (queue.items q u) ≡ (step_of c2 state bits).0))
+          (lane 0 (chain_items t c))
+          → (bits_of (lane 0 (chain_items u next)) ≡ (step_of c2 state bits).1)
+          × (bits_of (lane 0 (queue.items q u)) ≡ (step_of c2 state bits).0))
           → (c2 : Circuit) (order : List Gate) (state bits : List Bool)
-          → Evaluates queue s e c2 order state → bits_of (chain_items s inputs) ≡ bits
+          → Evaluates queue s e c2 order state → bits_of (lane 0 (chain_items s inputs)) ≡ bits
           → PassesFor queue s u e after c2 state bits
       passed_for z values c2 order state bits h b =
           let y = j.runs.session.touches.told ∙ z in
           let ga = given_kept.items z in
           let gb = gates_kept.items z in
           let r : Represents c2 order state bits e.header (chain_items t e.given)
-          (chain_items t e.gates) (chain_items t c) = record {
+          (chain_items t e.gates) (lane 0 (chain_items t c)) = record {
             order_is = h.order_is;
             header_is = h.header;
             edges_are = rw (ga, gb) h.edges;
             low = rw ga h.low;
             high = rw gb h.high;
             input_long = ap (λ (l : List Bool). length l) (sym b)
-                ∙ length-map (chain_items s inputs) (λ (x : Record). x.c == 1)
+                ∙ bits_long 0 (chain_items s inputs)
                 ∙ chain_length n.is z ∙ n.count_is;
             state_long = ap (λ (l : List Bool). length l) (sym h.bits)
-                ∙ length-map (chain_items s e.state) (λ (x : Record). x.c == 1)
+                ∙ bits_long 0 (chain_items s e.state)
                 ∙ chain_length i.state z ∙ i.latches;
-            bits_are = ap bits_of (j.items z)
-                ∙ map-append (λ (x : Record). x.c == 1) (chain_items s inputs) (chain_items s
-                e.state)
+            bits_are = ap (λ (xs : List Record). bits_of (lane 0 xs)) (j.items z)
+                ∙ bits_append 0 (chain_items s inputs) (chain_items s e.state)
                 ∙ rw (b, h.bits) refl;
           } in
           let g = values c2 order state bits r in
@@ -300,7 +311,7 @@ module _ {Q : Type 0} (queue : Ghosts Q) {s : RigState} (e : Evaluator Q) (input
           }
 
 -- the same by the result
-pub passes_err : {Q : Type 0} (queue : Ghosts Q) (s t : RigState) (e f : Evaluator Q) (inputs :
+pub passes_err : {Q : Type 0} (queue : Ghosts Q) (s t : RigState) (e f : Sweeper Q) (inputs :
     Chain)
     (r : Result (Unit {0}) EmFault) (fault : EmFault) → IsErrAnd r (λ k. k ≡ fault)
     → FailsPass queue s t e f inputs fault → PassesTo queue s t e f inputs r

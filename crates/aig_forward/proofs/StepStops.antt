@@ -29,22 +29,23 @@ use Rattle.aig_text.specs.Source.{Source}
 use Rattle.aig_edges.specs.Graph.{edge_count}
 use Rattle.aig_edges.specs.declared.stop.StepStop.{StepStop}
 use Rattle.aig_edges.specs.declared.stop.StepStop.TheVariants as stop
-use Rattle.aig_forward.specs.Evaluator.{Halted, IsEvaluator, evaluator_blocks, lists_blocks, lists_size}
+use Rattle.aig_sweep.specs.Sweeper.{Halted, IsSweeper, sweeper_blocks, lists_blocks, lists_size}
 use Rattle.aig_forward.specs.Line.{AnswersLine, ReadsWholeLine, TakesBits}
-use Rattle.aig_forward.specs.Lists.{latch_room, lists_account}
+use Rattle.aig_sweep.specs.Lists.{latch_room, lists_account, input_room}
 use Rattle.aig_forward.specs.Outputs.{OutputCosts, Printing, printing}
-use Rattle.aig_forward.specs.Step.{HaltsStep, IsQuiet, Keeps, Scene, StepCosts, AnswersStep, input_room, line_of, step_account, step_calls, step_room}
+use Rattle.aig_forward.specs.Step.{HaltsStep, StepCosts, AnswersStep, line_of, step_account, step_calls, step_room}
 use Rattle.aig_forward.specs.StepPass.{FailsPass, IsInput, Passed, pass_blocks}
-use Rattle.aig_forward.specs.declared.evaluator.Evaluator.{Evaluator}
+use Rattle.aig_sweep.specs.declared.sweeper.Sweeper.{Sweeper}
 use Rattle.aig_forward.specs.declared.step_end.StepEnd.{StepEnd}
-use Rattle.aig_forward.proofs.Passes.{of_error}
+use Rattle.aig_sweep.proofs.Passes.{of_error}
 use Rattle.aig_forward.proofs.PutLines.{alone_beside, alone_stops}
 use Rattle.aig_forward.proofs.StepLines.{line_session}
+use Rattle.aig_sweep.specs.Scene.{IsQuiet, Keeps, Scene}
 
 -- what a stop costs is the same for each of them
-pub stop_costs : {Q : Type 0} (queue : Ghosts Q) {s t : RigState} (e f : Evaluator Q)
+pub stop_costs : {Q : Type 0} (queue : Ghosts Q) {s t : RigState} (e f : Sweeper Q)
     (r : Result StepEnd StepStop) → IsErr r
-    → Halted (step_calls e.header) (step_room s e) 1 (evaluator_blocks queue s e)
+    → Halted (step_calls e.header) (step_room s e) 1 (sweeper_blocks queue s e)
     (step_account s e) (queue.counts e.queue) (queue.counts f.queue) s t
     → StepCosts queue s t e f r
 stop_costs queue e f (Ok x) is h = cc
@@ -166,20 +167,20 @@ outputs_halted {n = n} count old new ys stop.Write few h k =
 outputs_halted {n = n} count old new ys (stop.Em fault) few h k =
     stops_halted (stops_then h (alone_stops ys (lists_account n 0) k))
 
-module _ {Q : Type 0} (queue : Ghosts Q) {s t : RigState} (e : Evaluator Q) (sound : Sound s)
-    (i : IsEvaluator queue s e) (goes : Goes [] s t)
+module _ {Q : Type 0} (queue : Ghosts Q) {s t : RigState} (e : Sweeper Q) (sound : Sound s)
+    (i : IsSweeper queue s e) (goes : Goes [] s t)
     (most : (queue.counts e.queue).blocks ≤ (queue.counts e.queue).most) where
   -- No line was read.
   pub line_halted : (queue.counts e.queue).unstored ≤ s.pool.shape.frames
       → TakesBits e.header.inputs s t
-      → Halted (step_calls e.header) (step_room s e) 1 (evaluator_blocks queue s e)
+      → Halted (step_calls e.header) (step_room s e) 1 (sweeper_blocks queue s e)
       (step_account s e) (queue.counts e.queue) (queue.counts e.queue) s t
   line_halted stored k =
       let c = queue.counts e.queue in
       let latches = i.state_blocks in
       record {
         sound = goes.sound;
-        touches = touches_wider (evaluator_blocks queue s e) [] s t goes.touches (λ z j u o. tt);
+        touches = touches_wider (sweeper_blocks queue s e) [] s t goes.touches (λ z j u o. tt);
         frames = shares_same c s.pool t.pool goes.frames;
         called = record { n = omega arith; k = omega arith; more = omega arith };
         most = omega (arith, k.most, most, latches);
@@ -193,7 +194,7 @@ module _ {Q : Type 0} (queue : Ghosts Q) {s t : RigState} (e : Evaluator Q) (sou
       (n : IsInput t e.header inputs)
       (same : queue.IsQueue e.queue t)
       (blocks : IsTrue s.device.told → queue.blocks e.queue t ≡ queue.blocks e.queue s) where
-    lifted : Session (evaluator_blocks queue s e) s t (pass_blocks queue t e inputs)
+    lifted : Session (sweeper_blocks queue s e) s t (pass_blocks queue t e inputs)
     lifted = line_session queue e sound i goes same blocks inputs line.session
 
     input_same : input_room e.header t ≡ input_room e.header s
@@ -203,9 +204,9 @@ module _ {Q : Type 0} (queue : Ghosts Q) {s t : RigState} (e : Evaluator Q) (sou
     latch_same = ap (λ (p : ℕ). ceiling e.header.latches p) (payload_kept [] s t goes.touches)
 
     -- The pass gave up.
-    pub pass_halted : {u : RigState} {fault : EmFault} (f : Evaluator Q)
+    pub pass_halted : {u : RigState} {fault : EmFault} (f : Sweeper Q)
         → FailsPass queue t u e f inputs fault
-        → Halted (step_calls e.header) (step_room s e) 1 (evaluator_blocks queue s e)
+        → Halted (step_calls e.header) (step_room s e) 1 (sweeper_blocks queue s e)
         (step_account s e) (queue.counts e.queue) (queue.counts f.queue) s u
     pass_halted {u} f p =
         let c = queue.counts e.queue in
@@ -221,7 +222,7 @@ module _ {Q : Type 0} (queue : Ghosts Q) {s t : RigState} (e : Evaluator Q) (sou
         subst (λ (m : ℕ). Pays (c.unstored + 0) (m + 1) t u) shape k.pays in
         record {
           sound = k.sound;
-          touches = touches_within s t u (evaluator_blocks queue s e) (pass_blocks queue t e inputs)
+          touches = touches_within s t u (sweeper_blocks queue s e) (pass_blocks queue t e inputs)
               lifted.touches lifted.within k.touches;
           frames = shares_then c c d s.pool t.pool u.pool
               (shares_same c s.pool t.pool goes.frames) k.frames;
@@ -232,9 +233,9 @@ module _ {Q : Type 0} (queue : Ghosts Q) {s t : RigState} (e : Evaluator Q) (sou
         }
 
     -- The line and the pass together.
-    pub pass_runs : {u : RigState} (f : Evaluator Q) → Passed queue t u e f inputs
+    pub pass_runs : {u : RigState} (f : Sweeper Q) → Passed queue t u e f inputs
         → RunsBeside (2 * edge_count e.header - columns e.header) (step_room s e)
-        (evaluator_blocks queue s e) (evaluator_blocks queue u f) (step_account s e)
+        (sweeper_blocks queue s e) (sweeper_blocks queue u f) (step_account s e)
         (lists_account (lists_size f) 0) (queue.counts e.queue) (queue.counts f.queue) s u
     pass_runs {u} f p =
         let c = queue.counts e.queue in
@@ -260,19 +261,19 @@ module _ {Q : Type 0} (queue : Ghosts Q) {s t : RigState} (e : Evaluator Q) (sou
         }
 
     -- The outputs weren't all printed.
-    pub step_halted : {W : Type 0} (w : sink.Ghosts W) {u v : RigState} (f g : Evaluator Q)
+    pub step_halted : {W : Type 0} (w : sink.Ghosts W) {u v : RigState} (f g : Sweeper Q)
         (a b : W) (x y : List ℕ) (stopped : StepStop) → Passed queue t u e f inputs
         → Keeps queue u e f → AreOut (queue.counts e.queue) s.pool
         → OutputCosts (columns f.header) (printing queue w f.queue a x u)
         (printing queue w g.queue b y v) (Err stopped)
-        → Halted (step_calls e.header) (step_room s e) 1 (evaluator_blocks queue s e)
+        → Halted (step_calls e.header) (step_room s e) 1 (sweeper_blocks queue s e)
         (step_account s e) (queue.counts e.queue) (queue.counts g.queue) s v
     step_halted w {u} {v} f g a b x y stopped p keeps out k =
         let h = pass_runs f p in
         let size = p.state_blocks in
         let last : latch_room e.header u ≡ latch_room e.header s =
         ap (λ (m : ℕ). ceiling e.header.latches m)
-        (payload_kept (evaluator_blocks queue s e) s u h.runs.session.touches) in
+        (payload_kept (sweeper_blocks queue s e) s u h.runs.session.touches) in
         let outputs : columns f.header ≡ columns e.header =
         ap (λ (m : Header). columns m) keeps.header in
         let given : f.given.blocks ≡ e.given.blocks = ap (λ (m : Chain). m.blocks) keeps.given in

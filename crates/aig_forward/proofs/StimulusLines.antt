@@ -2,7 +2,8 @@
 use Rattle.std.proofs.Common.{◌≡◌, ℕ, zero, suc, ◌+◌, Bool, true, false, List, [], ◌∷◌, map, refl, ap, ◌∙◌}
 use Rattle.aig_defs.specs.Items.{Reading, Reads, Fails, Item, and_then, times, ◌>>=◌, ◌>>◌}
 use Rattle.aig_defs.specs.Stimulus.{stimulus_bit, stimulus_end, stimulus_line}
-use Rattle.aig_forward.specs.Bits.{bits_of}
+use Rattle.aig_sweep.specs.Bits.{bits_of}
+use Rattle.aig_words.specs.Words.{lane}
 use Rattle.aig_forward.specs.BitList.{after_bits, one_bit}
 use Rattle.aig_forward.specs.Line.{bit_record}
 
@@ -54,7 +55,7 @@ pub line_splits : (n p : ℕ) (x : List ℕ) → stimulus_line (suc n) p x
 line_splits n p x = first_splits n (stimulus_bit p x)
 
 -- the bits of the records of some bits
-pub bits_of_records : (bits : List Bool) → bits_of (map bit_record bits) ≡ bits
+pub bits_of_records : (bits : List Bool) → bits_of (lane 0 (map bit_record bits)) ≡ bits
 bits_of_records [] = refl
 bits_of_records (true ∷ bits) = ap (λ rest. true ∷ rest) (bits_of_records bits)
 bits_of_records (false ∷ bits) = ap (λ rest. false ∷ rest) (bits_of_records bits)

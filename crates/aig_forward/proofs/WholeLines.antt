@@ -31,7 +31,8 @@ use Rattle.aig_text.specs.Source.{CanRead, Source, left}
 use Rattle.aig_text.proofs.Steadies.{advances_then, steady_takes}
 use Rattle.aig_edges.specs.declared.stop.StepStop.{StepStop}
 use Rattle.aig_edges.specs.declared.stop.StepStop.TheVariants as stop
-use Rattle.aig_forward.specs.Bits.{bits_of}
+use Rattle.aig_sweep.specs.Bits.{bits_of}
+use Rattle.aig_words.specs.Words.{lane}
 use Rattle.aig_forward.specs.BitList.{Added, FailsAdding, ReadsToList}
 use Rattle.aig_forward.specs.Line.{AnswersLine, LineCause, LineCosts, MovesAfterByte, TakesBits, bit_blocks, bit_record, line_here}
 use Rattle.aig_forward.proofs.BitLists.{idle_still, idle_then}
@@ -243,7 +244,7 @@ module _ {tells : Bool} (inputs : ℕ) {before old new : Source} {s a b t : RigS
           bits = r.by.bits;
           chain = record {
             is = f.is;
-            bits_are = λ z. ap bits_of (f.items (on z) ∙ h.wrote.items (from z)
+            bits_are = λ z. ap (λ (xs : List Record). bits_of (lane 0 xs)) (f.items (on z) ∙ h.wrote.items (from z)
                 ∙ ap (λ (xs : List Record). xs ++ map bit_record r.by.bits) begins.items)
                 ∙ bits_of_records r.by.bits;
             packed = λ z. f.packed (on z) (h.wrote.packed (from z) begins.packed);

@@ -1,14 +1,6 @@
 pub mod BitList
-pub mod Bits
-pub mod Evaluates
-pub mod Evaluator
 pub mod Line
 pub mod Lists
-pub mod Messages
-pub mod Nexts
 pub mod Outputs
-pub mod Passes
-pub mod QueueState
-pub mod Spreads
 pub mod Step
 pub mod StepPass

@@ -1,7 +1,5 @@
 -- A line of the stimulus that is read into a list of its bits.
 use Rattle.std.specs.Prelude.{◌≡◌, ℕ, ◌+◌, ◌*◌, ◌<◌, ◌≤◌, ◌⊎◌, max, Bool, List, [], length, if◌then◌else◌, Option, Some, None, IsTrue, Result, Ok, Err}
-use Rattle.em_io.specs.Feed.{Fed}
-use Rattle.em_io.specs.Shelf.{Stand}
 use Rattle.em_record.specs.Count.{Rose}
 use Rattle.em_record.specs.declared.record.Record.{Record}
 use Rattle.em_space.specs.Ledger.{Runs, Stops}
@@ -12,15 +10,15 @@ use Rattle.em_chain.specs.Session.{chain_account}
 use Rattle.em_chain.specs.declared.chain.Chain.{Chain}
 use Rattle.em_queued.specs.Queued.{no_account}
 use Rattle.aig_defs.specs.Items.{Reading, Reads, Fails}
-use Rattle.aig_defs.specs.Stimulus.{stimulus_end, stimulus_line}
+use Rattle.aig_defs.specs.Stimulus.{stimulus_line}
 use Rattle.aig_defs.specs.declared.fault.AigKind.{AigKind}
-use Rattle.aig_text.specs.Reads.{ReadsItem}
 use Rattle.aig_text.specs.Source.{Source, left}
 use Rattle.aig_text.specs.declared.stop.AigStop.{AigStop}
 use Rattle.aig_text.specs.declared.stop.AigStop.TheVariants as aig
 use Rattle.aig_edges.specs.declared.stop.StepStop.{StepStop}
 use Rattle.aig_edges.specs.declared.stop.StepStop.TheVariants as stop
-use Rattle.aig_forward.specs.Bits.{bits_of}
+use Rattle.aig_words.specs.Words.{lane}
+use Rattle.aig_sweep.specs.Bits.{bits_of}
 
 -- the record of a bit
 abbrev pub bit_record : Bool → Record
@@ -33,19 +31,10 @@ line_here inputs s = stimulus_line inputs s.feed.place (left s)
 -- A packed chain of these bits.
 pub record IsBitChain (s : RigState) (c : Chain) (bits : List Bool) : Type 0 where
   pub is : IsChain s c
-  pub bits_are : IsTrue s.device.told → bits_of (chain_items s c) ≡ bits
+  pub bits_are : IsTrue s.device.told → bits_of (lane 0 (chain_items s c)) ≡ bits
   pub packed : IsTrue s.device.told → IsPacked s c
   pub count_is : c.count ≡ length bits
   pub blocks_is : c.blocks ≡ ceiling (length bits) (payload_in s)
-
--- the text that a feed of this state reads from a shelf of this one
-abbrev pub text_of : Fed → Stand → ℕ → Source
-text_of feed stand faults = record { feed = feed; stand = stand; faults = faults }
-
--- The end of a line was read from the bytes ahead, whatever stands on the shelf.
-abbrev pub ReadsEnd : Fed → Fed → Result (Unit {0}) AigStop → Type 0
-ReadsEnd old new result = (tells : Bool) (stand : Stand) (faults : ℕ) →
-    ReadsItem tells stimulus_end (text_of old stand faults) (text_of new stand faults) result
 
 -- Nothing was left of the stimulus, and nothing was taken.
 pub record EndsHere (tells : Bool) (old new : Source) : Type 0 where

@@ -12,24 +12,18 @@ use Rattle.em_queued.specs.Queued.{CallsOn, StopsBeside, no_account, queue_accou
 use Rattle.aig_defs.specs.Stimulus.{bit_byte, output_line}
 use Rattle.aig_edges.specs.declared.stop.StepStop.{StepStop}
 use Rattle.aig_edges.specs.declared.stop.StepStop.TheVariants as stop
-use Rattle.aig_forward.specs.Bits.{bits_of}
+use Rattle.aig_sweep.specs.Bits.{bits_of}
+use Rattle.aig_sweep.specs.Scene.{KeepsFront}
+use Rattle.aig_words.specs.Words.{lane, says}
 
--- the bit of a message; a missing one says 0
+-- the bit of a message, in lane 0 of its word; a missing one says 0
 abbrev pub message_bit : Option Record → Bool
 message_bit None = false
-message_bit (Some message) = message.c == 1
+message_bit (Some message) = says 0 message.c
 
 -- the bits of the first messages; each missing one says 0
 abbrev pub outputs_of : ℕ → List Record → List Bool
-outputs_of count items = bits_of (take count items) ++ replicate (count - length items) false
-
--- Of these bytes a front went out or is pending.
-pub record KeepsFront (took : List ℕ → List ℕ → List ℕ) (old bytes new pending : List ℕ)
-    : Type 0 where
-  pub front : List ℕ
-  pub behind : List ℕ
-  pub all : front ++ behind ≡ bytes
-  pub sent : Sent took old front new pending
+outputs_of count items = bits_of (lane 0 (take count items)) ++ replicate (count - length items) false
 
 -- their line
 abbrev pub outputs_line : ℕ → List Record → List ℕ

@@ -20,42 +20,17 @@ use Rattle.aig_text.specs.Source.{Source, left}
 use Rattle.aig_edges.specs.Graph.{CanBuild, edge_count}
 use Rattle.aig_edges.specs.declared.stop.StepStop.{StepStop}
 use Rattle.aig_edges.specs.declared.stop.StepStop.TheVariants as stop
-use Rattle.aig_forward.specs.Evaluator.{Evaluates, Halted, HasEvaluatorFrames, evaluator_blocks, lists_size}
-use Rattle.aig_forward.specs.Lists.{latch_room, lists_account}
-use Rattle.aig_forward.specs.Outputs.{KeepsFront}
-use Rattle.aig_forward.specs.declared.evaluator.Evaluator.{Evaluator}
+use Rattle.aig_sweep.specs.Sweeper.{Evaluates, Halted, lists_size, sweeper_blocks}
+use Rattle.aig_sweep.specs.Lists.{input_room, latch_room, lists_account}
+use Rattle.aig_sweep.specs.Scene.{EndsText, IsQuiet, KeepsFront, Scene}
+use Rattle.aig_sweep.specs.declared.sweeper.Sweeper.{Sweeper}
 use Rattle.aig_forward.specs.declared.step_end.StepEnd.{StepEnd}
 use Rattle.aig_forward.specs.declared.step_end.StepEnd.TheVariants.{Printed, End}
 
 -- The frames of a step are free, and few calls of the queue came.
-pub record CanStep {Q : Type 0} (queue : Ghosts Q) (p : PoolCounts) (e : Evaluator Q) : Type 0 where
+pub record CanStep {Q : Type 0} (queue : Ghosts Q) (p : PoolCounts) (e : Sweeper Q) : Type 0 where
   pub free : CanBuild p
   pub few : (queue.counts e.queue).n + 2 * edge_count e.header < 2 ^ 100
-
--- A step at one moment: the rig, the evaluator, the stimulus, what the sink has taken, and what the
--- printer holds back.
-pub record Scene (Q : Type 0) : Type 0 where
-  pub rig : RigState
-  pub evaluator : Evaluator Q
-  pub text : Source
-  pub taken : List ℕ
-  pub pending : List ℕ
-
-abbrev pub scene : {Q : Type 0} → RigState → Evaluator Q → Source → List ℕ → List ℕ → Scene Q
-scene rig evaluator text taken pending = record {
-  rig = rig;
-  evaluator = evaluator;
-  text = text;
-  taken = taken;
-  pending = pending;
-}
-
--- The edges and the header are what they were, and the queue's frames are the pool's.
-pub record Keeps {Q : Type 0} (queue : Ghosts Q) (t : RigState) (e f : Evaluator Q) : Type 0 where
-  pub header : f.header ≡ e.header
-  pub given : f.given ≡ e.given
-  pub gates : f.gates ≡ e.gates
-  pub frames : HasEvaluatorFrames queue t f
 
 -- the line of a stimulus that begins here
 abbrev pub line_at : ℕ → Source → Reading (List Bool)
@@ -65,12 +40,6 @@ line_at inputs s = stimulus_line inputs s.feed.place (left s)
 pub record TakesLine (inputs : ℕ) (old new : Source) (bits : List Bool) : Type 0 where
   pub some : left old ≡ [] → ⊥
   pub reads : line_at inputs old ≡ Reads bits new.feed.place (left new)
-
--- Nothing was left, and nothing was taken.
-pub record EndsText (old new : Source) : Type 0 where
-  pub none_left : left old ≡ []
-  pub left_is : left new ≡ []
-  pub place : new.feed.place ≡ old.feed.place
 
 -- A line begins here, and has this fault.
 pub record FaultsLine (inputs : ℕ) (old : Source) (kind : AigKind) (place : ℕ) : Type 0 where
@@ -97,11 +66,6 @@ pub record PrintsStep {Q : Type 0} (queue : Ghosts Q) (took : List ℕ → List 
   pub line : TakesLine c.header.inputs old.text new.text bits
   pub sent : Sent took old.taken (old.pending ++ line_of c state bits) new.taken new.pending
   pub next : Evaluates queue new.rig new.evaluator c order (step_of c state bits).1
-
--- Nothing was printed.
-pub record IsQuiet {Q : Type 0} (old new : Scene Q) : Type 0 where
-  pub taken : new.taken ≡ old.taken
-  pub pending : new.pending ≡ old.pending
 
 -- Nothing was left of the stimulus, and nothing was done.
 pub record EndsStep {Q : Type 0} (queue : Ghosts Q) (c : Circuit) (order : List Gate)
@@ -137,11 +101,6 @@ IfPrinted (Ok Printed) P = P
 IfPrinted (Ok End) P = Unit {0}
 IfPrinted (Err e) P = Unit {0}
 
--- the evaluator is what it was, and no block was moved, unless a byte of the stimulus was taken
-abbrev pub ActsAfterByte : {Q : Type 0} → RigState → RigState → Evaluator Q → Evaluator Q → ℕ → ℕ
-    → Type 0
-ActsAfterByte s t e f place later = ((f ≡ e) × (t.moves ≤ s.moves)) ⊎ (place < later)
-
 -- what a step of this circuit, from this state, did
 abbrev pub AnswersStep : {Q : Type 0} → Ghosts Q → (List ℕ → List ℕ → List ℕ) → Circuit → List Gate
     → List Bool → Scene Q → Scene Q → Result StepEnd StepStop → Type 0
@@ -153,24 +112,20 @@ AnswersStep queue took c order state old new (Err stop.Read) = IsQuiet old new
 AnswersStep queue took c order state old new (Err stop.Write) = StopsStep took c state old new
 AnswersStep queue took c order state old new (Err (stop.Em fault)) = HaltsStep took c state old new
 
--- the blocks of a list of the bits of inputs
-abbrev pub input_room : Header → RigState → ℕ
-input_room h s = ceiling h.inputs (payload_in s)
-
 -- the most blocks of an evaluator's chains during a step: the edges, the bits of inputs and
 -- latches, and the latches' next bits
-abbrev pub step_room : {Q : Type 0} → RigState → Evaluator Q → ℕ
+abbrev pub step_room : {Q : Type 0} → RigState → Sweeper Q → ℕ
 step_room s e =
     input_room e.header s + 2 * latch_room e.header s + (e.given.blocks + e.gates.blocks)
 
 -- the moves of a step beside those of the queue: the edges are read, and lists of bits are written,
 -- joined and taken
-abbrev pub step_moves : {Q : Type 0} → RigState → Evaluator Q → ℕ
+abbrev pub step_moves : {Q : Type 0} → RigState → Sweeper Q → ℕ
 step_moves s e =
     e.given.blocks + e.gates.blocks + 4 * input_room e.header s + 4 * latch_room e.header s + 6
 
 -- the account of an evaluator's chains before a step
-abbrev pub step_account : {Q : Type 0} → RigState → Evaluator Q → Account
+abbrev pub step_account : {Q : Type 0} → RigState → Sweeper Q → Account
 step_account s e = lists_account (lists_size e) (step_moves s e)
 
 -- the calls of the queue in a step, at most: two for each edge
@@ -180,20 +135,13 @@ step_calls h = 2 * edge_count h
 -- What a step cost. After a line all blocks of the chains are stored, and they are as many as before. At
 -- the stimulus's end nothing was done. After a stop as many blocks as there are frames, and one more, may
 -- not be stored.
-abbrev pub StepCosts : {Q : Type 0} → Ghosts Q → RigState → RigState → Evaluator Q → Evaluator Q
+abbrev pub StepCosts : {Q : Type 0} → Ghosts Q → RigState → RigState → Sweeper Q → Sweeper Q
     → Result StepEnd StepStop → Type 0
 StepCosts queue s t e f (Ok Printed) =
-    RunsBeside (step_calls e.header) (step_room s e) (evaluator_blocks queue s e)
-    (evaluator_blocks queue t f) (step_account s e) (lists_account (lists_size e) 0)
+    RunsBeside (step_calls e.header) (step_room s e) (sweeper_blocks queue s e)
+    (sweeper_blocks queue t f) (step_account s e) (lists_account (lists_size e) 0)
     (queue.counts e.queue) (queue.counts f.queue) s t
 StepCosts queue s t e f (Ok End) = (t ≡ s) × (f ≡ e)
 StepCosts queue s t e f (Err stopped) =
-    Halted (step_calls e.header) (step_room s e) 1 (evaluator_blocks queue s e)
+    Halted (step_calls e.header) (step_room s e) 1 (sweeper_blocks queue s e)
     (step_account s e) (queue.counts e.queue) (queue.counts f.queue) s t
-
--- Why a step stopped: the shelf's or the sink's count of faults rose, or a call on the rig gave up.
-abbrev pub StepCause : ℕ → ℕ → ℕ → ℕ → RigState → RigState → StepStop → Type 0
-StepCause shelf shelf_after sink sink_after s t (stop.Fault kind place) = Unit {0}
-StepCause shelf shelf_after sink sink_after s t stop.Read = Rose shelf shelf_after
-StepCause shelf shelf_after sink sink_after s t stop.Write = Rose sink sink_after
-StepCause shelf shelf_after sink sink_after s t (stop.Em fault) = Cause s t fault

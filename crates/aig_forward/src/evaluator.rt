@@ -1,11 +1,5 @@
-//! An evaluator of a circuit. Between two steps it is
-//!
-//!     header  I, L, columns and A     given   edges from the constant, inputs and latches
-//!     state   a bit for each latch    gates   edges from gates
-//!     queue   no message
-//!
-//! Kept here: the chains are as long as the header says, and all blocks are apart. Left to the rig
-//! and the queue: that blocks stay as they were stored.
+//! An evaluator of a circuit: what `Sweeper` holds between two steps, where the state has a bit for each
+//! latch in lane 0 of its word.
 
 ghost use Rattle.std.specs.Prelude.{◌≡◌, ◌<◌, ◌+◌, ◌++◌, ◌≤◌, Bool, List, IfErr, IfOk, IsTrue, OnOk};
 ghost use Rattle.em_space.specs.Held.{Holds};
@@ -18,14 +12,19 @@ ghost use Rattle.aig_defs.specs.declared.circuit.Gate.{Gate};
 ghost use Rattle.aig_text.specs.Reads.{Advances};
 ghost use Rattle.aig_text.specs.Source.{CanRead, source};
 ghost use Rattle.aig_edges.specs.Graph.{CanBuild, IsOrdered, ordered_blocks};
+ghost use Rattle.aig_sweep.specs.Bits.{bits_of};
+ghost use Rattle.aig_sweep.specs.Scene.{ActsAfterByte, Keeps, StepCause, scene};
+ghost use Rattle.aig_sweep.specs.Sweeper.{BeginsFor, BeginsSweeper, EndsSweeper, EndsTo, Evaluates, FailsToBegin, HasSweeperFrames, IsSweeper};
+ghost use Rattle.aig_words.specs.Words.{lane};
+ghost use Rattle.aig_forward.specs.Step.{AnswersStep, CanStep, FollowsText, IfPrinted, StepCosts};
+ghost use Rattle.aig_forward.specs.StepPass.{IsInput, PassesFor, PassesTo, pass_blocks};
 
 use crate::line::read_line;
-use crate::lists::{discard_lists, join_bits, make_lists};
+use crate::lists::join_bits;
 use crate::outputs::put_outputs;
 use crate::step_end::StepEnd;
-use crate::stepping::evaluate;
-use aig_defs::Header;
 use aig_edges::{Ordered, StepStop};
+use aig_sweep::{Sweeper, evaluate};
 use em_chain::Chain;
 use em_frames::Device;
 use em_io::{Feed, Printer, Shelf, Sink};
@@ -36,19 +35,10 @@ use std::mem;
 /// and its queue. It can't be dropped: `end` releases its blocks, and after a stop `abandon` gives
 /// the queue's frames back.
 pub struct Evaluator<Q> {
-    header: Header,
-    given: Chain,
-    gates: Chain,
-    state: Chain,
-    queue: Q,
+    sweeper: Sweeper<Q>,
 }
 
 impl<Q: Queue> Evaluator<Q> {
-    ghost use Rattle.aig_forward.specs.Evaluator.{BeginsFor, BeginsTo, EndsEvaluator, EndsTo, Evaluates, HasEvaluatorFrames, IsEvaluator};
-    ghost use Rattle.aig_forward.specs.Bits.{bits_of};
-    ghost use Rattle.aig_forward.specs.Step.{ActsAfterByte, AnswersStep, CanStep, FollowsText, IfPrinted, Keeps, StepCause, StepCosts, scene};
-    ghost use Rattle.aig_forward.specs.StepPass.{IsInput, PassesFor, PassesTo, pass_blocks};
-
     /// An evaluator along these edges, by a queue with no item. Each latch starts at its reset.
     ///
     /// 2f + 10 single frames, an area and the rack are free. The edges are cut in two: beside the blocks
@@ -68,25 +58,15 @@ impl<Q: Queue> Evaluator<Q> {
         requires holds { IsTrue (seen D.state rig.old).device.told → Holds (seen D.state rig.old)
             (Q.blocks queue (seen D.state rig.old) ++ ordered_blocks (seen D.state rig.old)
             ordered) }
-        ensures begins { BeginsTo Q.Queue (seen D.state rig.old) (seen D.state rig.new)
-            ordered queue result }
-        ensures meaning { IsTrue (seen D.state rig.old).device.told → IfOk result
-            (BeginsFor Q.Queue (seen D.state rig.old) (seen D.state rig.new) ordered) }
+        ensures begins { IfOk result (λ e. BeginsSweeper Q.Queue (seen D.state rig.old)
+            (seen D.state rig.new) ordered queue e.sweeper) }
+        ensures fails { IfErr result (FailsToBegin Q.Queue (seen D.state rig.old)
+            (seen D.state rig.new) ordered queue) }
+        ensures meaning { IsTrue (seen D.state rig.old).device.told → IfOk result (λ e.
+            BeginsFor Q.Queue (seen D.state rig.old) (seen D.state rig.new) ordered e.sweeper) }
     {
-        let header = ordered.header;
-        match make_lists(rig, ordered) {
-            Ok((state, given, gates)) => Ok(Evaluator {
-                header,
-                given,
-                gates,
-                state,
-                queue,
-            }),
-            Err(fault) => {
-                queue.abandon(rig);
-                Err(fault)
-            }
-        }
+        let sweeper = Sweeper::new(rig, ordered, queue)?;
+        Ok(Evaluator { sweeper })
     }
 
     /// Reads a line of the stimulus, evaluates the circuit for its bits, and prints a line of the columns;
@@ -110,74 +90,40 @@ impl<Q: Queue> Evaluator<Q> {
         sink: &mut W,
     ) -> Result<StepEnd, StepStop>
         requires sound { Sound (seen D.state rig.old) }
-        requires is { IsEvaluator Q.Queue (seen D.state rig.old) self.old }
+        requires is { IsSweeper Q.Queue (seen D.state rig.old) self.old.sweeper }
         requires ready { CanRead (source H.Shelf feed.old shelf.old) }
-        requires can { CanStep Q.Queue (seen D.state rig.old).pool self.old }
-        ensures keeps { Keeps Q.Queue (seen D.state rig.new) self.old self.new }
-        ensures is { OnOk result (IsEvaluator Q.Queue (seen D.state rig.new) self.new) }
+        requires can { CanStep Q.Queue (seen D.state rig.old).pool self.old.sweeper }
+        ensures keeps { Keeps Q.Queue (seen D.state rig.new) self.old.sweeper self.new.sweeper }
+        ensures is { OnOk result (IsSweeper Q.Queue (seen D.state rig.new) self.new.sweeper) }
         ensures feed { Advances H.tells (source H.Shelf feed.old shelf.old)
             (source H.Shelf feed.new shelf.new) }
         ensures further { IfPrinted result (feed.old.place < feed.new.place) }
         ensures idle { IfErr result (λ stopped. ActsAfterByte (seen D.state rig.old)
-            (seen D.state rig.new) self.old self.new feed.old.place feed.new.place) }
+            (seen D.state rig.new) self.old.sweeper self.new.sweeper feed.old.place feed.new.place) }
         ensures costs { StepCosts Q.Queue (seen D.state rig.old) (seen D.state rig.new)
-            self.old self.new result }
-        ensures same { IsTrue H.tells → FollowsText self.old.header.inputs
+            self.old.sweeper self.new.sweeper result }
+        ensures same { IsTrue H.tells → FollowsText self.old.sweeper.header.inputs
             (source H.Shelf feed.old shelf.old) (source H.Shelf feed.new shelf.new) result }
         ensures printed { IsTrue H.tells → IsTrue (seen D.state rig.old).device.told
             → (c : Circuit) (order : List Gate) (state : List Bool)
-            → Evaluates Q.Queue (seen D.state rig.old) self.old c order state
+            → Evaluates Q.Queue (seen D.state rig.old) self.old.sweeper c order state
             → AnswersStep Q.Queue W.took c order state
-            (scene (seen D.state rig.old) self.old (source H.Shelf feed.old shelf.old)
+            (scene (seen D.state rig.old) self.old.sweeper (source H.Shelf feed.old shelf.old)
             (W.state sink.old) printer.old)
-            (scene (seen D.state rig.new) self.new (source H.Shelf feed.new shelf.new)
+            (scene (seen D.state rig.new) self.new.sweeper (source H.Shelf feed.new shelf.new)
             (W.state sink.new) printer.new) result }
         ensures goes_on { W.faults sink.old ≤ W.faults sink.new }
         ensures cause { IfErr result (StepCause (H.faults shelf.old) (H.faults shelf.new)
             (W.faults sink.old) (W.faults sink.new) (seen D.state rig.old) (seen D.state rig.new)) }
     {
-        let Some(inputs) = read_line(rig, feed, shelf, self.header.inputs)? else {
+        let Some(inputs) = read_line(rig, feed, shelf, self.sweeper.header.inputs)? else {
             return Ok(StepEnd::End);
         };
-        self.pass(rig, inputs)?;
-        let columns = self.header.outputs + self.header.bads + self.header.constraints;
-        put_outputs(rig, &mut self.queue, columns, printer, sink)?;
+        pass(rig, &mut self.sweeper, inputs)?;
+        let header = self.sweeper.header;
+        let columns = header.outputs + header.bads + header.constraints;
+        put_outputs(rig, &mut self.sweeper.queue, columns, printer, sink)?;
         Ok(StepEnd::Printed)
-    }
-
-    /// The part of a step between the stimulus and the printed line: by a list of the inputs' bits
-    /// the latches change, and the queue takes the messages of the columns. It gives up as the rig
-    /// does.
-    fn pass<D: Device>(&mut self, rig: &mut Rig<'_, D>, inputs: Chain) -> Result<(), EmFault>
-        requires sound { Sound (seen D.state rig.old) }
-        requires is { IsEvaluator Q.Queue (seen D.state rig.old) self.old }
-        requires inputs { IsInput (seen D.state rig.old) self.old.header inputs }
-        requires holds { IsTrue (seen D.state rig.old).device.told → Holds (seen D.state rig.old)
-            (pass_blocks Q.Queue (seen D.state rig.old) self.old inputs) }
-        requires can { CanStep Q.Queue (seen D.state rig.old).pool self.old }
-        ensures keeps { Keeps Q.Queue (seen D.state rig.new) self.old self.new }
-        ensures queue { OnOk result (Q.IsQueue self.new.queue (seen D.state rig.new)) }
-        ensures passes { PassesTo Q.Queue (seen D.state rig.old) (seen D.state rig.new)
-            self.old self.new inputs result }
-        ensures values { OnOk result (IsTrue (seen D.state rig.old).device.told
-            → (c : Circuit) (order : List Gate) (state bits : List Bool)
-            → Evaluates Q.Queue (seen D.state rig.old) self.old c order state
-            → bits_of (chain_items (seen D.state rig.old) inputs) ≡ bits
-            → PassesFor Q.Queue (seen D.state rig.old) (seen D.state rig.new)
-            self.old self.new c state bits) }
-    {
-        let state = mem::replace(&mut self.state, Chain::empty());
-        let count = self.header.inputs + self.header.latches;
-        let bits = join_bits(rig, inputs, state, count)?;
-        self.state = evaluate(
-            rig,
-            &mut self.queue,
-            &self.header,
-            &self.given,
-            &self.gates,
-            bits,
-        )?;
-        Ok(())
     }
 
     /// Releases all blocks, and gives the queue's frames back. After a fault the frames are back too, and
@@ -185,42 +131,63 @@ impl<Q: Queue> Evaluator<Q> {
     /// chains, beside what is left of the queue's allowance, if it has one.
     pub fn end<D: Device>(self, rig: &mut Rig<'_, D>) -> Result<(), EmFault>
         requires sound { Sound (seen D.state rig.old) }
-        requires is { IsEvaluator Q.Queue (seen D.state rig.old) self }
+        requires is { IsSweeper Q.Queue (seen D.state rig.old) self.sweeper }
         requires free { CanServe (seen D.state rig.old).pool }
-        ensures ends { EndsEvaluator Q.Queue (seen D.state rig.old) (seen D.state rig.new) self }
-        ensures done { EndsTo Q.Queue (seen D.state rig.old) (seen D.state rig.new) self result }
+        ensures ends { EndsSweeper Q.Queue (seen D.state rig.old) (seen D.state rig.new) self.sweeper }
+        ensures done { EndsTo Q.Queue (seen D.state rig.old) (seen D.state rig.new) self.sweeper result }
     {
-        let Evaluator {
-            header: _,
-            given,
-            gates,
-            state,
-            queue,
-        } = self;
-        match discard_lists(rig, state, given, gates) {
-            Ok(()) => queue.end(rig),
-            Err(fault) => {
-                queue.abandon(rig);
-                Err(fault)
-            }
-        }
+        let Evaluator { sweeper } = self;
+        sweeper.end(rig)
     }
 
     /// Gives the queue's frames back, also after a stop. The blocks stay in use, and nothing is
     /// moved.
     pub fn abandon<D: Device>(self, rig: &mut Rig<'_, D>)
         requires sound { Sound (seen D.state rig.old) }
-        requires frames { HasEvaluatorFrames Q.Queue (seen D.state rig.old) self }
-        ensures leaves { Leaves (Q.counts self.queue) (seen D.state rig.old) (seen D.state
+        requires frames { HasSweeperFrames Q.Queue (seen D.state rig.old) self.sweeper }
+        ensures leaves { Leaves (Q.counts self.sweeper.queue) (seen D.state rig.old) (seen D.state
             rig.new) }
     {
-        let Evaluator {
-            header: _,
-            given: _,
-            gates: _,
-            state: _,
-            queue,
-        } = self;
-        queue.abandon(rig);
+        let Evaluator { sweeper } = self;
+        sweeper.abandon(rig);
     }
+}
+
+/// The part of a step between the stimulus and the printed line: by a list of the inputs' bits
+/// the latches change, and the queue takes the messages of the columns. It gives up as the rig
+/// does.
+fn pass<D: Device, Q: Queue>(
+    rig: &mut Rig<'_, D>,
+    sweeper: &mut Sweeper<Q>,
+    inputs: Chain,
+) -> Result<(), EmFault>
+    requires sound { Sound (seen D.state rig.old) }
+    requires is { IsSweeper Q.Queue (seen D.state rig.old) sweeper.old }
+    requires inputs { IsInput (seen D.state rig.old) sweeper.old.header inputs }
+    requires holds { IsTrue (seen D.state rig.old).device.told → Holds (seen D.state rig.old)
+        (pass_blocks Q.Queue (seen D.state rig.old) sweeper.old inputs) }
+    requires can { CanStep Q.Queue (seen D.state rig.old).pool sweeper.old }
+    ensures keeps { Keeps Q.Queue (seen D.state rig.new) sweeper.old sweeper.new }
+    ensures queue { OnOk result (Q.IsQueue sweeper.new.queue (seen D.state rig.new)) }
+    ensures passes { PassesTo Q.Queue (seen D.state rig.old) (seen D.state rig.new)
+        sweeper.old sweeper.new inputs result }
+    ensures values { OnOk result (IsTrue (seen D.state rig.old).device.told
+        → (c : Circuit) (order : List Gate) (state bits : List Bool)
+        → Evaluates Q.Queue (seen D.state rig.old) sweeper.old c order state
+        → bits_of (lane 0 (chain_items (seen D.state rig.old) inputs)) ≡ bits
+        → PassesFor Q.Queue (seen D.state rig.old) (seen D.state rig.new)
+        sweeper.old sweeper.new c state bits) }
+{
+    let state = mem::replace(&mut sweeper.state, Chain::empty());
+    let count = sweeper.header.inputs + sweeper.header.latches;
+    let bits = join_bits(rig, inputs, state, count)?;
+    sweeper.state = evaluate(
+        rig,
+        &mut sweeper.queue,
+        &sweeper.header,
+        &sweeper.given,
+        &sweeper.gates,
+        bits,
+    )?;
+    Ok(())
 }

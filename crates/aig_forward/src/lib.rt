@@ -1,17 +1,12 @@
-//! Evaluates a circuit step by step by time-forward processing (Chiang et al., 1995; Arge, 2003):
-//! each rank sends its value along its edges to greater ranks, as messages in a queue.
+//! Evaluates a circuit step by step by time-forward processing: a step reads a line of the stimulus, lets
+//! `aig_sweep` send values along the edges, and prints a line of the columns.
 #![tactic(auto)]
 
 mod evaluator;
-mod gate;
 mod line;
 mod lists;
 mod outputs;
-mod ranks;
-mod sending;
-mod spreading;
 mod step_end;
-mod stepping;
 
 pub use evaluator::Evaluator;
 pub use step_end::StepEnd;

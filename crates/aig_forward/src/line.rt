@@ -1,116 +1,21 @@
 //! A line of the stimulus: a byte `0` or `1` for each input, and a newline or the text's end.
-ghost use Rattle.std.specs.Prelude.{◌≡◌, ◌+◌, ◌^◌, ◌<◌, ◌≤◌, [], length, slice_get, IfErr, IfOk, OnOk, OnSome, Some};
+ghost use Rattle.std.specs.Prelude.{◌≡◌, ◌^◌, ◌<◌, ◌≤◌, [], slice_get, IfErr, OnOk, Some};
 ghost use Rattle.em_space.specs.Rig.{Goes, Sound};
 ghost use Rattle.em_space.specs.Seen.{seen};
-ghost use Rattle.aig_defs.specs.Items.{look};
-ghost use Rattle.aig_defs.specs.Stimulus.{stimulus_bit, stimulus_end, stimulus_line};
-ghost use Rattle.aig_text.specs.Reads.{Advances, ReadsItem};
+ghost use Rattle.aig_defs.specs.Stimulus.{stimulus_line};
+ghost use Rattle.aig_text.specs.Reads.{Advances};
 ghost use Rattle.aig_text.specs.Source.{CanRead, source};
 ghost use Rattle.aig_forward.specs.BitList.{CanAdd, ReadsToList, list_moment, one_bit};
-ghost use Rattle.aig_forward.specs.Line.{AnswersLine, LineCause, LineCosts, MovesAfterByte, ReadsEnd, TakesBits, step_stop};
+ghost use Rattle.aig_forward.specs.Line.{AnswersLine, LineCause, LineCosts, MovesAfterByte, TakesBits, step_stop};
 
-use aig_defs::AigKind;
 use aig_edges::StepStop;
+use aig_sweep::{read_bit, read_end, take_end};
 use aig_text::AigStop;
 use em_chain::{Chain, Writer};
 use em_frames::Device;
 use em_io::{Feed, Shelf};
 use em_record::Record;
 use em_space::Rig;
-
-/// No byte of a stimulus is looked at from this offset on.
-const END: u64 = 1 << 50;
-
-/// The byte that stands here, without taking it; none at the text's end.
-#[tactic(auto, using(aig_text::proofs::Steadies::steadies))]
-fn look<H: Shelf>(feed: &mut Feed, shelf: &mut H) -> Result<Option<u8>, AigStop>
-    requires { CanRead (source H.Shelf feed.old shelf.old) }
-    ensures reads { ReadsItem H.tells look (source H.Shelf feed.old shelf.old)
-        (source H.Shelf feed.new shelf.new) result }
-    ensures ahead { IfOk result (λ next. OnSome next (0 < length feed.new.ahead)) }
-    ensures below { IfOk result (λ next. OnSome next (feed.new.place < 2 ^ 50)) }
-    ensures place { feed.new.place ≡ feed.old.place }
-{
-    let next = feed.peek(shelf)?;
-    if next.is_some() && feed.place() >= END {
-        return Err(AigStop::Fault {
-            kind: AigKind::TooLong,
-            place: END,
-        });
-    }
-    Ok(next)
-}
-
-/// Reads the bit of one input.
-#[tactic(auto, using(aig_text::proofs::Steadies::steadies))]
-fn read_bit<H: Shelf>(feed: &mut Feed, shelf: &mut H) -> Result<bool, AigStop>
-    requires { CanRead (source H.Shelf feed.old shelf.old) }
-    ensures reads { ReadsItem H.tells stimulus_bit (source H.Shelf feed.old shelf.old)
-        (source H.Shelf feed.new shelf.new) result }
-    ensures further { OnOk result (feed.old.place < feed.new.place) }
-{
-    let kind = match look(feed, shelf)? {
-        Some(b'0') => {
-            feed.take();
-            return Ok(false);
-        }
-        Some(b'1') => {
-            feed.take();
-            return Ok(true);
-        }
-        None | Some(b'\n') => AigKind::StimLength,
-        Some(_) => AigKind::StimChar,
-    };
-    Err(AigStop::Fault {
-        kind,
-        place: feed.place(),
-    })
-}
-
-/// Reads the end of a line: a newline, or the text's end.
-#[tactic(auto, using(aig_text::proofs::Steadies::steadies))]
-fn read_end<H: Shelf>(feed: &mut Feed, shelf: &mut H) -> Result<(), AigStop>
-    requires { CanRead (source H.Shelf feed.old shelf.old) }
-    ensures reads { ReadsItem H.tells stimulus_end (source H.Shelf feed.old shelf.old)
-        (source H.Shelf feed.new shelf.new) result }
-{
-    match look(feed, shelf)? {
-        None => Ok(()),
-        Some(b'\n') => {
-            feed.take();
-            Ok(())
-        }
-        Some(_) => Err(AigStop::Fault {
-            kind: AigKind::StimLength,
-            place: feed.place(),
-        }),
-    }
-}
-
-/// Takes the end of a line, if this byte is it. It is the first byte ahead, and isn't looked at again.
-#[tactic(auto, using(aig_text::proofs::Steadies::steadies))]
-fn take_end(feed: &mut Feed, first: u8) -> Result<(), AigStop>
-    requires ahead { Some first ≡ slice_get feed.old.ahead 0 }
-    requires place { feed.old.place ≤ 2 ^ 50 }
-    ensures reads { ReadsEnd feed.old feed.new result }
-    ensures further { OnOk result (feed.old.place < feed.new.place) }
-{
-    let place = feed.place();
-    if place >= END {
-        return Err(AigStop::Fault {
-            kind: AigKind::TooLong,
-            place: END,
-        });
-    }
-    if first != b'\n' {
-        return Err(AigStop::Fault {
-            kind: AigKind::StimLength,
-            place,
-        });
-    }
-    feed.take();
-    Ok(())
-}
 
 /// A reader's stop, as one of a step.
 fn step_stop(stop: AigStop) -> StepStop

@@ -14,12 +14,12 @@ use em_io::{Printer, Sink};
 use em_record::{Failed, Record};
 use em_space::{Queue, Rig};
 
-/// Whether a message says 1. A missing one says 0.
+/// Whether a message says 1 in lane 0. A missing one says 0.
 fn message_bit(message: Option<Record>) -> bool
     ensures { result ≡ message_bit message }
 {
     match message {
-        Some(message) => message.c == 1,
+        Some(message) => message.c & 1 == 1,
         None => false,
     }
 }

@@ -6,18 +6,18 @@ use Rattle.aig_forward.proofs.StepStops.{input_of, line_halted, line_unread, pas
 use Rattle.em_queued.proofs.Queued.{unstored_frames}
 use Rattle.em_space.specs.Seen.{seen}
 use Rattle.aig_text.specs.Source.{source}
-use Rattle.aig_forward.specs.Step.{scene}
 use Rattle.em_space.proofs.Held.{apart_none}
 use Rattle.em_space.proofs.Queues.{out_same}
 use Rattle.aig_forward.proofs.evaluator.Evaluator.step.Goals as goal
 use Rattle.aig_defs.specs.Circuit.{columns}
+use Rattle.aig_sweep.specs.Scene.{scene}
 
 pub returns-in_err-inputs-clause-keeps : goal.returns-in_err-inputs-clause-keeps
 returns-in_err-inputs-clause-keeps g c =
     let laws = g.met.Q.Queue in
     let s = seen g.D.Device.state c.args.rig.now in
     let t = seen g.D.Device.state c.read_line.new.rig in
-    let q = c.args.self.now.queue in
+    let q = c.args.self.now.sweeper.queue in
     let f = laws.frames_of q s c.requires.is.is in
     let k = c.read_line.ensures.goes in
     record {
@@ -33,7 +33,7 @@ pub returns-in_err-inputs-clause-costs : goal.returns-in_err-inputs-clause-costs
 returns-in_err-inputs-clause-costs g c =
     let laws = g.met.Q.Queue in
     let s = seen g.D.Device.state c.args.rig.now in
-    let e = c.args.self.now in
+    let e = c.args.self.now.sweeper in
     let i = c.requires.is in
     let k = c.read_line.ensures in
     stop_costs g.Q.Queue e e c.from_residual.result c.from_residual.ensures.0
@@ -46,7 +46,7 @@ returns-in_err-inputs-clause-printed g c = λ tells told circuit order state is.
     let s = seen g.D.Device.state c.args.rig.now in
     let t = seen g.D.Device.state c.read_line.new.rig in
     let taken = g.W.Sink.state c.args.sink.now in
-    let e = c.args.self.now in
+    let e = c.args.self.now.sweeper in
     let before = source g.H.Shelf c.args.feed.now c.args.shelf.now in
     let after = source g.H.Shelf c.read_line.new.feed c.read_line.new.shelf in
     line_unread g.met.W.Sink.rule g.Q.Queue circuit order state
@@ -60,7 +60,7 @@ pass-requires-clause-is g c =
     let laws = g.met.Q.Queue in
     let s = seen g.D.Device.state c.args.rig.now in
     let t = seen g.D.Device.state c.read_line.new.rig in
-    let e = c.args.self.now in
+    let e = c.args.self.now.sweeper in
     let i = c.requires.is in
     let k = c.read_line.ensures.goes in
     let kept = laws.stays e.queue [] s t i.is k.touches (λ z. apart_none (g.Q.Queue.blocks e.queue s))
@@ -72,7 +72,7 @@ pass-requires-clause-holds g c =
     let laws = g.met.Q.Queue in
     let s = seen g.D.Device.state c.args.rig.now in
     let t = seen g.D.Device.state c.read_line.new.rig in
-    let e = c.args.self.now in
+    let e = c.args.self.now.sweeper in
     let i = c.requires.is in
     let k = c.read_line.ensures.goes in
     let kept = laws.stays e.queue [] s t i.is k.touches (λ z. apart_none (g.Q.Queue.blocks e.queue s))
@@ -86,17 +86,17 @@ returns-in_err-pass-clause-costs g c =
     let laws = g.met.Q.Queue in
     let s = seen g.D.Device.state c.args.rig.now in
     let t = seen g.D.Device.state c.read_line.new.rig in
-    let e = c.args.self.now in
+    let e = c.args.self.now.sweeper in
     let i = c.requires.is in
     let k = c.read_line.ensures.goes in
     let kept = laws.stays e.queue [] s t i.is k.touches (λ z. apart_none (g.Q.Queue.blocks e.queue s))
     (out_same _ _ _ (laws.out e.queue s (laws.frames_of e.queue s i.is)) k.frames) in
     let r = rw c.in-Some.is at c.in_ok-inputs.ensures.costs in
     let l = rw c.in-Some.is at c.in_ok-inputs.ensures.line in
-    stop_costs g.Q.Queue e c.pass.new.self c.from_residual-in_err-pass.result
+    stop_costs g.Q.Queue e c.pass.new.sweeper c.from_residual-in_err-pass.result
     c.from_residual-in_err-pass.ensures.0
     (pass_halted g.Q.Queue e c.requires.sound i k (laws.blocks_most e.queue s i.is)
-    c.in-Some.inputs r (input_of e.header l) kept.0 kept.2 c.pass.new.self
+    c.in-Some.inputs r (input_of e.header l) kept.0 kept.2 c.pass.new.sweeper
     c.in_err-pass.ensures.passes)
 
 pub returns-in_err-pass-clause-printed : goal.returns-in_err-pass-clause-printed
@@ -107,8 +107,8 @@ returns-in_err-pass-clause-printed g c = λ tells told circuit order state is.
     let before = source g.H.Shelf c.args.feed.now c.args.shelf.now in
     let after = source g.H.Shelf c.read_line.new.feed c.read_line.new.shelf in
     pass_quiet g.met.W.Sink.rule g.Q.Queue circuit order state
-    (scene s c.args.self.now before taken c.args.printer.now)
-    (scene u c.pass.new.self after taken c.args.printer.now) c.from_residual-in_err-pass.result
+    (scene s c.args.self.now.sweeper before taken c.args.printer.now)
+    (scene u c.pass.new.sweeper after taken c.args.printer.now) c.from_residual-in_err-pass.result
     _ c.from_residual-in_err-pass.ensures.1 (g.met.W.Sink.is_state c.args.sink.now)
     (record { taken = refl; pending = refl })
 
@@ -117,7 +117,7 @@ returns-in_err-put_outputs-clause-costs g c =
     let laws = g.met.Q.Queue in
     let s = seen g.D.Device.state c.args.rig.now in
     let t = seen g.D.Device.state c.read_line.new.rig in
-    let e = c.args.self.now in
+    let e = c.args.self.now.sweeper in
     let i = c.requires.is in
     let k = c.read_line.ensures.goes in
     let out = laws.out e.queue s (laws.frames_of e.queue s i.is) in
@@ -125,11 +125,11 @@ returns-in_err-put_outputs-clause-costs g c =
     (out_same _ _ _ out k.frames) in
     let r = rw c.in-Some.is at c.in_ok-inputs.ensures.costs in
     let l = rw c.in-Some.is at c.in_ok-inputs.ensures.line in
-    let f = record (c.pass.new.self) { queue = c.put_outputs.new.queue } in
+    let f = record (c.pass.new.sweeper) { queue = c.put_outputs.new.queue } in
     stop_costs g.Q.Queue e f c.from_residual-in_err-put_outputs.result
     c.from_residual-in_err-put_outputs.ensures.0
     (step_halted g.Q.Queue e c.requires.sound i k (laws.blocks_most e.queue s i.is)
-    c.in-Some.inputs r (input_of e.header l) kept.0 kept.2 g.W.Sink c.pass.new.self f
+    c.in-Some.inputs r (input_of e.header l) kept.0 kept.2 g.W.Sink c.pass.new.sweeper f
     c.args.sink.now c.put_outputs.new.sink c.args.printer.now c.put_outputs.new.printer _
     c.in_ok-pass.ensures.passes c.in_ok-pass.ensures.keeps out c.in_err-put_outputs.ensures.costs)
 
@@ -138,7 +138,7 @@ returns-in_err-put_outputs-clause-printed g c = λ w z circuit order state h.
     let laws = g.met.Q.Queue in
     let s = seen g.D.Device.state c.args.rig.now in
     let t = seen g.D.Device.state c.read_line.new.rig in
-    let e = c.args.self.now in
+    let e = c.args.self.now.sweeper in
     let i = c.requires.is in
     let k = c.read_line.ensures.goes in
     let kept = laws.stays e.queue [] s t i.is k.touches
@@ -153,11 +153,11 @@ returns-in_err-put_outputs-clause-printed g c = λ w z circuit order state h.
     let len = laws.len_is _ _ pass.queue told in
     let before = evaluates_on g.Q.Queue e i k.touches z (kept.1 z) circuit order state h in
     let v = pass.values y circuit order state line.bits before (line.chain.bits_are y) in
-    let old = printing g.Q.Queue g.W.Sink c.pass.new.self.queue c.args.sink.now c.args.printer.now
+    let old = printing g.Q.Queue g.W.Sink c.pass.new.sweeper.queue c.args.sink.now c.args.printer.now
     (seen g.D.Device.state c.pass.new.rig) in
     let new = printing g.Q.Queue g.W.Sink c.put_outputs.new.queue c.put_outputs.new.sink
     c.put_outputs.new.printer (seen g.D.Device.state c.put_outputs.new.rig) in
-    put_stops g.Q.Queue circuit order state line.bits _ _ _ _ (columns c.pass.new.self.header) old new
+    put_stops g.Q.Queue circuit order state line.bits _ _ _ _ (columns c.pass.new.sweeper.header) old new
     c.from_residual-in_err-put_outputs.result _ c.from_residual-in_err-put_outputs.ensures.1
     (rw h.header x) (outputs_are g.Q.Queue pass.keeps pass.passes len v) told p.cause p.part p.front
 
@@ -166,7 +166,7 @@ returns-clause-is g c =
     let laws = g.met.Q.Queue in
     let s = seen g.D.Device.state c.args.rig.now in
     let t = seen g.D.Device.state c.read_line.new.rig in
-    let e = c.args.self.now in
+    let e = c.args.self.now.sweeper in
     let i = c.requires.is in
     let k = c.read_line.ensures.goes in
     let kept = laws.stays e.queue [] s t i.is k.touches
@@ -184,7 +184,7 @@ returns-clause-costs g c =
     let laws = g.met.Q.Queue in
     let s = seen g.D.Device.state c.args.rig.now in
     let t = seen g.D.Device.state c.read_line.new.rig in
-    let e = c.args.self.now in
+    let e = c.args.self.now.sweeper in
     let i = c.requires.is in
     let k = c.read_line.ensures.goes in
     let kept = laws.stays e.queue [] s t i.is k.touches
@@ -207,7 +207,7 @@ returns-clause-printed g c = λ w z circuit order state h.
     let laws = g.met.Q.Queue in
     let s = seen g.D.Device.state c.args.rig.now in
     let t = seen g.D.Device.state c.read_line.new.rig in
-    let e = c.args.self.now in
+    let e = c.args.self.now.sweeper in
     let i = c.requires.is in
     let k = c.read_line.ensures.goes in
     let kept = laws.stays e.queue [] s t i.is k.touches
@@ -253,7 +253,7 @@ pub returns-in_err-inputs-clause-idle : goal.returns-in_err-inputs-clause-idle
 returns-in_err-inputs-clause-idle g c =
     let s = seen g.D.Device.state c.args.rig.now in
     let t = seen g.D.Device.state c.read_line.new.rig in
-    stop_says c.from_residual.result (line_idle s t c.args.self.now c.args.feed.now.place
+    stop_says c.from_residual.result (line_idle s t c.args.self.now.sweeper c.args.feed.now.place
     c.read_line.new.feed.place c.read_line.ensures.idle)
 
 pub returns-in_err-pass-clause-idle : goal.returns-in_err-pass-clause-idle

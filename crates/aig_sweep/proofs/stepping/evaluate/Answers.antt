@@ -1,0 +1,110 @@
+use Rattle.std.proofs.Common.{◌-◌, ◌∙◌, ap, arith, sym, IsTrue, List}
+use Rattle.em_record.specs.Shape.{ShapeNumbers, fan_of}
+use Rattle.em_space.specs.Seen.{seen}
+use Rattle.em_chain.specs.Counts.{ceiling}
+use Rattle.em_chain.proofs.Readers.{length_items}
+use Rattle.em_queued.proofs.Queued.{beside_then, beside_wider, stops_then, stops_wider}
+use Rattle.aig_sweep.specs.Bits.{bits_of}
+use Rattle.aig_sweep.specs.Evaluates.{EvaluatesTo}
+use Rattle.aig_sweep.specs.QueueState.{queue_state}
+use Rattle.std.proofs.lemmas.List.{length-map}
+use Rattle.em_record.specs.declared.record.Record.{Record}
+use Rattle.aig_words.specs.Words.{in_lane, lane}
+use Rattle.aig_words.proofs.Words.{lane_drop, lane_take}
+use Rattle.aig_sweep.proofs.Circuits.{has_values, waits_ends}
+use Rattle.aig_sweep.proofs.Passes.{of_error}
+use Rattle.aig_sweep.proofs.stepping.evaluate.Goals as goal
+
+pub collect-requires-clause-ready : goal.collect-requires-clause-ready
+collect-requires-clause-ready g c =
+    let k = c.in_ok-spread.ensures.spreads in
+    let f = k.runs.runs.frames in
+    let fan = ap fan_of f.shape in
+    let free = c.requires.free in
+    let singles = free.singles in
+    let areas = free.areas in
+    let n = k.runs.calls_on.called.n in
+    let few = c.requires.few in
+    let more = k.more in
+    let fewer = k.fewer in
+    record {
+      sound = k.runs.runs.session.sound;
+      free = record {
+        singles = omega (arith, singles, fan, f.free);
+        areas = omega (arith, areas, f.free_areas);
+        rack = f.rack ∙ free.rack;
+      };
+      few = omega (arith, n, few, more);
+      least = omega (arith, fewer);
+    }
+
+pub collect-requires-clause-few : goal.collect-requires-clause-few
+collect-requires-clause-few g c =
+    let a = c.requires.header.latches in
+    let b = c.requires.header.outputs in
+    let bb = c.requires.header.bads in
+    let bc = c.requires.header.constraints in
+    omega (arith, a, b)
+
+pub returns-in_err-spread-clause-evaluates : goal.returns-in_err-spread-clause-evaluates
+returns-in_err-spread-clause-evaluates g c =
+    let s = seen g.D.Device.state c.args.rig.now in
+    let r = queue_state g.Q.Queue c.spread.new.queue (seen g.D.Device.state c.spread.new.rig) in
+    of_error (EvaluatesTo c.args.header.now c.args.given.now c.args.gates.now c.args.bits
+    (queue_state g.Q.Queue c.args.queue.now s) r) _ _ c.from_residual.ensures.1
+    (stops_wider (omega arith) (omega arith) (omega arith) (omega arith)
+    c.in_err-spread.ensures.spreads)
+
+pub returns-in_err-next-clause-evaluates : goal.returns-in_err-next-clause-evaluates
+returns-in_err-next-clause-evaluates g c =
+    let s = seen g.D.Device.state c.args.rig.now in
+    let t = seen g.D.Device.state c.spread.new.rig in
+    let r = queue_state g.Q.Queue c.collect.new.queue (seen g.D.Device.state c.collect.new.rig) in
+    let k = c.in_ok-spread.ensures.spreads in
+    let more = k.more in
+    let pay = ap (λ (z : ShapeNumbers). ceiling c.args.header.now.latches (z.block - 1))
+    k.runs.runs.session.touches.shape in
+    of_error (EvaluatesTo c.args.header.now c.args.given.now c.args.gates.now c.args.bits
+    (queue_state g.Q.Queue c.args.queue.now s) r) _ _ c.from_residual-in_err-next.ensures.1
+    (stops_wider (omega (arith, more)) (omega (arith, pay)) (omega (arith, pay)) (omega arith)
+    (stops_then k.runs c.in_err-next.ensures.collects))
+
+pub returns-clause-evaluates : goal.returns-clause-evaluates
+returns-clause-evaluates g c =
+    let k = c.in_ok-spread.ensures.spreads in
+    let e = c.in_ok-next.ensures.collects in
+    let more = k.more in
+    let fewer = k.fewer in
+    let pay = ap (λ (z : ShapeNumbers). ceiling c.args.header.now.latches (z.block - 1))
+    k.runs.runs.session.touches.shape in
+    record {
+      runs = beside_wider (omega (arith, more, fewer)) (omega arith) (beside_then k.runs e.runs);
+      is = e.is;
+      packed = λ z. e.packed (k.runs.runs.session.touches.told ∙ z);
+      count_is = e.count_is;
+      blocks_is = e.blocks_is ∙ pay;
+      left = e.left;
+    }
+
+pub returns-clause-values : goal.returns-clause-values
+returns-clause-values g c = λ told i li x order state input r.
+    let laws = g.met.Q.Queue in
+    let s = seen g.D.Device.state c.args.rig.now in
+    let t = seen g.D.Device.state c.spread.new.rig in
+    let h = c.args.header.now in
+    let chains = c.requires.chains in
+    let k = c.in_ok-spread.ensures in
+    let e = c.in_ok-next.ensures.collects in
+    let later : IsTrue t.device.told = k.spreads.runs.runs.session.touches.told ∙ told in
+    let w = k.waits told i li _ _ (has_values r) in
+    let a = length_items s c.args.given.now chains.given_is told in
+    let b = length_items s c.args.gates.now chains.gates_is told in
+    let edges = chains.edges in
+    let done = waits_ends r (omega (arith, a, b, edges)) w in
+    let n = laws.len_is c.spread.new.queue t k.queue later in
+    let all = g.Q.Queue.items c.spread.new.queue t in
+    let size = sym (length-map all (in_lane i)) ∙ done.2 in
+    let items = e.items (n ∙ size) later in (
+      ap (λ (l : List Record). bits_of (lane i l)) items.0 ∙ ap bits_of (lane_take i h.latches all) ∙ done.0,
+      ap (λ (l : List Record). bits_of (lane i l)) items.1 ∙ ap bits_of (lane_drop i h.latches all) ∙ done.1,
+    )

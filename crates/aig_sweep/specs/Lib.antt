@@ -1,0 +1,12 @@
+pub mod Bits
+pub mod Columns
+pub mod Evaluates
+pub mod Line
+pub mod Lists
+pub mod Messages
+pub mod Nexts
+pub mod Passes
+pub mod QueueState
+pub mod Scene
+pub mod Spreads
+pub mod Sweeper

@@ -1,0 +1,13 @@
+pub mod Begins
+pub mod Calls
+pub mod Deals
+pub mod Fills
+pub mod Gathers
+pub mod Group
+pub mod GroupLines
+pub mod Lines
+pub mod Prints
+pub mod Puts
+pub mod Sweeps
+pub mod Turns
+pub mod Wide
