@@ -50,9 +50,9 @@ fn step_all<D: Device, Q: Queue, H: Shelf, W: Sink>(
     sink: &mut W,
 ) -> Result<(), StepStop>
     requires { ReadyToStep Q.Queue (2 ^ 90) (source H.Shelf feed.old shelf.old)
-        (seen D.state rig.old) evaluator.old }
+        (seen D.state rig.old) evaluator.old.sweeper }
     ensures { StepsOn Q.Queue (seen D.state rig.old) (seen D.state rig.new)
-        evaluator.old evaluator.new result }
+        evaluator.old.sweeper evaluator.new.sweeper result }
 {
     for _ in 0..LINES {
         match evaluator.step(rig, feed, shelf, printer, sink) {

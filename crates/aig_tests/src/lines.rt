@@ -80,6 +80,14 @@ pub(crate) fn evaluated(
     Ok((sink, ending))
 }
 
+/// The lines that a sink took, without the newline that is sent after them.
+pub(crate) fn lines_in(sink: &MemSink) -> &[u8] {
+    match sink.bytes().split_last() {
+        Some((_newline, lines)) => lines,
+        None => &[],
+    }
+}
+
 /// Prints the lines of a circuit for a stimulus, by a queue of this kind and at this pace, and how it ended.
 pub(crate) fn print_lines(
     rt: &HostRuntime,
@@ -91,9 +99,7 @@ pub(crate) fn print_lines(
 ) -> Result<(), Fail> {
     print_title(rt, title, by, pace)?;
     let (sink, ending) = evaluated(rt, circuit, stimulus, by, pace, &[])?;
-    if let Some((_newline, lines)) = sink.bytes().split_last() {
-        print_bytes(rt, lines)?;
-    }
+    print_bytes(rt, lines_in(&sink))?;
     print_ending(rt, ending)
 }
 

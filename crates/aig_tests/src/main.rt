@@ -40,9 +40,18 @@ fn print_table(rt: &HostRuntime, heading: &str, table: &str, parts: &[Part]) -> 
 }
 
 fn main(rt: HostRuntime) -> Result<(), Fail> {
-    let steps = [Part::Lines(By::List, Pace::Steps), Part::Lines(By::Tree, Pace::Steps)];
-    let groups = [Part::Lines(By::List, Pace::Groups), Part::Lines(By::Tree, Pace::Groups)];
-    let failing = [Part::Failing(By::Tree, Pace::Steps), Part::Failing(By::Tree, Pace::Groups)];
+    let steps = [
+        Part::Lines(By::List, Pace::Steps),
+        Part::Lines(By::Tree, Pace::Steps),
+    ];
+    let groups = [
+        Part::Lines(By::List, Pace::Groups),
+        Part::Lines(By::Tree, Pace::Groups),
+    ];
+    let failing = [
+        Part::Failing(By::Tree, Pace::Steps),
+        Part::Failing(By::Tree, Pace::Groups),
+    ];
     print_table(&rt, "Texts in ASCII", "texts_in_ascii", &[Part::Chains])?;
     print_table(
         &rt,
