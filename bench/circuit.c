@@ -1,8 +1,19 @@
 /* The baseline of circuits in bench/run: reads a circuit in straight order and a stimulus, and prints the outputs of each
-   step on a line, as emtool eval does. The files have no fault. */
+   step on a line, as emtool eval does. The files have no fault. With -DLANES=64 it evaluates 64 lines at once, as emtool eval
+   --wide does, and the circuit has no latch. */
 #include <stdint.h>
 #include <stdio.h>
 #include <stdlib.h>
+
+/* The lines that are evaluated at once: bit t of a word is the value of a variable on line t of the group. */
+#ifndef LANES
+#define LANES 1
+#endif
+#if LANES == 1
+typedef unsigned char word;
+#else
+typedef uint64_t word;
+#endif
 
 struct gate {
     uint64_t left, right;
@@ -11,7 +22,7 @@ struct gate {
 static uint64_t inputs, latches, outputs, gates;
 
 /* The value of each variable, those of the latches in the next step, and what latches, outputs and gates read. */
-static unsigned char *values, *states;
+static word *values, *states;
 static uint64_t *nexts, *prints;
 static struct gate *ports;
 
@@ -21,8 +32,8 @@ static uint64_t number(FILE *file) {
     return value;
 }
 
-static unsigned value_of(uint64_t literal) {
-    return values[literal / 2] ^ (unsigned)(literal % 2);
+static word value_of(uint64_t literal) {
+    return (word)(values[literal / 2] ^ -(word)(literal % 2));
 }
 
 /* Some places of this size, at least one, all zeros. */
@@ -39,8 +50,9 @@ static void read_circuit(FILE *file) {
     latches = number(file);
     outputs = number(file);
     gates = number(file);
-    values = places(most, 1);
-    states = places(latches, 1);
+    if (LANES > 1 && latches > 0) exit(2);
+    values = places(most, sizeof *values);
+    states = places(latches, sizeof *states);
     nexts = places(latches, sizeof *nexts);
     prints = places(outputs, sizeof *prints);
     ports = places(gates, sizeof *ports);
@@ -57,20 +69,31 @@ static void read_circuit(FILE *file) {
     }
 }
 
-/* Reads the bits of a line; or answers 0 if nothing is left. */
-static int read_line(FILE *file) {
+/* Reads the bits of a line into a lane; or answers 0 if nothing is left. */
+static int read_line(FILE *file, unsigned lane) {
     int byte = getc(file);
     if (byte == EOF) return 0;
-    for (uint64_t i = 0; i < inputs; i++, byte = getc(file)) values[1 + i] = byte == '1';
+    for (uint64_t i = 0; i < inputs; i++, byte = getc(file)) values[1 + i] |= (word)((word)(byte == '1') << lane);
     return 1;
 }
 
-static void step(void) {
+/* Reads lines until the group is full or nothing is left, and answers how many. */
+static unsigned read_group(FILE *file) {
+    unsigned lines = 0;
+    for (uint64_t i = 0; i < inputs; i++) values[1 + i] = 0;
+    while (lines < LANES && read_line(file, lines)) lines++;
+    return lines;
+}
+
+/* Evaluates a group, and prints a line for each of its lines. */
+static void step(unsigned lines) {
     for (uint64_t i = 0; i < latches; i++) values[1 + inputs + i] = states[i];
     for (uint64_t i = 0; i < gates; i++)
         values[1 + inputs + latches + i] = value_of(ports[i].left) & value_of(ports[i].right);
-    for (uint64_t i = 0; i < outputs; i++) putchar('0' + (int)value_of(prints[i]));
-    putchar('\n');
+    for (unsigned lane = 0; lane < lines; lane++) {
+        for (uint64_t i = 0; i < outputs; i++) putchar('0' + (int)(value_of(prints[i]) >> lane & 1));
+        putchar('\n');
+    }
     for (uint64_t i = 0; i < latches; i++) states[i] = value_of(nexts[i]);
 }
 
@@ -82,6 +105,6 @@ int main(int argc, char **argv) {
     FILE *circuit = fopen(argv[1], "r"), *stimulus = fopen(argv[2], "r");
     if (!circuit || !stimulus) return 3;
     read_circuit(circuit);
-    while (read_line(stimulus)) step();
+    for (unsigned lines; (lines = read_group(stimulus)) > 0;) step(lines);
     return ferror(stimulus) || fflush(stdout) != 0 ? 4 : 0;
 }

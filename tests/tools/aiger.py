@@ -2,7 +2,7 @@
 """Evaluates a circuit on a stimulus as `emtool eval` must, by docs/FORMATS.md and in another way than the program: the
 whole circuit stands in memory, and the value of a literal is asked of its gate, which asks its operands.
 
-tests/tools/aiger.py [--uninit=N] CIRCUIT STIMULUS    prints what `emtool eval` with these words must print
+tests/tools/aiger.py [--uninit=N] [--wide] CIRCUIT STIMULUS    prints what `emtool eval` with these words must print
 """
 import sys
 
@@ -243,8 +243,8 @@ def founded(circuit):
         waiting = left
 
 
-def check(circuit):
-    """The faults of a circuit that a text spells."""
+def check(circuit, wide=False):
+    """The faults of a circuit that a text spells. With `--wide` latches are one too."""
     seen, twice = set(), set()
     for it in circuit.defined():
         (twice if it in seen else seen).add(it)
@@ -256,6 +256,8 @@ def check(circuit):
     cyclic = {it[0] // 2 for it in circuit.gates} - founded(circuit)
     if cyclic:
         raise Fault("Cyclic", min(cyclic))
+    if wide and circuit.latches:
+        raise Fault("Latched", 0)
 
 
 class Evaluator:
@@ -301,14 +303,15 @@ def steps_of(inputs, data):
     return steps, None
 
 
-def answer(circuit_text, stimulus_text, uninit=None):
-    """The output, the message and the exit code of an evaluation. A text that isn't there is None."""
+def answer(circuit_text, stimulus_text, uninit=None, wide=False):
+    """The output, the message and the exit code of an evaluation, one step after another also with `--wide`. A text
+    that isn't there is None."""
     unread = "emtool: an input could not be read\n"
     if circuit_text is None:
         return "", unread, 3
     try:
         circuit = circuit_of(circuit_text, uninit)
-        check(circuit)
+        check(circuit, wide)
     except Fault as it:
         return "", f"emtool: malformed: {it.kind} at {it.place}\n", 2
     if stimulus_text is None:
@@ -330,14 +333,17 @@ def bytes_of(name):
 
 
 def main(words):
-    uninit = None
-    if words and words[0] in ("--uninit=0", "--uninit=1"):
-        uninit = int(words[0][-1])
+    uninit, wide = None, False
+    while words and words[0] in ("--uninit=0", "--uninit=1", "--wide"):
+        if words[0] == "--wide":
+            wide = True
+        else:
+            uninit = int(words[0][-1])
         words = words[1:]
     if len(words) != 2:
         print(__doc__, file=sys.stderr)
         return 1
-    output, message, code = answer(bytes_of(words[0]), bytes_of(words[1]), uninit)
+    output, message, code = answer(bytes_of(words[0]), bytes_of(words[1]), uninit, wide)
     sys.stdout.write(output)
     sys.stderr.write(message)
     return code

@@ -3,14 +3,15 @@
 bench/. The gate doesn't run it.
 
 tests/tools/big.py KIND COUNT FILE            writes COUNT commands of a map, queue or stab file
-tests/tools/big.py eval COUNT FILE STIMULUS   writes a circuit of COUNT gates in straight order, and a stimulus of 8 lines
+tests/tools/big.py eval COUNT FILE STIMULUS   writes a circuit of COUNT gates in straight order, and a stimulus
 tests/tools/big.py --compare KIND COUNT       runs the baselines on such a file, and the program at three shapes: all must print
                                               the same
 tests/tools/big.py --plain KIND COUNT         compares the baselines with the plain answers of made.py and aiger.py, without the
                                               program; those that sort also with blocks of 4 records and 3 frames
 
 Options, anywhere: --asks=PERCENT of the commands are gets, pops or stabs (25), also as 0.1; --keys=N, keys and points are below
-it (COUNT); --start=N, another file of the same kind (1).
+it (COUNT); --start=N, another file of the same kind (1); of `eval` --latches=N (32) and --steps=N, lines of the stimulus (8). A circuit
+with --latches=0 is evaluated 64 lines at once too, by the program with --wide and by its baseline.
 
 The program is the one that `rt ci` or `./emtool` built, or the one that EMTOOL names.
 """
@@ -39,7 +40,9 @@ BASELINES = {
 SORTING = "map_sort", "queue_merge", "stab_sort"
 # the shapes that --compare runs: records of a block, and frames; the last is the default
 SHAPES = (128, 64), (512, 128), (1024, 256)
-STEPS = 8
+LATCHES, STEPS = 32, 8
+# the baseline of `eval --wide` is that of `eval` with this flag
+LANES = "-DLANES=64"
 
 
 def map_lines(count, asks, keys, draw):
@@ -65,7 +68,7 @@ def stab_lines(count, asks, keys, draw):
             yield f"iv {low} {min(low + int(keys / (count * (1 - draw()))), keys - 1)}\n"
 
 
-def circuit_lines(gates, inputs=64, latches=32, outputs=64):
+def circuit_lines(gates, inputs=64, latches=LATCHES, outputs=64):
     """A circuit in straight order. A rule with a fixed start draws the literals: operands of each gate from those below
     it, next values and outputs from all."""
     drawn = 1
@@ -85,15 +88,16 @@ def circuit_lines(gates, inputs=64, latches=32, outputs=64):
 
 
 def stimulus_lines(inputs=64, steps=STEPS):
-    """A stimulus: the bit of input i in step t is bit 3 of the number 5 * i + 7 * t."""
+    """A stimulus: the bit of input i in step t is bit 3 of the number 5 * i + 7 * t, and 1 more for every 16 steps, so that no
+    group of 64 lines is the one before it."""
     for t in range(steps):
-        yield "".join(str((5 * i + 7 * t) >> 3 & 1) for i in range(inputs)) + "\n"
+        yield "".join(str((5 * i + 7 * t + t // 16) >> 3 & 1) for i in range(inputs)) + "\n"
 
 
-def write_files(kind, count, paths, asks=25, keys=None, start=1):
+def write_files(kind, count, paths, asks=25, keys=None, start=1, latches=LATCHES, steps=STEPS):
     """Writes a command file, or a circuit and its stimulus."""
     if kind == "eval":
-        texts = circuit_lines(count), stimulus_lines()
+        texts = circuit_lines(count, latches=latches), stimulus_lines(steps=steps)
     else:
         lines = {"map": map_lines, "queue": queue_lines, "stab": stab_lines}[kind]
         texts = (lines(count, asks / 100, keys or count, random.Random(start).random),)
@@ -152,10 +156,13 @@ def plain_answers(kind, folder, answers):
         file.write(output)
 
 
-def runs_of(kind, count, with_program, folder):
-    """The title and the command of each run that must print the same."""
+def runs_of(kind, count, with_program, wide, folder):
+    """The title and the command of each run that must print the same. If `wide`, the lines of a stimulus are evaluated 64 at once
+    too."""
     for name in BASELINES[kind]:
         yield name, [compiled(name, folder), *names_of(kind)]
+        if wide:
+            yield name + ", 64 lines at once", [compiled(name, folder, LANES), *names_of(kind)]
         if not with_program and name in SORTING:
             yield name + ", 3 blocks of 4", [compiled(name, folder, "-DBLOCK=4", "-DFRAMES=3"), *names_of(kind)]
     if with_program:
@@ -164,6 +171,8 @@ def runs_of(kind, count, with_program, folder):
             options = [f"--block={block}", f"--frames={frames}", "--stats"]
             bound = f", sorting bound {sorting_bound(count, block, frames)}" if kind != "eval" else ""
             yield f"emtool, B = {block}, m = {frames}{bound}", [program, kind, *options, *names_of(kind)]
+            if wide:
+                yield f"emtool --wide, B = {block}, m = {frames}", [program, kind, "--wide", *options, *names_of(kind)]
 
 
 def compare(kind, count, options, with_program):
@@ -175,7 +184,8 @@ def compare(kind, count, options, with_program):
         first = None if with_program else "plain"
         if first:
             plain_answers(kind, folder, first)
-        for number, (title, command) in enumerate(runs_of(kind, count, with_program, folder)):
+        wide = kind == "eval" and options.get("latches") == 0
+        for number, (title, command) in enumerate(runs_of(kind, count, with_program, wide, folder)):
             answers = f"answers{number}"
             ran(title, command, folder, answers)
             first = first or answers
@@ -194,8 +204,9 @@ def main(words):
         words = [word for word in words if "=" not in word]
         mode = words.pop(0) if words[0] in ("--compare", "--plain") else None
         kind, count, paths = words[0], int(words[1]), words[2:]
+        known = {"latches", "steps"} if kind == "eval" else {"asks", "keys", "start"}
         fits = len(paths) == (0 if mode else len(names_of(kind)))
-        if not fits or kind not in BASELINES or count < 1 or not set(options) <= {"asks", "keys", "start"}:
+        if not fits or kind not in BASELINES or count < 1 or not set(options) <= known:
             raise ValueError
     except (ValueError, IndexError):
         print(__doc__, file=sys.stderr)

@@ -20,16 +20,16 @@ import circuits
 import made
 
 # what the evaluator can answer: it has no blocks, and writes where it is told
-COMMAND = re.compile(r"emtool eval(?: --(?:stats|block=\d+|frames=\d+|uninit=([01])))* ([a-z]+) ([a-z]+)")
-STATISTICS = re.compile(rb"moves \d+ peak \d+\n\Z")
+COMMAND = re.compile(r"emtool eval(?: --(?:stats|block=\d+|frames=\d+|uninit=([01])|(wide)))* ([a-z]+) ([a-z]+)")
+STATISTICS = re.compile(rb"moves (\d+|<= \d+)( peak (\d+|<= \d+))?\n\Z")
 FORMS = re.compile(r"(.*), in (ASCII|binary)")
 
 
 def given(row):
-    """The circuit, the stimulus and the value of `--uninit` that a row's command names, or None if the evaluator can't
-    run it."""
+    """The circuit, the stimulus, the value of `--uninit` and whether `--wide` stands that a row's command names, or None if
+    the evaluator can't run it."""
     found = COMMAND.fullmatch(row.command)
-    return found and (row.files.get(found[2]), row.files.get(found[3]), found[1] and int(found[1]))
+    return found and (row.files.get(found[3]), row.files.get(found[4]), found[1] and int(found[1]), bool(found[2]))
 
 
 def answered(row):
@@ -42,7 +42,7 @@ def answered(row):
 
 def spelled(row):
     """The circuit that a row spells."""
-    circuit, _, uninit = given(row)
+    circuit, _, uninit, _ = given(row)
     return vars(aiger.circuit_of(circuit, uninit))
 
 

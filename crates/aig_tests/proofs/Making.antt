@@ -20,7 +20,7 @@ use Rattle.aig_edges.proofs.GraphLaws.{GraphStays, graph_stays}
 use Rattle.aig_edges.proofs.OrderedLaws.{ordered_stays}
 use Rattle.aig_edges.specs.declared.graph.Ordered.{Ordered}
 use Rattle.aig_order.specs.OrderGraph.{OfDefinedCircuit}
-use Rattle.aig_forward.specs.Evaluator.{without_frames}
+use Rattle.aig_sweep.specs.Sweeper.{without_frames}
 use Rattle.em_devices.specs.Small.{small}
 use Rattle.aig_tests.specs.Frames.{HasFrames}
 

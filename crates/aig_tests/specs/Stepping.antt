@@ -1,4 +1,5 @@
--- An evaluator that steps on, and what its steps keep.
+-- An evaluator that steps on, or goes on by groups, and what its steps keep: what is said of a sweeper holds of both kinds of
+-- evaluators.
 use Rattle.std.specs.Prelude.{◌≡◌, ◌≤◌, ◌++◌, ℕ, Result, OnOk, IsTrue}
 use Rattle.em_frames.specs.Pool.{SameFrames}
 use Rattle.em_space.specs.Held.{Holds}
@@ -9,14 +10,14 @@ use Rattle.aig_text.specs.Source.{CanRead, Source}
 use Rattle.aig_edges.specs.Graph.{CanBuild, IsOrdered, ordered_blocks}
 use Rattle.aig_edges.specs.declared.graph.Ordered.{Ordered}
 use Rattle.aig_edges.specs.declared.stop.StepStop.{StepStop}
-use Rattle.aig_forward.specs.Evaluator.{HasEvaluatorFrames, IsEvaluator, without_frames}
-use Rattle.aig_forward.specs.declared.evaluator.Evaluator.{Evaluator}
+use Rattle.aig_sweep.specs.Sweeper.{HasSweeperFrames, IsSweeper, without_frames}
+use Rattle.aig_sweep.specs.declared.sweeper.Sweeper.{Sweeper}
 
--- It can step: at most this many calls of its queue came.
+-- It can step, or evaluate a group: at most this many calls of its queue came.
 pub record ReadyToStep {Q : Type 0} (queue : Ghosts Q) (most : ℕ) (text : Source) (s : RigState)
-    (e : Evaluator Q) : Type 0 where
+    (e : Sweeper Q) : Type 0 where
   pub sound : Sound s
-  pub is : IsEvaluator queue s e
+  pub is : IsSweeper queue s e
   pub ready : CanRead text
   pub free : CanBuild s.pool
   pub few : (queue.counts e.queue).n ≤ most
@@ -46,10 +47,10 @@ pub record KeepsFrames (c d : QueueCounts) (s t : RigState) : Type 0 where
   pub areas : d.areas ≡ c.areas
 
 -- It stepped to the stimulus's end, and can be ended; or it stopped, and can be abandoned.
-pub record StepsOn {Q : Type 0} (queue : Ghosts Q) (s t : RigState) (e f : Evaluator Q)
+pub record StepsOn {Q : Type 0} (queue : Ghosts Q) (s t : RigState) (e f : Sweeper Q)
     (result : Result (Unit {0}) StepStop) : Type 0 where
   pub sound : Sound t
-  pub frames : HasEvaluatorFrames queue t f
+  pub frames : HasSweeperFrames queue t f
   pub shares : Shares (queue.counts e.queue) (queue.counts f.queue) s.pool t.pool
-  pub is : OnOk result (IsEvaluator queue t f)
+  pub is : OnOk result (IsSweeper queue t f)
   pub free : OnOk result (CanServe t.pool)

@@ -3,7 +3,8 @@ ghost use Rattle.std.specs.Prelude.{◌≡◌, IfOk, true};
 ghost use Rattle.em_io.specs.MemShelf.{stand_of};
 
 use crate::chains::{print_chains, print_edges};
-use crate::evaluation::By;
+use crate::evaluation::{By, Pace};
+use crate::failing::print_failing;
 use crate::lines::print_lines;
 use crate::row::spelled;
 use em_devices::{ended, opened};
@@ -25,12 +26,14 @@ pub(crate) enum Part {
     Chains,
     /// Its edges between ranks.
     Edges,
-    /// Its lines for the stimulus, by this kind of queue.
-    Lines(By),
+    /// Its lines for the stimulus, by this kind of queue and at this pace.
+    Lines(By, Pace),
+    /// The bytes of these lines that go out at each failing call of the device.
+    Failing(By, Pace),
 }
 
 /// A shelf that gives the text that a part of a row spells.
-fn shelf_of(alloc: Global, slot: Slot, escaped: &str) -> Result<MemShelf, Fail>
+pub(crate) fn shelf_of(alloc: Global, slot: Slot, escaped: &str) -> Result<MemShelf, Fail>
     ensures ready { IfOk result (λ shelf. ((stand_of shelf).slot slot).ready ≡ true) }
 {
     let text = spelled(alloc, escaped)?;
@@ -38,6 +41,21 @@ fn shelf_of(alloc: Global, slot: Slot, escaped: &str) -> Result<MemShelf, Fail>
     shelf.add("text", &text)?;
     shelf.open(slot, "text")?;
     Ok(shelf)
+}
+
+/// Prints the chains of a circuit, or its edges between ranks.
+fn print_records(rt: &HostRuntime, title: &str, circuit: &str, ranked: bool) -> Result<(), Fail> {
+    let alloc = rt.alloc();
+    let mut circuit = shelf_of(alloc, Slot::First, circuit)?;
+    let mut device = MemDevice::new(alloc, &[])?;
+    let mut rig = opened(alloc, BLOCKS, &mut device)?;
+    let printed = if ranked {
+        print_edges(rt, &mut rig, &mut circuit, title)
+    } else {
+        print_chains(rt, &mut rig, &mut circuit, title)
+    };
+    let _cost = ended(rig);
+    printed
 }
 
 /// Prints a part of a row.
@@ -48,18 +66,12 @@ fn print_part(
     stimulus: &str,
     part: Part,
 ) -> Result<(), Fail> {
-    let alloc = rt.alloc();
-    let mut circuit = shelf_of(alloc, Slot::First, circuit)?;
-    let mut stimulus = shelf_of(alloc, Slot::Second, stimulus)?;
-    let mut device = MemDevice::new(alloc, &[])?;
-    let mut rig = opened(alloc, BLOCKS, &mut device)?;
-    let printed = match part {
-        Part::Chains => print_chains(rt, &mut rig, &mut circuit, title),
-        Part::Edges => print_edges(rt, &mut rig, &mut circuit, title),
-        Part::Lines(by) => print_lines(rt, &mut rig, &mut circuit, &mut stimulus, title, by),
-    };
-    let _cost = ended(rig);
-    printed
+    match part {
+        Part::Chains => print_records(rt, title, circuit, false),
+        Part::Edges => print_records(rt, title, circuit, true),
+        Part::Lines(by, pace) => print_lines(rt, title, circuit, stimulus, by, pace),
+        Part::Failing(by, pace) => print_failing(rt, title, circuit, stimulus, by, pace),
+    }
 }
 
 /// Prints these parts of a row.

@@ -1,4 +1,5 @@
-//! A circuit's text, evaluated by a queue over a list or over a buffer tree until nothing is left of the stimulus.
+//! A circuit's text, evaluated by a queue over a list or over a buffer tree, step by step or in groups of lines, until nothing is left
+//! of the stimulus.
 ghost use Rattle.std.specs.Prelude.{◌≡◌, ◌^◌, true};
 ghost use Rattle.em_io.specs.declared.shelf.Slot.TheVariants.{First, Second};
 ghost use Rattle.em_space.specs.Seen.{seen};
@@ -7,6 +8,7 @@ ghost use Rattle.aig_edges.specs.Graph.{IsOrdered};
 ghost use Rattle.aig_tests.specs.Frames.{HasFrames, LeavesFrames};
 ghost use Rattle.aig_tests.specs.Stepping.{GivesBack, ReadyToEvaluate, ReadyToStep, StepsOn};
 
+use crate::groups::evaluate_groups;
 use crate::ordering::read_ordered;
 use crate::stop::unread;
 use aig_edges::{Ordered, StepStop};
@@ -18,7 +20,7 @@ use em_pqueue::ExtQueue;
 use em_space::{Queue, Rig};
 
 /// No stimulus here has as many lines.
-const LINES: u64 = 9;
+const LINES: u64 = 200;
 
 /// Which queue carries the messages.
 #[derive(Clone, Copy)]
@@ -27,6 +29,15 @@ pub(crate) enum By {
     List,
     /// One that keeps a heap over a buffer tree.
     Tree,
+}
+
+/// How many lines of a stimulus are evaluated at once.
+#[derive(Clone, Copy)]
+pub(crate) enum Pace {
+    /// One: a step.
+    Steps,
+    /// Up to 64: a group. The circuit has no latch.
+    Groups,
 }
 
 /// Steps until nothing is left of the stimulus.
@@ -39,9 +50,9 @@ fn step_all<D: Device, Q: Queue, H: Shelf, W: Sink>(
     sink: &mut W,
 ) -> Result<(), StepStop>
     requires { ReadyToStep Q.Queue (2 ^ 90) (source H.Shelf feed.old shelf.old)
-        (seen D.state rig.old) evaluator.old }
+        (seen D.state rig.old) evaluator.old.sweeper }
     ensures { StepsOn Q.Queue (seen D.state rig.old) (seen D.state rig.new)
-        evaluator.old evaluator.new result }
+        evaluator.old.sweeper evaluator.new.sweeper result }
 {
     for _ in 0..LINES {
         match evaluator.step(rig, feed, shelf, printer, sink) {
@@ -55,7 +66,7 @@ fn step_all<D: Device, Q: Queue, H: Shelf, W: Sink>(
 
 /// Makes an evaluator, steps until nothing is left of the stimulus, and ends it. All frames of the
 /// queue are back.
-fn evaluate<D: Device, Q: Queue, H: Shelf, W: Sink>(
+fn evaluate_steps<D: Device, Q: Queue, H: Shelf, W: Sink>(
     rig: &mut Rig<'_, D>,
     ordered: Ordered,
     queue: Q,
@@ -81,10 +92,33 @@ fn evaluate<D: Device, Q: Queue, H: Shelf, W: Sink>(
     }
 }
 
+/// Evaluates edges between ranks at this pace until nothing is left of the stimulus. All frames of the
+/// queue are back.
+fn evaluate<D: Device, Q: Queue, H: Shelf, W: Sink>(
+    rig: &mut Rig<'_, D>,
+    ordered: Ordered,
+    queue: Q,
+    pace: Pace,
+    feed: &mut Feed,
+    shelf: &mut H,
+    printer: &mut Printer,
+    sink: &mut W,
+) -> Result<(), StepStop>
+    requires { ReadyToEvaluate Q.Queue (source H.Shelf feed.old shelf.old)
+        (seen D.state rig.old) ordered queue }
+    ensures { GivesBack (Q.counts queue) (seen D.state rig.old) (seen D.state rig.new) }
+{
+    match pace {
+        Pace::Steps => evaluate_steps(rig, ordered, queue, feed, shelf, printer, sink),
+        Pace::Groups => evaluate_groups(rig, ordered, queue, feed, shelf, printer, sink),
+    }
+}
+
 /// Evaluates by a new queue over a list for the stimulus of a feed.
 fn evaluate_by_list<D: Device, H: Shelf, W: Sink>(
     rig: &mut Rig<'_, D>,
     ordered: Ordered,
+    pace: Pace,
     feed: &mut Feed,
     shelf: &mut H,
     printer: &mut Printer,
@@ -96,13 +130,14 @@ fn evaluate_by_list<D: Device, H: Shelf, W: Sink>(
     ensures leaves { LeavesFrames (seen D.state rig.old) (seen D.state rig.new) }
 {
     let queue = ScanQueue::new(rig)?;
-    evaluate(rig, ordered, queue, feed, shelf, printer, sink)
+    evaluate(rig, ordered, queue, pace, feed, shelf, printer, sink)
 }
 
 /// Evaluates by a new queue over a buffer tree for the stimulus of a feed.
 fn evaluate_by_tree<D: Device, H: Shelf, W: Sink>(
     rig: &mut Rig<'_, D>,
     ordered: Ordered,
+    pace: Pace,
     feed: &mut Feed,
     shelf: &mut H,
     printer: &mut Printer,
@@ -114,7 +149,7 @@ fn evaluate_by_tree<D: Device, H: Shelf, W: Sink>(
     ensures leaves { LeavesFrames (seen D.state rig.old) (seen D.state rig.new) }
 {
     let queue = ExtQueue::new(rig)?;
-    evaluate(rig, ordered, queue, feed, shelf, printer, sink)
+    evaluate(rig, ordered, queue, pace, feed, shelf, printer, sink)
 }
 
 /// Evaluates edges between ranks by a new queue of this kind for the stimulus of a feed.
@@ -122,6 +157,7 @@ fn evaluate_by<D: Device, H: Shelf, W: Sink>(
     rig: &mut Rig<'_, D>,
     ordered: Ordered,
     by: By,
+    pace: Pace,
     feed: &mut Feed,
     shelf: &mut H,
     printer: &mut Printer,
@@ -133,8 +169,8 @@ fn evaluate_by<D: Device, H: Shelf, W: Sink>(
     ensures leaves { LeavesFrames (seen D.state rig.old) (seen D.state rig.new) }
 {
     match by {
-        By::List => evaluate_by_list(rig, ordered, feed, shelf, printer, sink),
-        By::Tree => evaluate_by_tree(rig, ordered, feed, shelf, printer, sink),
+        By::List => evaluate_by_list(rig, ordered, pace, feed, shelf, printer, sink),
+        By::Tree => evaluate_by_tree(rig, ordered, pace, feed, shelf, printer, sink),
     }
 }
 
@@ -145,6 +181,7 @@ pub(crate) fn evaluate_texts<D: Device, H: Shelf, W: Sink>(
     circuit: &mut H,
     stimulus: &mut H,
     by: By,
+    pace: Pace,
     printer: &mut Printer,
     sink: &mut W,
 ) -> Result<(), StepStop>
@@ -157,7 +194,7 @@ pub(crate) fn evaluate_texts<D: Device, H: Shelf, W: Sink>(
     match read_ordered(rig, &mut feed, circuit) {
         Ok(ordered) => {
             let mut lines = Feed::new(Slot::Second);
-            evaluate_by(rig, ordered, by, &mut lines, stimulus, printer, sink)
+            evaluate_by(rig, ordered, by, pace, &mut lines, stimulus, printer, sink)
         }
         Err(stop) => Err(unread(stop)),
     }

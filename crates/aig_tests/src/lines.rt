@@ -1,35 +1,32 @@
 //! What an evaluation prints: its lines and how it ended.
-ghost use Rattle.std.specs.Prelude.{◌≡◌, true};
-ghost use Rattle.em_io.specs.MemShelf.{stand_of};
-ghost use Rattle.em_io.specs.declared.shelf.Slot.TheVariants.{First, Second};
-ghost use Rattle.em_space.specs.Seen.{seen};
-ghost use Rattle.aig_tests.specs.Frames.{HasFrames, LeavesFrames};
-
-use crate::circuit::{BLOCKS, PIECE};
-use crate::evaluation::{By, evaluate_texts};
+use crate::circuit::{BLOCKS, PIECE, shelf_of};
+use crate::evaluation::{By, Pace, evaluate_texts};
 use crate::stop::print_stop;
 use aig_edges::StepStop;
 use em_devices::{ended, opened};
-use em_frames::{Device, MemDevice};
+use em_frames::MemDevice;
 use em_gen::{GenKind, GenShelf, Tally};
 use em_io::{MemShelf, MemSink, Printer, Shelf, Slot};
-use em_space::Rig;
 use std::test::Fail;
 
 /// The gates of the made circuit.
 const GATES: u64 = 2000;
 
-/// Prints which queue an evaluation has.
-fn print_title(rt: &HostRuntime, title: &str, by: By) -> Result<(), Fail> {
+/// Prints which queue an evaluation has, and its pace.
+pub(crate) fn print_title(rt: &HostRuntime, title: &str, by: By, pace: Pace) -> Result<(), Fail> {
     match by {
-        By::List => println!(rt; "{title}, by a list")?,
-        By::Tree => println!(rt; "{title}, by a tree")?,
+        By::List => print!(rt; "{title}, by a list")?,
+        By::Tree => print!(rt; "{title}, by a tree")?,
+    }
+    match pace {
+        Pace::Steps => println!(rt; "")?,
+        Pace::Groups => println!(rt; ", in groups")?,
     }
     Ok(())
 }
 
 /// Prints how an evaluation ended.
-fn print_ending(rt: &HostRuntime, ending: Result<(), StepStop>) -> Result<(), Fail> {
+pub(crate) fn print_ending(rt: &HostRuntime, ending: Result<(), StepStop>) -> Result<(), Fail> {
     match ending {
         Ok(()) => {
             println!(rt; "Done")?;
@@ -52,29 +49,57 @@ fn print_bytes(rt: &HostRuntime, bytes: &[u8]) -> Result<(), Fail> {
     Ok(())
 }
 
-/// Prints the lines that the sink took for a circuit and a stimulus by a queue of this kind, and how it
-/// ended. Lines may be pending in the printer, so a newline more is sent after them, which isn't printed.
-pub(crate) fn print_lines<D: Device>(
+/// Evaluates a circuit for a stimulus, by a queue of this kind and at this pace, over a device of which these calls fail: what the
+/// sink took, and how it ended. Lines may be pending in the printer, so a newline more is sent after them.
+pub(crate) fn evaluated(
     rt: &HostRuntime,
-    rig: &mut Rig<'_, D>,
-    circuit: &mut MemShelf,
-    stimulus: &mut MemShelf,
-    title: &str,
+    circuit: &str,
+    stimulus: &str,
     by: By,
-) -> Result<(), Fail>
-    requires circuit { ((stand_of circuit.old).slot First).ready ≡ true }
-    requires stimulus { ((stand_of stimulus.old).slot Second).ready ≡ true }
-    requires has { HasFrames (seen D.state rig.old) }
-    ensures leaves { LeavesFrames (seen D.state rig.old) (seen D.state rig.new) }
-{
-    print_title(rt, title, by)?;
-    let mut sink = MemSink::new(rt.alloc(), PIECE, &[])?;
+    pace: Pace,
+    failing: &[u64],
+) -> Result<(MemSink, Result<(), StepStop>), Fail> {
+    let alloc = rt.alloc();
+    let mut circuit = shelf_of(alloc, Slot::First, circuit)?;
+    let mut stimulus = shelf_of(alloc, Slot::Second, stimulus)?;
+    let mut sink = MemSink::new(alloc, PIECE, &[])?;
     let mut printer = Printer::new();
-    let ending = evaluate_texts(rig, circuit, stimulus, by, &mut printer, &mut sink);
+    let mut device = MemDevice::new(alloc, failing)?;
+    let mut rig = opened(alloc, BLOCKS, &mut device)?;
+    let ending = evaluate_texts(
+        &mut rig,
+        &mut circuit,
+        &mut stimulus,
+        by,
+        pace,
+        &mut printer,
+        &mut sink,
+    );
+    let _cost = ended(rig);
     printer.end_line(&mut sink)?;
-    if let Some((_newline, lines)) = sink.bytes().split_last() {
-        print_bytes(rt, lines)?;
+    Ok((sink, ending))
+}
+
+/// The lines that a sink took, without the newline that is sent after them.
+pub(crate) fn lines_in(sink: &MemSink) -> &[u8] {
+    match sink.bytes().split_last() {
+        Some((_newline, lines)) => lines,
+        None => &[],
     }
+}
+
+/// Prints the lines of a circuit for a stimulus, by a queue of this kind and at this pace, and how it ended.
+pub(crate) fn print_lines(
+    rt: &HostRuntime,
+    title: &str,
+    circuit: &str,
+    stimulus: &str,
+    by: By,
+    pace: Pace,
+) -> Result<(), Fail> {
+    print_title(rt, title, by, pace)?;
+    let (sink, ending) = evaluated(rt, circuit, stimulus, by, pace, &[])?;
+    print_bytes(rt, lines_in(&sink))?;
     print_ending(rt, ending)
 }
 
@@ -82,7 +107,7 @@ pub(crate) fn print_lines<D: Device>(
 /// it ended.
 pub(crate) fn print_made(rt: &HostRuntime, by: By) -> Result<(), Fail> {
     let alloc = rt.alloc();
-    print_title(rt, "2000 made gates", by)?;
+    print_title(rt, "2000 made gates", by, Pace::Steps)?;
     let mut circuit = GenShelf::new(GenKind::Eval, 1, GATES);
     circuit.open(Slot::First, "")?;
     let mut stimulus = GenShelf::new(GenKind::Eval, 1, GATES);
@@ -96,6 +121,7 @@ pub(crate) fn print_made(rt: &HostRuntime, by: By) -> Result<(), Fail> {
         &mut circuit,
         &mut stimulus,
         by,
+        Pace::Steps,
         &mut printer,
         &mut tally,
     );

@@ -8,13 +8,15 @@
 mod chains;
 mod circuit;
 mod evaluation;
+mod failing;
+mod groups;
 mod lines;
 mod ordering;
 mod row;
 mod stop;
 
 use crate::circuit::{Part, print_row};
-use crate::evaluation::By;
+use crate::evaluation::{By, Pace};
 use crate::lines::print_made;
 use std::fs;
 use std::test::Fail;
@@ -38,7 +40,18 @@ fn print_table(rt: &HostRuntime, heading: &str, table: &str, parts: &[Part]) -> 
 }
 
 fn main(rt: HostRuntime) -> Result<(), Fail> {
-    let queues = [Part::Lines(By::List), Part::Lines(By::Tree)];
+    let steps = [
+        Part::Lines(By::List, Pace::Steps),
+        Part::Lines(By::Tree, Pace::Steps),
+    ];
+    let groups = [
+        Part::Lines(By::List, Pace::Groups),
+        Part::Lines(By::Tree, Pace::Groups),
+    ];
+    let failing = [
+        Part::Failing(By::Tree, Pace::Steps),
+        Part::Failing(By::Tree, Pace::Groups),
+    ];
     print_table(&rt, "Texts in ASCII", "texts_in_ascii", &[Part::Chains])?;
     print_table(
         &rt,
@@ -47,7 +60,10 @@ fn main(rt: HostRuntime) -> Result<(), Fail> {
         &[Part::Chains],
     )?;
     print_table(&rt, "Edges between ranks", "circuits", &[Part::Edges])?;
-    print_table(&rt, "Evaluations", "evaluations", &queues)?;
+    print_table(&rt, "Evaluations", "evaluations", &steps)?;
+    print_table(&rt, "Evaluations in groups", "evaluations", &groups)?;
+    print_table(&rt, "Many lines", "many_lines", &groups)?;
+    print_table(&rt, "Failing calls of the device", "failing", &failing)?;
     print_made(&rt, By::List)?;
     print_made(&rt, By::Tree)
 }

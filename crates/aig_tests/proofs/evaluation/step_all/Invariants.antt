@@ -9,7 +9,7 @@ invariant-loop g l =
     let now = seen g.D.Device.state l.rig in
     record {
       ready : ReadyToStep g.Q.Queue (2 ^ 90 + l.counter * 2 ^ 44)
-          (source g.H.Shelf l.feed l.shelf) now l.evaluator;
-      keeps : KeepsFrames (g.Q.Queue.counts l.fn.evaluator.queue)
-          (g.Q.Queue.counts l.evaluator.queue) (seen g.D.Device.state l.fn.rig) now;
+          (source g.H.Shelf l.feed l.shelf) now l.evaluator.sweeper;
+      keeps : KeepsFrames (g.Q.Queue.counts l.fn.evaluator.sweeper.queue)
+          (g.Q.Queue.counts l.evaluator.sweeper.queue) (seen g.D.Device.state l.fn.rig) now;
     }
