@@ -34,7 +34,7 @@ use Rattle.aig_edges.specs.BuildGraph.{BuildsGraph, StopsBuilding, StoresSorted}
 use Rattle.aig_edges.specs.Graph.{IsGraph, IsGraphOf, edge_count, graph_blocks, graph_size}
 use Rattle.aig_edges.specs.declared.graph.Graph.{Graph}
 use Rattle.aig_edges.proofs.GraphLaws.{GraphStays, graph_stays}
-use Rattle.aig_forward.specs.Evaluator.{without_frames}
+use Rattle.aig_sweep.specs.Sweeper.{without_frames}
 use Rattle.aig_order.specs.OrderGraph.{OfDefinedCircuit}
 use Rattle.aig_bin.specs.EitherForm.{ReadsEither, SpellsEither}
 use Rattle.emtool.specs.EvalSize.{given_of}

@@ -1,5 +1,5 @@
 -- How the steps of an evaluation end: its rig, what went out, and why it stopped.
-use Rattle.std.proofs.Common.{◌≡◌, ℕ, ◌+◌, ◌-◌, ◌*◌, ◌≤◌, ◌^◌, ◌⊎◌, List, [], ◌++◌, ap, sym, subst, ◌∙◌, refl, arith, IsTrue, inl, inr, ⊎_elim, Result, Ok, Err, IfErr, OnOk}
+use Rattle.std.proofs.Common.{◌≡◌, Bool, ℕ, ◌+◌, ◌-◌, ◌*◌, ◌≤◌, ◌^◌, ◌⊎◌, List, [], ◌++◌, ap, sym, subst, ◌∙◌, refl, arith, IsTrue, inl, inr, ⊎_elim, Result, Ok, Err, IfErr, OnOk}
 use Rattle.em_record.specs.Count.{Rose}
 use Rattle.em_record.specs.Shape.{ShapeNumbers, fan_of}
 use Rattle.em_io.specs.Sink.{IsRule, Sent, SentPart}
@@ -27,11 +27,11 @@ use Rattle.aig_defs.specs.Value.{run_of}
 use Rattle.aig_edges.specs.Graph.{IsOrdered, IsOrderedOf, ordered_blocks}
 use Rattle.aig_edges.specs.declared.graph.Ordered.{Ordered}
 use Rattle.aig_edges.proofs.OrderedLaws.{OrderedStays, ordered_stays}
-use Rattle.aig_forward.specs.Evaluator.{BeginsEvaluator, BeginsFor, Evaluates, FailsToBegin, evaluator_blocks}
-use Rattle.aig_forward.specs.Outputs.{KeepsFront}
-use Rattle.aig_forward.specs.declared.evaluator.Evaluator.{Evaluator}
-use Rattle.emtool.specs.EvalMoves.{making_moves, steps_moves}
-use Rattle.emtool.specs.Evaluation.{CanBegin, CanRunSteps, EndsAs, EndsSteps, FillsEval, OnDue, PrintsAll, PrintsLines, PrintsSteps, RunsSteps, SendsRest, StepsCause, UnlessWrite, steps_of}
+use Rattle.aig_sweep.specs.Scene.{KeepsFront}
+use Rattle.aig_sweep.specs.Sweeper.{BeginsFor, BeginsSweeper, Evaluates, FailsToBegin, sweeper_blocks}
+use Rattle.aig_sweep.specs.declared.sweeper.Sweeper.{Sweeper}
+use Rattle.emtool.specs.EvalMoves.{making_moves, rounds_moves}
+use Rattle.emtool.specs.Evaluation.{CanBegin, CanRunSteps, EndsAs, EndsSteps, FillsEval, OnDue, PrintsAll, PrintsLines, PrintsSteps, Round, RunsSteps, SendsRest, StepsCause, UnlessWrite, steps_of}
 use Rattle.emtool.specs.Opens.{IsAllRead}
 use Rattle.emtool.specs.Queues.{FailsToMake, MakesQueue}
 use Rattle.emtool.specs.Stop.{Faults, IfStopsFull, fault_counts}
@@ -194,21 +194,21 @@ module _ {Q : Type 0} {queue : QueueGhosts Q} {s m t : RigState} {o : Ordered} {
 
 -- An evaluator was made on a rig of which no other block is in use.
 pub record Made {Q : Type 0} (queue : QueueGhosts Q) (s m a : RigState) (o : Ordered) (q : Q)
-    (e : Evaluator Q) : Type 0 where
+    (e : Sweeper Q) : Type 0 where
   pub can : CanBegin s o
   pub makes : MakesQueue queue s m q
-  pub begins : BeginsEvaluator queue m a o q e
+  pub begins : BeginsSweeper queue m a o q e
 
 -- from what the calls say
 pub made_by : {Q : Type 0} {queue : QueueGhosts Q} {s m a : RigState} {o : Ordered} {q : Q}
-    {e : Evaluator Q} → CanBegin s o → MakesQueue queue s m q → BeginsEvaluator queue m a o q e
+    {e : Sweeper Q} → CanBegin s o → MakesQueue queue s m q → BeginsSweeper queue m a o q e
     → Made queue s m a o q e
 made_by can makes begins = record { can = can; makes = makes; begins = begins }
 
 module _ {Q : Type 0} {queue : QueueGhosts Q} {s m a : RigState} {o : Ordered} {q : Q}
-    {e : Evaluator Q} (u : Made queue s m a o q e) where
+    {e : Sweeper Q} (u : Made queue s m a o q e) where
   -- what is held is the edges', or wasn't in use
-  made_session : Session (ordered_blocks s o) s a (evaluator_blocks queue a e)
+  made_session : Session (ordered_blocks s o) s a (sweeper_blocks queue a e)
   made_session = session_trans (session_beside_edges u.can u.makes)
       u.begins.runs.runs.session
 
@@ -254,16 +254,16 @@ module _ {Q : Type 0} {queue : QueueGhosts Q} {s m a : RigState} {o : Ordered} {
 
 -- Steps were made by it, and its frames came back.
 pub record Ran {Q : Type 0} (queue : QueueGhosts Q) (s m a b t : RigState) (o : Ordered) (q : Q)
-    (e d : Evaluator Q) : Type 0 where
+    (e d : Sweeper Q) : Type 0 where
   pub made : Made queue s m a o q e
   pub sound : Sound b
-  pub touches : Touches (evaluator_blocks queue a e) a b
+  pub touches : Touches (sweeper_blocks queue a e) a b
   pub shares : Shares (queue.counts e.queue) (queue.counts d.queue) a.pool b.pool
   pub leaves : Leaves (queue.counts d.queue) b t
   pub paid : (2 ^ 64 - 1 ≤ b.moves) ⊎ (b.used ≤ b.moves + 2 * b.pool.shape.frames)
 
 module _ {Q : Type 0} {queue : QueueGhosts Q} {s m a b t : RigState} {o : Ordered} {q : Q}
-    {e d : Evaluator Q} (r : Ran queue s m a b t o q e d) where
+    {e d : Sweeper Q} (r : Ran queue s m a b t o q e d) where
   -- the machine is the same
   shape_kept : t.pool.shape ≡ s.pool.shape
   shape_kept = r.leaves.touches.shape ∙ r.touches.shape ∙ (made_touches r.made).shape
@@ -275,7 +275,7 @@ module _ {Q : Type 0} {queue : QueueGhosts Q} {s m a b t : RigState} {o : Ordere
       let held = made_session u in
       let first = u.begins.runs.runs.frames in
       let lent = u.makes.frames in
-      let steps = touches_within s a b (ordered_blocks s o) (evaluator_blocks queue a e) held.touches
+      let steps = touches_within s a b (ordered_blocks s o) (sweeper_blocks queue a e) held.touches
       held.within r.touches in
       let x = r.shares in
       let y = r.leaves.frames in
@@ -301,27 +301,28 @@ module _ {Q : Type 0} {queue : QueueGhosts Q} {s m a b t : RigState} {o : Ordere
 
 -- At first an evaluator evaluates each circuit whose edges these are, from the resets.
 pub evaluates_first : {Q : Type 0} {queue : QueueGhosts Q} {s m a : RigState} {o : Ordered} {q : Q}
-    {e : Evaluator Q} → Made queue s m a o q e → (IsTrue m.device.told → BeginsFor queue m a o e)
+    {e : Sweeper Q} → Made queue s m a o q e → (IsTrue m.device.told → BeginsFor queue m a o e)
     → IsTrue s.device.told → (c : Circuit) (order : List Gate) → IsOrderedOf s o c order
     → Evaluates queue a e c order (resets c.latches)
 evaluates_first u meaning z c order is = meaning (u.makes.session.touches.told ∙ z) c order
     ((still_ordered u.can.is u.makes.session.touches).of z c order is)
 
--- The moves of an evaluation are those of making its evaluator, and of the steps that were begun.
-abbrev pub KeepsSteps : {H : Type 0} → ShelfGhosts H → RigState → RigState → Ordered → H → H → Type 0
-KeepsSteps h s t o shelf shelf_after = IsTrue h.tells → IsTrue s.device.told
+-- The moves of an evaluation are those of making its evaluator, and of the rounds of the steps that were begun.
+abbrev pub KeepsSteps : Bool → {H : Type 0} → ShelfGhosts H → RigState → RigState → Ordered → H → H
+    → Type 0
+KeepsSteps wide h s t o shelf shelf_after = IsTrue h.tells → IsTrue s.device.told
     → t.moves ≤ s.moves + (making_moves s.pool.shape (circuit_size o.header)
-    + steps_moves s.pool.shape (circuit_size o.header)
+    + rounds_moves wide s.pool.shape (circuit_size o.header)
     (steps_of o.header.inputs ((h.stand shelf).slot Second).left ((h.stand shelf_after).slot Second)))
 
 -- An evaluator was made, its steps were made, its frames came back, and what was pending was sent.
 pub record Evaluated {H W Q : Type 0} (h : ShelfGhosts H) (w : SinkGhosts W) (queue : QueueGhosts Q)
-    (s m a b t : RigState) (o : Ordered) (q : Q) (e d : Evaluator Q) (shelf shelf_after : H)
+    (round : Round) (s m a b t : RigState) (o : Ordered) (q : Q) (e d : Sweeper Q) (shelf shelf_after : H)
     (out mid out_after : W) (pending : List ℕ) (done result : Result (Unit {0}) Stop)
     : Type 0 where
   pub made : Made queue s m a o q e
   pub meaning : IsTrue m.device.told → BeginsFor queue m a o e
-  pub steps : PrintsSteps h w queue a b e d shelf shelf_after out mid pending done
+  pub steps : PrintsSteps h w queue round a b e d shelf shelf_after out mid pending done
   pub leaves : Leaves (queue.counts d.queue) b t
   pub sends : SendsRest w done pending mid out_after result
   pub rule : IsRule w.IsState w.took
@@ -329,13 +330,13 @@ pub record Evaluated {H W Q : Type 0} (h : ShelfGhosts H) (w : SinkGhosts W) (qu
 
 -- from what the calls say
 pub evaluated_by : {H W Q : Type 0} {h : ShelfGhosts H} {w : SinkGhosts W} {queue : QueueGhosts Q}
-    {s m a b t : RigState} {o : Ordered} {q : Q} {e d : Evaluator Q} {shelf shelf_after : H}
+    {round : Round} {s m a b t : RigState} {o : Ordered} {q : Q} {e d : Sweeper Q} {shelf shelf_after : H}
     {out mid out_after : W} {pending : List ℕ} {done result : Result (Unit {0}) Stop}
     → Made queue s m a o q e → (IsTrue m.device.told → BeginsFor queue m a o e)
-    → PrintsSteps h w queue a b e d shelf shelf_after out mid pending done
+    → PrintsSteps h w queue round a b e d shelf shelf_after out mid pending done
     → Leaves (queue.counts d.queue) b t → SendsRest w done pending mid out_after result
     → IsRule w.IsState w.took → w.IsState (w.state out)
-    → Evaluated h w queue s m a b t o q e d shelf shelf_after out mid out_after pending done result
+    → Evaluated h w queue round s m a b t o q e d shelf shelf_after out mid out_after pending done result
 evaluated_by made meaning steps leaves sends rule ok = record {
   made = made;
   meaning = meaning;
@@ -347,9 +348,9 @@ evaluated_by made meaning steps leaves sends rule ok = record {
 }
 
 module _ {H W Q : Type 0} {h : ShelfGhosts H} {w : SinkGhosts W} {queue : QueueGhosts Q}
-    {s m a b t : RigState} {o : Ordered} {q : Q} {e d : Evaluator Q} {shelf shelf_after : H}
+    {round : Round} {s m a b t : RigState} {o : Ordered} {q : Q} {e d : Sweeper Q} {shelf shelf_after : H}
     {out mid out_after : W} {pending : List ℕ} {done result : Result (Unit {0}) Stop}
-    (v : Evaluated h w queue s m a b t o q e d shelf shelf_after out mid out_after pending done result)
+    (v : Evaluated h w queue round s m a b t o q e d shelf shelf_after out mid out_after pending done result)
   where
     -- the stimulus
     abbrev text : List ℕ
@@ -428,9 +429,9 @@ module _ {H W Q : Type 0} {h : ShelfGhosts H} {w : SinkGhosts W} {queue : QueueG
         (λ rose. tt)
 
     -- So the evaluation ended as promised, if its moves are those of its steps.
-    pub runs_all : KeepsSteps h s t o shelf shelf_after
-        → RunsSteps h w s t o shelf shelf_after out out_after result
-    runs_all moves = record {
+    pub runs_all : (wide : Bool) → KeepsSteps wide h s t o shelf shelf_after
+        → RunsSteps wide h w s t o shelf shelf_after out out_after result
+    runs_all wide moves = record {
       goes = ran_goes ran;
       reads = v.steps.reads;
       read_later = v.steps.read_later;
@@ -447,12 +448,12 @@ module _ {H W Q : Type 0} {h : ShelfGhosts H} {w : SinkGhosts W} {queue : QueueG
     }
 
 -- No step was made, since the rig gave up before.
-pub runs_none : {H W : Type 0} (h : ShelfGhosts H) (w : SinkGhosts W) {s t : RigState} {o : Ordered}
+pub runs_none : {H W : Type 0} (wide : Bool) (h : ShelfGhosts H) (w : SinkGhosts W) {s t : RigState} {o : Ordered}
     {fault : EmFault} (shelf : H) (out : W) → IsRule w.IsState w.took → w.IsState (w.state out)
     → Goes (ordered_blocks s o) s t → Cause s t fault
     → (2 ^ 64 - 1 ≤ t.moves) ⊎ (t.used ≤ t.moves + 2 * t.pool.shape.frames)
-    → KeepsSteps h s t o shelf shelf → RunsSteps h w s t o shelf shelf out out (Err (Em fault))
-runs_none h w {s = s} {t = t} {fault = fault} shelf out rule ok goes cause paid moves = record {
+    → KeepsSteps wide h s t o shelf shelf → RunsSteps wide h w s t o shelf shelf out out (Err (Em fault))
+runs_none wide h w {s = s} {t = t} {fault = fault} shelf out rule ok goes cause paid moves = record {
   goes = goes;
   reads = record {
     leaves = record { text = refl; others = λ k e. refl };

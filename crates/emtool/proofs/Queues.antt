@@ -14,7 +14,7 @@ use Rattle.em_pqueue.specs.ExtQueue.{counts_of as ext_counts}
 use Rattle.em_pqueue.specs.contracts.queue.ExtQueueQueue.TheImpl.{ghosts as ext}
 use Rattle.em_pqueue.specs.declared.queue.ExtQueue.{ExtQueue}
 use Rattle.aig_edges.specs.Graph.{CanBuild}
-use Rattle.aig_forward.specs.Evaluator.{without_frames}
+use Rattle.aig_sweep.specs.Sweeper.{without_frames}
 use Rattle.emtool.specs.Queues.{FailsToMake, MakesQueue}
 use Rattle.emtool.specs.Run.{IsReady}
 

@@ -16,7 +16,7 @@ use Rattle.em_space.specs.declared.queue.Queue.{Ghosts as QueueGhosts}
 use Rattle.em_space.proofs.Queues.{shares_then}
 use Rattle.em_space.proofs.Steps.{cause_after, touches_then}
 use Rattle.em_space.proofs.Within.{touches_within}
-use Rattle.aig_forward.specs.Evaluator.{without_frames}
+use Rattle.aig_sweep.specs.Sweeper.{without_frames}
 use Rattle.emtool.specs.CommandLine.{first_fault, good_commands}
 use Rattle.emtool.specs.Asked.{Limits, asked_by}
 use Rattle.emtool.specs.FileDue.{output_text, status_for, text_unless}

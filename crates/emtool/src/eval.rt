@@ -13,7 +13,7 @@ ghost use Rattle.em_io.specs.Shelf.{IsFresh};
 ghost use Rattle.em_space.specs.Rig.{Goes};
 ghost use Rattle.em_space.specs.Seen.{seen};
 ghost use Rattle.emtool.specs.Due.{names_of};
-ghost use Rattle.emtool.specs.Evaluation.{CanBegin, CanRunSteps, PrintsSteps, ReadsCircuit, RunsSteps, SendsRest};
+ghost use Rattle.emtool.specs.Evaluation.{CanBegin, CanRunSteps, PrintsSteps, ReadsCircuit, RunsSteps, SendsRest, group_round, step_round};
 ghost use Rattle.emtool.specs.Job.{start_of};
 ghost use Rattle.emtool.specs.Run.{IsReady, RunsTask};
 ghost use Rattle.emtool.specs.Service.{IsUnused};
@@ -27,6 +27,7 @@ use aig_defs::AigKind;
 use aig_edges::{Ordered, check_and_build};
 use aig_forward::{Evaluator, StepEnd};
 use aig_order::order;
+use aig_wide::{GroupEnd, WideEvaluator};
 use em_frames::Device;
 use em_io::{Feed, Printer, Shelf, Sink, Slot};
 use em_pqueue::ExtQueue;
@@ -77,17 +78,45 @@ fn run_steps<D: Device, H: Shelf, W: Sink, Q: Queue>(
     printer: &mut Printer,
     out: &mut W,
 ) -> Result<(), Stop>
-    requires can { CanRunSteps Q.Queue (seen D.state rig.old) evaluator.old }
+    requires can { CanRunSteps Q.Queue (seen D.state rig.old) evaluator.old.sweeper }
     requires ready { ((H.stand shelf.old).slot Slot.Second).ready ≡ true }
     requires none { printer.old ≡ [] }
-    ensures steps { PrintsSteps H.Shelf W.Sink Q.Queue (seen D.state rig.old) (seen D.state rig.new)
-        evaluator.old evaluator.new shelf.old shelf.new out.old out.new printer.new result }
+    ensures steps { PrintsSteps H.Shelf W.Sink Q.Queue
+        (step_round (seen D.state rig.old) evaluator.old.sweeper) (seen D.state rig.old)
+        (seen D.state rig.new) evaluator.old.sweeper evaluator.new.sweeper shelf.old shelf.new
+        out.old out.new printer.new result }
 {
     let mut feed = Feed::new(Slot::Second);
     loop {
         match evaluator.step(rig, &mut feed, shelf, printer, out)? {
             StepEnd::Printed => {}
             StepEnd::End => return Ok(()),
+        }
+    }
+}
+
+/// Makes the same steps of a circuit without latches, up to 64 at once.
+fn run_groups<D: Device, H: Shelf, W: Sink, Q: Queue>(
+    rig: &mut Rig<'_, D>,
+    evaluator: &mut WideEvaluator<Q>,
+    shelf: &mut H,
+    printer: &mut Printer,
+    out: &mut W,
+) -> Result<(), Stop>
+    requires can { CanRunSteps Q.Queue (seen D.state rig.old) evaluator.old.sweeper }
+    requires no_latch { evaluator.old.sweeper.header.latches ≡ 0 }
+    requires ready { ((H.stand shelf.old).slot Slot.Second).ready ≡ true }
+    requires none { printer.old ≡ [] }
+    ensures steps { PrintsSteps H.Shelf W.Sink Q.Queue
+        (group_round (seen D.state rig.old) evaluator.old.sweeper) (seen D.state rig.old)
+        (seen D.state rig.new) evaluator.old.sweeper evaluator.new.sweeper shelf.old shelf.new
+        out.old out.new printer.new result }
+{
+    let mut feed = Feed::new(Slot::Second);
+    loop {
+        match evaluator.group(rig, &mut feed, shelf, printer, out)? {
+            GroupEnd::Printed(_) => {}
+            GroupEnd::End => return Ok(()),
         }
     }
 }
@@ -136,6 +165,27 @@ fn evaluate<D: Device, H: Shelf, W: Sink>(
     send_rest(done, &mut printer, out)
 }
 
+/// The same of a circuit without latches, up to 64 steps at once.
+fn evaluate_wide<D: Device, H: Shelf, W: Sink>(
+    rig: &mut Rig<'_, D>,
+    ordered: Ordered,
+    shelf: &mut H,
+    out: &mut W,
+) -> Result<(), Stop>
+    requires can { CanBegin (seen D.state rig.old) ordered }
+    requires no_latch { ordered.header.latches ≡ 0 }
+    requires ready { ((H.stand shelf.old).slot Slot.Second).ready ≡ true }
+    ensures runs { RunsSteps true H.Shelf W.Sink (seen D.state rig.old) (seen D.state rig.new)
+        ordered shelf.old shelf.new out.old out.new result }
+{
+    let queue = ExtQueue::new(rig)?;
+    let mut evaluator = WideEvaluator::new(rig, ordered, queue)?;
+    let mut printer = Printer::new();
+    let done = run_groups(rig, &mut evaluator, shelf, &mut printer, out);
+    evaluator.abandon(rig);
+    send_rest(done, &mut printer, out)
+}
+
 /// The same, one step after another or, if it is wide, up to 64 at once. Then the circuit has no latches.
 fn evaluate_either<D: Device, H: Shelf, W: Sink>(
     wide: bool,
@@ -150,8 +200,11 @@ fn evaluate_either<D: Device, H: Shelf, W: Sink>(
     ensures runs { RunsSteps wide H.Shelf W.Sink (seen D.state rig.old) (seen D.state rig.new)
         ordered shelf.old shelf.new out.old out.new result }
 {
-    let _wide = wide;
-    evaluate(rig, ordered, shelf, out)
+    if wide {
+        evaluate_wide(rig, ordered, shelf, out)
+    } else {
+        evaluate(rig, ordered, shelf, out)
+    }
 }
 
 /// Evaluates the circuit of the first name on the stimulus of the second, on an open rig of which
