@@ -1,5 +1,5 @@
 -- The edges of both chains, one after the other.
-use Rattle.std.proofs.Common.{◌≡◌, ℕ, ◌+◌, ◌≤◌, Bool, false, List, [], ◌∷◌, ◌++◌, length, drop, IsTrue, ap, refl, subst, sym, ◌∙◌, arith}
+use Rattle.std.proofs.Common.{◌≡◌, ℕ, ◌+◌, ◌*◌, ◌<◌, ◌≤◌, ◌^◌, Bool, false, List, [], ◌∷◌, ◌++◌, length, drop, IsTrue, ap, refl, subst, sym, ◌∙◌, arith}
 use Rattle.std.proofs.lemmas.List.{append-nil}
 use Rattle.em_record.specs.Shape.{fan_of}
 use Rattle.em_record.specs.declared.record.Record.{Record}
@@ -20,7 +20,9 @@ use Rattle.aig_edges.specs.Graph.{edge_count}
 use Rattle.aig_sweep.specs.Messages.{ComeFrom, Reaches, Sendable, Sending, Solves}
 use Rattle.aig_sweep.specs.Passes.{CanSendChain, Passes, SendsChain, StopsPassing, held_blocks, reading_account}
 use Rattle.aig_sweep.specs.QueueState.{QueueState}
-use Rattle.aig_sweep.specs.Spreads.{CanSendBoth, HasValues, base_of, last_of}
+use Rattle.aig_sweep.specs.Evaluates.{CanEvaluate}
+use Rattle.aig_sweep.specs.Nexts.{CanCollect}
+use Rattle.aig_sweep.specs.Spreads.{CanSendBoth, HasValues, Spreads, base_of, last_of}
 use Rattle.aig_sweep.proofs.Passes.{passes_more, passes_stop, passes_then, stops_account}
 use Rattle.aig_sweep.proofs.Sends.{passes_account}
 
@@ -227,3 +229,26 @@ values_as {value} {all} {given} {gates} {bits} {x} {y} {z} {h} a b c v =
     subst (λ (l : List Record). HasValues value all h l y z) (sym a)
     (subst (λ (l : List Record). HasValues value all h given l z) (sym b)
     (subst (λ (l : List Record). HasValues value all h given gates l) (sym c) v))
+
+-- Of the messages that are left this many may be kept, and the others taken.
+pub spread_collects : {h : Header} {given gates bits : Chain} {q p : QueueState} (keep : ℕ)
+    → CanEvaluate q.rig.pool → q.counts.n + 2 * edge_count h < 2 ^ 100
+    → keep + 2 * h.gates ≤ edge_count h → Spreads h given gates bits q p → CanCollect keep p
+spread_collects keep free few least k =
+    let f = k.runs.runs.frames in
+    let fan = ap fan_of f.shape in
+    let singles = free.singles in
+    let areas = free.areas in
+    let n = k.runs.calls_on.called.n in
+    let more = k.more in
+    let fewer = k.fewer in
+    record {
+      sound = k.runs.runs.session.sound;
+      free = record {
+        singles = omega (arith, singles, fan, f.free);
+        areas = omega (arith, areas, f.free_areas);
+        rack = f.rack ∙ free.rack;
+      };
+      few = omega (arith, n, few, more);
+      least = omega (arith, fewer, least);
+    }

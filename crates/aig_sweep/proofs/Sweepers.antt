@@ -1,5 +1,5 @@
--- An evaluator that is made, ended or abandoned.
-use Rattle.std.proofs.Common.{◌≡◌, ℕ, ◌+◌, ◌*◌, ◌≤◌, List, [], ◌∷◌, ◌++◌, length, Bool, true, false, eqb, refl, sym, ap, ap₂, ◌∙◌, subst, arith, IsTrue, Option, Some, None, IfSome, Result, Ok, Err, OnOk, OnErr, IfErr}
+-- A sweeper that is made, ended or abandoned.
+use Rattle.std.proofs.Common.{◌≡◌, ℕ, ◌+◌, ◌*◌, ◌≤◌, List, [], ◌∷◌, ◌++◌, length, Bool, true, false, refl, sym, ap, ap₂, ◌∙◌, subst, arith, IsTrue, Option, Some, None, IfSome, Result, Ok, Err, OnOk, OnErr, IfErr}
 use Rattle.em_record.specs.Shape.{ShapeNumbers}
 use Rattle.em_record.specs.declared.record.Record.{Record}
 use Rattle.em_space.specs.Held.{Holds}
@@ -31,13 +31,15 @@ use Rattle.aig_sweep.specs.Bits.{bits_of}
 use Rattle.aig_sweep.specs.Sweeper.{BeginsSweeper, EndsSweeper, EndsTo, Evaluates, Halted, IsSweeper, lists_blocks, lists_size, without_frames}
 use Rattle.aig_sweep.specs.Lists.{AreLists, Makes, lists_account}
 use Rattle.aig_sweep.specs.declared.sweeper.Sweeper.{Sweeper}
+use Rattle.aig_words.specs.Words.{lane, says}
 
--- the bits of resets
-bit_is : (b : Bool) → eqb (bit b) 1 ≡ b
+-- the bits of resets, in lane 0
+bit_is : (b : Bool) → says 0 (bit b) ≡ b
 bit_is true = refl
 bit_is false = refl
 
-reset_bits : (j : ℕ) (ls : List Latch) → bits_of (numbered reset_record j ls) ≡ resets ls
+reset_bits : (j : ℕ) (ls : List Latch)
+    → bits_of (lane 0 (numbered reset_record j ls)) ≡ resets ls
 reset_bits j [] = refl
 reset_bits j (l ∷ ls) = ap₂ (λ (b : Bool) (bs : List Bool). b ∷ bs) (bit_is l.reset)
     (reset_bits (j + 1) ls)
@@ -104,7 +106,8 @@ module _ {Q : Type 0} (queue : Ghosts Q) {s t : RigState} (o : Ordered) (q : Q)
       edges = sym (made.items z) ∙ i.edges;
       low = made.low z;
       high = made.high z;
-      bits = ap bits_of (made.resets_are z ∙ i.resets) ∙ reset_bits 0 c.latches;
+      bits = ap (λ (xs : List Record). bits_of (lane 0 xs)) (made.resets_are z ∙ i.resets)
+          ∙ reset_bits 0 c.latches;
       none = items ∙ none_of (queue.items q s) (sym len ∙ empty);
     }
 
@@ -149,7 +152,7 @@ left_halted {p} {n} {ks} {m} {c} {s} {t} {u} {e} qs blocks k g most stored =
       cause_still s t u e v g.touches k.cause,
     )
 
--- The lists of an evaluator are apart.
+-- The lists of a sweeper are apart.
 pub lists_of : {Q : Type 0} {queue : Ghosts Q} {s : RigState} {e : Sweeper Q}
     → IsSweeper queue s e → AreLists s e.state e.given e.gates
 lists_of {Q} {queue} {s} {e} i = record {

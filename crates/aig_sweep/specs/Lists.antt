@@ -1,4 +1,4 @@
--- The three lists of a sweeper: the state of its latches, the edges from ranks whose bits are
+-- The three lists of a sweeper: the state of its latches, the edges from ranks whose words are
 -- given, and those from gates; and the sizes of lists of words.
 use Rattle.std.specs.Prelude.{◌≡◌, ◌<◌, ◌≤◌, ℕ, ◌+◌, ◌*◌, [], ◌++◌, All, IsTrue, Result, Ok, Err}
 use Rattle.em_record.specs.declared.record.Record.{Record}

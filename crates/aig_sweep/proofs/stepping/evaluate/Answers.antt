@@ -1,5 +1,5 @@
-use Rattle.std.proofs.Common.{◌-◌, ◌∙◌, ap, arith, sym, IsTrue, List}
-use Rattle.em_record.specs.Shape.{ShapeNumbers, fan_of}
+use Rattle.std.proofs.Common.{◌+◌, ◌*◌, ◌-◌, ◌∙◌, ap, arith, sym, IsTrue, List}
+use Rattle.em_record.specs.Shape.{ShapeNumbers}
 use Rattle.em_space.specs.Seen.{seen}
 use Rattle.em_chain.specs.Counts.{ceiling}
 use Rattle.em_chain.proofs.Readers.{length_items}
@@ -13,30 +13,14 @@ use Rattle.aig_words.specs.Words.{in_lane, lane}
 use Rattle.aig_words.proofs.Words.{lane_drop, lane_take}
 use Rattle.aig_sweep.proofs.Circuits.{has_values, waits_ends}
 use Rattle.aig_sweep.proofs.Passes.{of_error}
+use Rattle.aig_sweep.proofs.Spreads.{spread_collects}
 use Rattle.aig_sweep.proofs.stepping.evaluate.Goals as goal
 
 pub collect-requires-clause-ready : goal.collect-requires-clause-ready
 collect-requires-clause-ready g c =
-    let k = c.in_ok-spread.ensures.spreads in
-    let f = k.runs.runs.frames in
-    let fan = ap fan_of f.shape in
-    let free = c.requires.free in
-    let singles = free.singles in
-    let areas = free.areas in
-    let n = k.runs.calls_on.called.n in
-    let few = c.requires.few in
-    let more = k.more in
-    let fewer = k.fewer in
-    record {
-      sound = k.runs.runs.session.sound;
-      free = record {
-        singles = omega (arith, singles, fan, f.free);
-        areas = omega (arith, areas, f.free_areas);
-        rack = f.rack ∙ free.rack;
-      };
-      few = omega (arith, n, few, more);
-      least = omega (arith, fewer);
-    }
+    let h = c.args.header.now in
+    spread_collects (h.latches + (h.outputs + h.bads + h.constraints)) c.requires.free c.requires.few
+    (omega arith) c.in_ok-spread.ensures.spreads
 
 pub collect-requires-clause-few : goal.collect-requires-clause-few
 collect-requires-clause-few g c =
