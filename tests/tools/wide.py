@@ -26,7 +26,7 @@ SHAPES = ["--block=128", "--frames=64"], []
 TRIED = 60
 # numbers of inputs, of columns and of lines: words and groups have 64 bits and lines
 WIDTHS = 0, 1, 2, 5, 63, 64, 65, 127, 128, 130
-LINES = 0, 1, 2, 63, 64, 65, 100, 127, 128, 129, 130, 200
+LINES = 0, 1, 2, 63, 64, 65, 100, 127, 128, 129, 130
 
 
 class Drawn:

@@ -135,6 +135,31 @@ const EVALUATED: [&str; 11] = [
      77 0,6 2|14 0,1 2,1 4|1 0,1 3",
 ];
 
+/// Circuits without latches, which are evaluated many lines at once. The device is called before the first group as
+/// before the first step above, and a group makes 4 calls more than a step: 2 take a block for the columns' words and store
+/// it, and 2 load and release it. The lines of a group go to the printer after all of its calls, so that a
+/// call that fails in a group leaves those of the groups before it.
+const IN_GROUPS: [&str; 4] = [
+    // The conjunction on two lines. The device: 81 calls, 71 before the first group and its 10. The shelf: 15 calls, as of
+    // two steps; all come in the one group, since it looks for a third line. The output: two calls.
+    "eval --wide --block=128 --frames=64 a s|aag 3 2 0 1 1/2/4/6/6 2 4/|11/01/|1/0/|0|81 0|15 0|1 0,1 3",
+    // The second line ends too early. The device: 81 calls, since the group has one line. The shelf: 14 calls, since the
+    // fault is found before the end. The output: one call.
+    "eval --wide --block=128 --frames=64 a s|aag 3 2 0 1 1/2/4/6/6 2 4/|11/0/|1/|2|81 0|14 0|1 0",
+    // The first line ends too early, and the group has none. The device: 71 calls. The shelf: 13 calls. The output isn't
+    // called.
+    "eval --wide --block=128 --frames=64 a s|aag 3 2 0 1 1/2/4/6/6 2 4/|1/11/||2|71 0|13 0|",
+    // The constant 1 on 65 lines, of which the last one is a group of its own. The device: 54 calls: 44 before the first
+    // group, and 5 in each: 1 loads the edge, 2 take a block for the column's word and store it, and 2 load and release it.
+    // The shelf: 32 calls: 8 for the circuit, 1 that opens the stimulus, 22 for its 65 bytes, of which the last one gives the
+    // 65th line too, and 1 at its end. The output: 44 calls for 130 bytes.
+    "eval --wide --block=128 --frames=64 a s|aag 0 0 0 1 0/1/|\
+     /////////////////////////////////////////////////////////////////|\
+     1/1/1/1/1/1/1/1/1/1/1/1/1/1/1/1/1/1/1/1/1/1/1/1/1/1/1/1/1/1/1/1/\
+     1/1/1/1/1/1/1/1/1/1/1/1/1/1/1/1/1/1/1/1/1/1/1/1/1/1/1/1/1/1/1/1/1/|0|\
+     49 0,5 128|31 0,1 128|44 0+3",
+];
+
 /// Circuits with a fault, or with a stimulus that isn't there: no step is made, and the output isn't called.
 const REFUSED: [&str; 13] = [
     // A fault of a line is found before a list is stored: the device is only begun. The shelf: the call that opens the
@@ -185,6 +210,16 @@ fn evaluations_end_at_each_failing_call(rt: HostRuntime) -> Result<(), Fail> {
 fn refused_circuits_end_at_each_failing_call(rt: HostRuntime) -> Result<(), Fail> {
     let mut number = 0u64;
     for row in REFUSED {
+        number = number.saturating_add(1);
+        assert_eq!(rt; wrong_in(&rt, row)?, None, "row {number}");
+    }
+    Ok(())
+}
+
+#[test]
+fn groups_end_at_each_failing_call(rt: HostRuntime) -> Result<(), Fail> {
+    let mut number = 0u64;
+    for row in IN_GROUPS {
         number = number.saturating_add(1);
         assert_eq!(rt; wrong_in(&rt, row)?, None, "row {number}");
     }
