@@ -34,6 +34,7 @@ use Rattle.aig_edges.specs.Graph.{edge_count}
 use Rattle.aig_sweep.specs.Sweeper.{Evaluates, IsSweeper, sweeper_blocks}
 use Rattle.aig_sweep.specs.Lists.{latch_room, lists_account}
 use Rattle.aig_sweep.specs.QueueState.{queue_state}
+use Rattle.aig_forward.specs.Lists.{JoinsBits}
 use Rattle.aig_forward.specs.StepPass.{FailsPass, IsInput, Passed, PassesFor, PassesTo, pass_blocks}
 use Rattle.aig_sweep.specs.declared.sweeper.Sweeper.{Sweeper}
 use Rattle.aig_words.specs.Words.{in_lane, lane}
@@ -48,7 +49,6 @@ bits_append : (t : ℕ) (xs ys : List Record)
     → bits_of (lane t (xs ++ ys)) ≡ bits_of (lane t xs) ++ bits_of (lane t ys)
 bits_append t xs ys = ap bits_of (map-append (in_lane t) xs ys)
     ∙ map-append (λ (x : Record). x.c == 1) (lane t xs) (lane t ys)
-use Rattle.aig_forward.specs.Lists.{JoinsBits}
 
 module _ {Q : Type 0} (queue : Ghosts Q) {s : RigState} (e : Sweeper Q) (inputs : Chain)
     (sound : Sound s) (i : IsSweeper queue s e) (n : IsInput s e.header inputs)

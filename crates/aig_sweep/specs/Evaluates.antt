@@ -1,11 +1,10 @@
 -- What `evaluate` does: a step in each lane, without its stimulus and its printed line.
-use Rattle.std.specs.Prelude.{◌≡◌, ◌<◌, ◌≤◌, ℕ, ◌+◌, ◌*◌, ◌-◌, Bool, false, List, ◌++◌, length, All, IsTrue, Result, Ok, Err}
+use Rattle.std.specs.Prelude.{◌≡◌, ◌<◌, ◌≤◌, ◌+◌, ◌*◌, ◌-◌, Bool, false, List, ◌++◌, length, All, IsTrue, Result, Ok, Err}
 use Rattle.em_record.specs.Shape.{fan_of}
 use Rattle.em_record.specs.declared.record.Record.{Record}
 use Rattle.em_frames.specs.Pool.{PoolCounts}
 use Rattle.em_space.specs.Held.{Holds}
 use Rattle.em_space.specs.Ledger.{Account}
-use Rattle.em_space.specs.Rig.{RigState}
 use Rattle.em_space.specs.declared.fault.EmFault.{EmFault}
 use Rattle.em_chain.specs.Chain.{IsChain, IsPacked, chain_blocks}
 use Rattle.em_chain.specs.Session.{chain_account}
@@ -27,7 +26,7 @@ pub record CanEvaluate (p : PoolCounts) : Type 0 where
   pub rack : p.rack_out ≡ false
 
 -- The chains of a step: the edges from the ranks up to I + L, those from the ranks of gates, and a
--- bit for each input and each latch. The last one has blocks of its own, as the queue has.
+-- word for each input and each latch. The last one has blocks of its own, as the queue has.
 pub record HasChains (h : Header) (given gates bits : Chain) (q : QueueState) : Type 0 where
   pub given_is : IsChain q.rig given
   pub gates_is : IsChain q.rig gates
@@ -38,7 +37,7 @@ pub record HasChains (h : Header) (given gates bits : Chain) (q : QueueState) : 
       (q.blocks ++ (chain_blocks q.rig bits
       ++ (chain_blocks q.rig given ++ chain_blocks q.rig gates)))
 
--- the account of the bits that a step takes, with the moves that read the edges
+-- the account of the words that a step takes, with the moves that read the edges
 abbrev pub bits_account : Chain → Chain → Chain → Account
 bits_account given gates bits = record {
   blocks = bits.blocks;
@@ -47,7 +46,7 @@ bits_account given gates bits = record {
   owed = 2 * bits.blocks + given.blocks + gates.blocks;
 }
 
--- The bits were taken, and the latches' next bits are a new list.
+-- The words were taken, and the latches' next words are a new list.
 pub record Evaluated (h : Header) (given gates bits : Chain) (q p : QueueState) (next : Chain)
     : Type 0 where
   pub runs : RunsBeside (2 * edge_count h - columns h) (bits.blocks + next.blocks)

@@ -1,4 +1,4 @@
--- The three lists of a sweeper: the state of its latches, the edges from ranks whose bits are
+-- The three lists of a sweeper: the state of its latches, the edges from ranks whose words are
 -- given, and those from gates; and the sizes of lists of words.
 use Rattle.std.specs.Prelude.{◌≡◌, ◌<◌, ◌≤◌, ℕ, ◌+◌, ◌*◌, [], ◌++◌, All, IsTrue, Result, Ok, Err}
 use Rattle.em_record.specs.declared.record.Record.{Record}
@@ -6,7 +6,7 @@ use Rattle.em_space.specs.Held.{Holds}
 use Rattle.em_space.specs.Ledger.{Account, Runs, Stops}
 use Rattle.em_space.specs.Rig.{RigState}
 use Rattle.em_space.specs.declared.fault.EmFault.{EmFault}
-use Rattle.em_chain.specs.Chain.{IsChain, chain_blocks, chain_items, payload_in}
+use Rattle.em_chain.specs.Chain.{IsChain, chain_items, payload_in}
 use Rattle.em_chain.specs.Counts.{ceiling}
 use Rattle.em_chain.specs.declared.chain.Chain.{Chain}
 use Rattle.aig_defs.specs.declared.circuit.Header.{Header}

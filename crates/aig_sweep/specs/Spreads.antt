@@ -1,4 +1,4 @@
--- All edges of a step are sent, and the messages of next bits and columns are left.
+-- All edges of a step are sent, and the messages of next words and columns are left.
 use Rattle.std.specs.Prelude.{◌≡◌, ◌<◌, ◌≤◌, ℕ, ◌+◌, ◌*◌, ◌-◌, ◌^◌, Bool, false, List, [], ◌++◌, IsTrue, Result, Ok, Err}
 use Rattle.em_record.specs.declared.record.Record.{Record}
 use Rattle.em_space.specs.Held.{Apart}
@@ -73,7 +73,7 @@ pub record CanSpread (h : Header) (given gates bits : Chain) (q : QueueState) : 
   pub empty : q.counts.len ≡ 0
   pub chains : HasChains h given gates bits q
 
--- All edges were sent and the bits were taken: at most two messages of each gate are gone.
+-- All edges were sent and the words were taken: at most two messages of each gate are gone.
 pub record Spreads (h : Header) (given gates bits : Chain) (q p : QueueState) : Type 0 where
   pub runs : RunsBeside (2 * edge_count h - p.counts.len) bits.blocks
       (q.blocks ++ chain_blocks q.rig bits) p.blocks (bits_account given gates bits) no_account

@@ -20,7 +20,7 @@ use Rattle.aig_sweep.specs.Lists.{begin_moves, begin_room, latch_room, lists_acc
 use Rattle.aig_sweep.specs.declared.sweeper.Sweeper.{Sweeper}
 use Rattle.aig_words.specs.Words.{lane}
 
--- the blocks of a sweeper's three chains: its state, the edges from ranks whose bits are given,
+-- the blocks of a sweeper's three chains: its state, the edges from ranks whose words are given,
 -- and those from gates
 abbrev pub lists_blocks : {Q : Type 0} → RigState → Sweeper Q → List ℕ
 lists_blocks s e = chains_blocks s e.state e.given e.gates

@@ -29,7 +29,7 @@ fn gates_from(header: Header) -> Record
     }
 }
 
-/// The three lists of a sweeper: its state, which is the chain of resets, the edges from ranks whose bits
+/// The three lists of a sweeper: its state, which is the chain of resets, the edges from ranks whose words
 /// are given, and those from gates.
 pub(crate) fn make_lists<D: Device>(
     rig: &mut Rig<'_, D>,

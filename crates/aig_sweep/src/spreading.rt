@@ -17,7 +17,7 @@ use em_frames::Device;
 use em_space::{EmFault, Queue, Rig};
 
 /// Sends the edges of a chain, of which `sent` others were sent, and goes up to the last rank,
-/// whose value it answers.
+/// whose word it answers.
 fn send_chain<D: Device, Q: Queue>(
     rig: &mut Rig<'_, D>,
     queue: &mut Q,
@@ -27,7 +27,7 @@ fn send_chain<D: Device, Q: Queue>(
     last: u64,
     sent: u64,
     now: u64,
-    is: u64,
+    word: u64,
 ) -> Result<u64, EmFault>
     requires is { Q.IsQueue queue.old (seen D.state rig.old) }
     requires ready { CanSendChain base last sent now
@@ -40,7 +40,7 @@ fn send_chain<D: Device, Q: Queue>(
     ensures value { IfOk result (λ last_is. IsTrue (seen D.state rig.old).device.told
         → (i : ℕ) → i < 64 → (value : ℕ → Bool) (all behind : List declared.Record)
         → Sendable value all behind base last
-        → Sending value all behind base last now sent (says i is)
+        → Sending value all behind base last now sent (says i word)
         (chain_items (seen D.state rig.old) chain.now)
         (lane i (reader_items (seen D.state rig.old) bits.old))
         (lane i (Q.items queue.old (seen D.state rig.old)))
@@ -51,7 +51,7 @@ fn send_chain<D: Device, Q: Queue>(
     let mut edges = Reader::over(rig, chain);
     let count = chain.len();
     match send_all(
-        rig, queue, &mut edges, bits, base, last, count, sent, now, is,
+        rig, queue, &mut edges, bits, base, last, count, sent, now, word,
     ) {
         Ok(reached) => {
             edges.abandon(rig);
@@ -64,7 +64,7 @@ fn send_chain<D: Device, Q: Queue>(
     }
 }
 
-/// Sends the edges of the ranks up to I + L, whose bits are given, and then those of the gates.
+/// Sends the edges of the ranks up to I + L, whose words are given, and then those of the gates.
 fn send_both<D: Device, Q: Queue>(
     rig: &mut Rig<'_, D>,
     queue: &mut Q,
@@ -97,8 +97,8 @@ fn send_both<D: Device, Q: Queue>(
     Ok(())
 }
 
-/// Sends all edges of a step, and releases the bits. After it the queue holds the messages of the
-/// next bits and of the columns.
+/// Sends all edges of a step, and releases the words. After it the queue holds the messages of the
+/// next words and of the columns.
 pub(crate) fn spread<D: Device, Q: Queue>(
     rig: &mut Rig<'_, D>,
     queue: &mut Q,

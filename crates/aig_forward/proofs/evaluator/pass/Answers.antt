@@ -1,4 +1,4 @@
-use Rattle.std.proofs.Common.{◌++◌, ◌∙◌, refl}
+use Rattle.std.proofs.Common.{◌++◌, ◌∙◌, arith, refl}
 use Rattle.em_space.specs.Seen.{seen}
 use Rattle.em_space.proofs.Queues.{out_same}
 use Rattle.em_chain.specs.Chain.{chain_blocks}
@@ -120,4 +120,4 @@ returns-clause-values g c = λ z.
     (beside_out _ j.runs (laws.out e.queue s (laws.frames_of e.queue s i.is))) in
     passed_for g.Q.Queue e c.args.inputs c.requires.sound i c.requires.inputs c.requires.holds j
     kept.2 e _ c.evaluate.new.queue c.in_ok-sweeper.ensures.evaluates z
-    (c.in_ok-sweeper.ensures.values (j.runs.session.touches.told ∙ z))
+    (c.in_ok-sweeper.ensures.values (j.runs.session.touches.told ∙ z) 0 (omega arith))
