@@ -8,14 +8,14 @@ use Rattle.aig_wide.specs.declared.reading.Group.{Group}
 
 -- Nothing was done,
 pub rests_none : {Q : Type 0} (s : RigState) (x : Q) (place later : ℕ) → later ≡ place → Rests s s x x place later
-rests_none s x place later e = record { queue = refl; rig = refl; place = e }
+rests_none s x place later e = record { queue = refl; rig = refl; none_taken = e }
 
 rests_then : {Q : Type 0} {s t u : RigState} {x y z : Q} {place mid later : ℕ} → Rests s t x y place mid
     → Rests t u y z mid later → Rests s u x z place later
 rests_then h g = record {
   queue = g.queue ∙ h.queue;
   rig = g.rig ∙ h.rig;
-  place = g.place ∙ h.place;
+  none_taken = g.none_taken ∙ h.none_taken;
 }
 
 pub begins_none : {Q : Type 0} (s : RigState) (x : Q) (place : ℕ) → BeginsAfter 0 s s x x place place
@@ -24,7 +24,7 @@ begins_none s x place = inl (refl, rests_none s x place place refl)
 -- one item more was read, which took a byte,
 pub begins_next : {Q : Type 0} {count : ℕ} {s t : RigState} {x y : Q} {place mid : ℕ} (u : RigState) (z : Q) (later : ℕ)
     → BeginsAfter count s t x y place mid → mid < later → BeginsAfter (count + 1) s u x z place later
-begins_next u z later (inl h) l = let e = h.1.place in inr (omega arith, omega (arith, l, e))
+begins_next u z later (inl h) l = let e = h.1.none_taken in inr (omega arith, omega (arith, l, e))
 begins_next u z later (inr h) l = let b = h.1 in inr (omega arith, omega (arith, l, b))
 
 -- or one stopped.
@@ -32,7 +32,7 @@ pub begins_stop : {Q : Type 0} {count : ℕ} {s t : RigState} {x y : Q} {place m
     → BeginsAfter count s t x y place mid → mid ≤ later → CallsAfterByte t u y z mid later
     → CallsAfterByte s u x z place later
 begins_stop u z later (inl h) l (inl g) = inl (g.0 ∙ h.1.queue, g.1 ∙ h.1.rig)
-begins_stop u z later (inl h) l (inr g) = let e = h.1.place in inr (omega (arith, g, e))
+begins_stop u z later (inl h) l (inr g) = let e = h.1.none_taken in inr (omega (arith, g, e))
 begins_stop u z later (inr h) l g = let b = h.1 in inr (omega (arith, b, l))
 
 -- Some items took a byte.
@@ -74,7 +74,7 @@ group_ended count part u z later (inl h) g =
 group_ended count part u z later (inr h) g =
     let a = h.0 in
     let b = h.1 in
-    let e = g.place in
+    let e = g.none_taken in
     record {
       idle = inr (omega (arith, b, e));
       further = λ m. omega (arith, b, e);

@@ -63,7 +63,7 @@ UnlessRefused (Err (stop.Em fault)) P = Unit {0}
 pub record Rests {Q : Type 0} (s t : RigState) (x y : Q) (place later : ℕ) : Type 0 where
   pub queue : y ≡ x
   pub rig : t ≡ s
-  pub place : later ≡ place
+  pub none_taken : later ≡ place
 
 -- the queue and the rig are what they were, unless a byte of the stimulus was taken
 abbrev pub CallsAfterByte : {Q : Type 0} → RigState → RigState → Q → Q → ℕ → ℕ → Type 0
