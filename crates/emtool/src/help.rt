@@ -55,10 +55,10 @@ Options, before the operands:
                 example: emtool map --stats prices.txt
 
 The scratch device is the file `emtool.scratch` in the current folder. Before it reads a file a run
-makes that file, or empties the one that is there. At its end it removes the file, also after a
-fault. The file has 32 times --block bytes for each block that was in use at once, and there are at
-most --blocks of them. Two runs at the same time want two folders, or the answers may be wrong.
-Neither a file nor the output may be that file.
+makes that file; if one is there, its name is taken away first. At its end it removes the name, also
+after a fault. The file has 32 times --block bytes for each block that was in use at once, and there
+are at most --blocks of them. Two runs in one folder have a file each. Neither a file nor the output
+may be that file.
 
 Numbers of command files are decimal, from 0 to 18446744073709551615, with at
 most 20 digits.
