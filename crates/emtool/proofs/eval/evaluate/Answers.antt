@@ -1,3 +1,4 @@
+use Rattle.std.proofs.Common.{false}
 use Rattle.em_space.specs.Seen.{seen}
 use Rattle.em_pqueue.specs.ExtQueue.{counts_of}
 use Rattle.aig_text.proofs.Lines.{of_error}
