@@ -1,5 +1,5 @@
 -- A line of columns, one after another.
-use Rattle.std.proofs.Common.{◌≡◌, ℕ, zero, suc, ◌+◌, ◌-◌, ◌≤◌, ◌<◌, ◌==◌, Bool, false, List, [], ◌∷◌, ◌++◌, length, take, drop, replicate, Option, Some, None, IfNone, option_to_list, IsTrue, refl, sym, ap, ◌∙◌, subst, arith, append_assoc, Err}
+use Rattle.std.proofs.Common.{◌≡◌, ℕ, zero, suc, ◌+◌, ◌-◌, ◌≤◌, ◌<◌, Bool, false, List, [], ◌∷◌, ◌++◌, length, take, drop, replicate, Option, Some, None, IfNone, option_to_list, IsTrue, refl, sym, ap, ◌∙◌, subst, arith, append_assoc, Err}
 use Rattle.std.proofs.lemmas.List.{append-nil}
 use Rattle.em_io.specs.Sink.{IsRule, Sent, SentPart}
 use Rattle.em_io.proofs.Sent.{part-more, part-of, part-rest, sent-more, sent-nothing, sent-rest}

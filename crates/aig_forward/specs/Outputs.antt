@@ -1,5 +1,5 @@
 -- The columns of a step, which are popped and printed.
-use Rattle.std.specs.Prelude.{◌≡◌, ℕ, suc, ◌+◌, ◌-◌, ◌≤◌, ◌==◌, Bool, false, min, List, [], ◌∷◌, ◌++◌, length, take, drop, replicate, Option, Some, None, IsTrue, Result, Ok, Err}
+use Rattle.std.specs.Prelude.{◌≡◌, ℕ, suc, ◌+◌, ◌-◌, ◌≤◌, Bool, false, min, List, [], ◌∷◌, ◌++◌, length, take, drop, replicate, Option, Some, None, IsTrue, Result, Ok, Err}
 use Rattle.em_io.specs.Sink.{Sent, SentPart}
 use Rattle.em_io.specs.declared.sink.Sink as sink
 use Rattle.em_record.specs.Count.{Rose}

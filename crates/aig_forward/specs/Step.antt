@@ -1,13 +1,10 @@
 -- What a step of an evaluator does, and what it costs.
-use Rattle.std.specs.Prelude.{◌≡◌, ◌<◌, ◌≤◌, ℕ, ◌+◌, ◌*◌, ◌^◌, ◌⊎◌, Bool, List, [], ◌++◌, Result, Ok, Err}
-use Rattle.em_record.specs.Count.{Rose}
+use Rattle.std.specs.Prelude.{◌≡◌, ◌<◌, ℕ, ◌+◌, ◌*◌, ◌^◌, Bool, List, [], ◌++◌, Result, Ok, Err}
 use Rattle.em_io.specs.Sink.{Sent, SentPart}
 use Rattle.em_frames.specs.Pool.{PoolCounts}
 use Rattle.em_space.specs.Ledger.{Account}
-use Rattle.em_space.specs.Rig.{RigState, Cause}
+use Rattle.em_space.specs.Rig.{RigState}
 use Rattle.em_space.specs.declared.queue.Queue.{Ghosts}
-use Rattle.em_chain.specs.Chain.{payload_in}
-use Rattle.em_chain.specs.Counts.{ceiling}
 use Rattle.em_queued.specs.Queued.{RunsBeside}
 use Rattle.aig_defs.specs.Circuit.{Circuit}
 use Rattle.aig_defs.specs.Items.{Reading, Reads, Fails}

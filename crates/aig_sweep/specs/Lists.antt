@@ -6,7 +6,7 @@ use Rattle.em_space.specs.Held.{Holds}
 use Rattle.em_space.specs.Ledger.{Account, Runs, Stops}
 use Rattle.em_space.specs.Rig.{RigState}
 use Rattle.em_space.specs.declared.fault.EmFault.{EmFault}
-use Rattle.em_chain.specs.Chain.{IsChain, chain_blocks, chain_items, payload_in}
+use Rattle.em_chain.specs.Chain.{IsChain, chain_items, payload_in}
 use Rattle.em_chain.specs.Counts.{ceiling}
 use Rattle.em_chain.specs.declared.chain.Chain.{Chain}
 use Rattle.aig_defs.specs.declared.circuit.Header.{Header}

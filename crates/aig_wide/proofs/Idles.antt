@@ -1,5 +1,5 @@
 -- What was done before a byte of the stimulus was taken.
-use Rattle.std.proofs.Common.{◌≡◌, ℕ, ◌+◌, ◌<◌, ◌≤◌, ◌⊎◌, inl, inr, refl, sym, ap, ◌∙◌, arith, Result, Ok, Err, IfErr, OnOk}
+use Rattle.std.proofs.Common.{◌≡◌, ℕ, ◌+◌, ◌<◌, ◌≤◌, inl, inr, refl, ◌∙◌, arith, Result, Ok, Err, IfErr, OnOk}
 use Rattle.em_space.specs.Rig.{RigState}
 use Rattle.aig_wide.specs.Calls.{BeginsAfter, CallsAfterByte, Rests}
 use Rattle.aig_wide.specs.GroupLines.{BeginsGroup}
@@ -85,8 +85,8 @@ group_ended count part u z later (inr h) g =
 pub group_faulty : {Q : Type 0} {s t : RigState} {x y : Q} {place mid : ℕ} (r : Group) (u : RigState) (z : Q) (later : ℕ)
     → BeginsAfter r.lines s t x y place mid → mid ≤ later → CallsAfterByte t u y z mid later
     → (r.ending ≡ ending.Ended → ⊥) → BeginsGroup s u x z place later r
-group_faulty r u z later h l g no = record {
+group_faulty r u z later h l g other = record {
   idle = begins_stop u z later h l g;
   further = λ m. let b = begins_some h m in omega (arith, b, l);
-  still = λ e f. absurd (no f);
+  still = λ e f. absurd (other f);
 }

@@ -7,7 +7,7 @@ use Rattle.em_space.specs.Rig.{RigState}
 use Rattle.em_space.specs.declared.queue.Queue.{Ghosts}
 use Rattle.em_queued.specs.Queued.{RunsBeside}
 use Rattle.aig_defs.specs.Circuit.{Circuit, columns}
-use Rattle.aig_defs.specs.Stimulus.{Stimulus, output_lines, stimulus_from}
+use Rattle.aig_defs.specs.Stimulus.{Stimulus, begun_from, output_lines, stimulus_from}
 use Rattle.aig_defs.specs.Value.{run_of}
 use Rattle.aig_defs.specs.declared.circuit.Gate.{Gate}
 use Rattle.aig_defs.specs.declared.circuit.Header.{Header}
@@ -69,6 +69,12 @@ stimulus_at inputs s = stimulus_from inputs s.feed.place (left s)
 abbrev pub after_steps : List (List Bool) → Stimulus → Stimulus
 after_steps bits s = record { steps = bits ++ s.steps; fault = s.fault }
 
+-- Lines were begun: this many, and those from here on, whatever was given beyond here.
+abbrev pub BeginsLines : ℕ → Source → Source → ℕ → Type 0
+BeginsLines inputs old new count = (given : ℕ) → new.feed.place ≤ given
+    → begun_from inputs given old.feed.place (left old)
+    ≡ count + begun_from inputs given new.feed.place (left new)
+
 -- Lines were read whole: this many, fewer than 64 only if nothing is left.
 pub record TakesLines (inputs : ℕ) (old new : Source) (count : ℕ) (bits : List (List Bool)) : Type 0 where
   pub some : left old ≡ [] → ⊥
@@ -77,6 +83,7 @@ pub record TakesLines (inputs : ℕ) (old new : Source) (count : ℕ) (bits : Li
   pub high : count ≤ 64
   pub steps : stimulus_at inputs old ≡ after_steps bits (stimulus_at inputs new)
   pub last : count < 64 → left new ≡ []
+  pub begun : BeginsLines inputs old new count
 
 -- Fewer than 64 lines could be read whole, and the next one has this fault.
 pub record FaultsAfter (inputs : ℕ) (old : Source) (kind : AigKind) (place : ℕ) (bits : List (List Bool)) : Type 0

@@ -1,5 +1,5 @@
 -- The lines of a group, which were read and whose words stand in the queue.
-use Rattle.std.specs.Prelude.{◌≡◌, ◌<◌, ◌≤◌, ◌+◌, ◌*◌, ℕ, min, Bool, List, [], ◌∷◌, ◌++◌, length, map, Some, IsTrue, Result, Ok, Err}
+use Rattle.std.specs.Prelude.{◌≡◌, ◌<◌, ◌≤◌, ◌+◌, ◌*◌, ℕ, min, Bool, List, [], ◌∷◌, length, map, Some, IsTrue, Result, Ok, Err}
 use Rattle.em_record.specs.Count.{Rose}
 use Rattle.em_space.specs.Rig.{RigState}
 use Rattle.aig_edges.specs.declared.stop.StepStop.{StepStop}
@@ -10,7 +10,7 @@ use Rattle.aig_sweep.specs.QueueState.{QueueState}
 use Rattle.aig_words.specs.Lines.{AreRows, line_words, put_line, rows_records, tiles}
 use Rattle.aig_wide.specs.Calls.{Calls, CallsAfterByte, Refused, Rests}
 use Rattle.aig_wide.specs.Gathers.{words_left}
-use Rattle.aig_wide.specs.Group.{after_steps, stimulus_at}
+use Rattle.aig_wide.specs.Group.{BeginsLines, after_steps, stimulus_at}
 use Rattle.aig_wide.specs.declared.reading.Ending.{Ending}
 use Rattle.aig_wide.specs.declared.reading.Ending.TheVariants as ending
 use Rattle.aig_wide.specs.declared.reading.Group.{Group}
@@ -26,6 +26,7 @@ pub record TakesSteps (inputs : ℕ) (old new : Source) (words : List (List ℕ)
     pub wide : AllWide inputs bits
     pub are : words ≡ map (line_words (tiles inputs)) bits
     pub steps : stimulus_at inputs old ≡ after_steps bits (stimulus_at inputs new)
+    pub begun : BeginsLines inputs old new (length bits)
 
 -- what comes after them
 abbrev pub EndsBy : ℕ → Source → Source → List (List Bool) → Ending → Type 0
@@ -36,11 +37,18 @@ EndsBy inputs old new bits ending.Ended =
 EndsBy inputs old new bits (ending.Faulty kind place) =
     stimulus_at inputs old ≡ record { steps = bits; fault = Some (kind, place) }
 
+-- all of them were begun, and no more if a line has no fault
+abbrev pub BegunBy : ℕ → Source → Source → List (List Bool) → Ending → Type 0
+BegunBy inputs old new bits ending.Full = BeginsLines inputs old new (length bits)
+BegunBy inputs old new bits ending.Ended = BeginsLines inputs old new (length bits)
+BegunBy inputs old new bits (ending.Faulty kind place) = Unit {0}
+
 pub record GroupText (inputs : ℕ) (old new : Source) (words : List (List ℕ)) (e : Ending) : Type 0 where
   pub bits : List (List Bool)
   pub wide : AllWide inputs bits
   pub are : words ≡ map (line_words (tiles inputs)) bits
   pub ends : EndsBy inputs old new bits e
+  pub begun : BegunBy inputs old new bits e
 
 -- how many lines and words of a faulty one there are, by what comes after them
 abbrev pub CountsBy : ℕ → ℕ → Ending → Type 0

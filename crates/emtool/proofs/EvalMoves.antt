@@ -2,7 +2,8 @@
 -- within those of a circuit of this size and of the rounds that were begun.
 use Rattle.std.proofs.Common.{◌≡◌, ℕ, ◌+◌, ◌*◌, ◌<◌, ◌≤◌, ◌⊎◌, ⊎_elim, Bool, true, false, zero, suc, refl, List, ap, sym, subst, ◌∙◌, arith, IsTrue, Result}
 use Rattle.std.proofs.Math.Nat.{mul-le-mul}
-use Rattle.em_record.specs.Shape.{ShapeNumbers, payload_of}
+use Rattle.em_record.specs.Cost.{cost}
+use Rattle.em_record.specs.Shape.{IsShape, ShapeNumbers, payload_of}
 use Rattle.em_io.specs.declared.shelf.Shelf.{Ghosts as ShelfGhosts}
 use Rattle.em_io.specs.declared.shelf.Slot.TheVariants.{Second}
 use Rattle.em_io.specs.declared.sink.Sink.{Ghosts as SinkGhosts}
@@ -26,9 +27,11 @@ use Rattle.aig_sweep.specs.Sweeper.{lists_size}
 use Rattle.aig_sweep.specs.declared.sweeper.Sweeper.{Sweeper}
 use Rattle.aig_wide.specs.Group.{group_calls, group_moves}
 use Rattle.emtool.specs.EvalMoves.{calling_moves, groups_moves, making_moves, round_calls, round_lines, rounds_moves}
+use Rattle.emtool.specs.EvalSize.{rounds_of}
 use Rattle.emtool.specs.Evaluation.{CanBegin, PrintsSteps, Round, RoundsMove, group_round, step_round, steps_of}
 use Rattle.emtool.specs.Queues.{FailsToMake}
 use Rattle.emtool.specs.declared.stop.Stop.{Stop}
+use Rattle.emtool.proofs.EvalCosts.{rounds_within}
 use Rattle.emtool.proofs.EvalEnds.{Evaluated, KeepsSteps, Made, Unmade, counts_same, made_touches}
 use Rattle.emtool.proofs.CircuitCosts.{lists_fit}
 use Rattle.emtool.proofs.GroupRound.{group_calls_most}
@@ -272,3 +275,64 @@ module _ {H W Q : Type 0} {h : ShelfGhosts H} {w : SinkGhosts W} {queue : QueueG
         + rounds_moves wide s.pool.shape size lines)) (sym ended)
         (⊎_elim (λ (none : b.moves ≤ a.moves). still_moves few none)
         (λ (r : RoundsMove queue a b e d round begun). steps_made z told spends r) steps)
+
+-- All rounds together cost 2E records a round, and twice that a group: over a queue that was new, and that moved no
+-- more than its share.
+module _ {H W Q : Type 0} {h : ShelfGhosts H} {w : SinkGhosts W} {queue : QueueGhosts Q} {round : Round}
+    {s t : RigState} {e d : Sweeper Q} {shelf shelf_after : H} {out out_after : W} {pending : List ℕ}
+    {result : Result (Unit {0}) Stop}
+    (p : PrintsSteps h w queue round s t e d shelf shelf_after out out_after pending result)
+    (wide : Bool) (size : ℕ) (fits : FitsRound wide s.pool.shape size round) where
+  -- how many lines were begun
+  abbrev read : ℕ
+  read = steps_of e.header.inputs ((h.stand shelf).slot Second).left
+      ((h.stand shelf_after).slot Second)
+
+  pub rounds_cost : IsShape s.pool.shape → IsTrue h.tells → (queue.counts e.queue).k ≡ 0
+      → (queue.counts d.queue).spent
+      ≤ queue_share s.pool.shape (queue.counts d.queue).n (queue.counts d.queue).k
+      → t.moves ≤ s.moves + rounds_of wide read * cost s.pool.shape (2 * size)
+  rounds_cost is z none spends =
+      let shape = s.pool.shape in
+      let c = queue.counts d.queue in
+      let calls = round_calls wide size in
+      let begun = ceiling read (round_lines wide) in
+      let own : c.n ≤ round.calls * begun =
+      subst (λ (n : ℕ). c.n ≤ round.calls * ceiling read n) fits.lines (p.called z) in
+      let all : round.calls * begun ≤ calls * begun =
+      mul-le-mul {n₁ = round.calls} {m₁ = begun} {n₂ = calls} {m₂ = begun} fits.calls (omega arith) in
+      let run = p.run in
+      let few = fits.calls in
+      let rises = queue_share_rises shape c.n (calls * begun) c.k calls
+      (after c.n (round.calls * begun) (calls * begun) own all)
+      (omega (arith, run, none, few)) in
+      let share = queue_share shape (calls * begun) calls in
+      let within = rounds_within wide shape size read is in
+      let bound = rounds_of wide read * cost shape (2 * size) in
+      ⊎_elim (λ (still : t.moves ≤ s.moves). omega (arith, still))
+      (λ (r : RoundsMove queue s t e d round begun).
+      within_bound t.moves s.moves (rounds_moves wide shape size read) bound
+      (moved begun (after c.spent (queue_share shape c.n c.k) share spends rises) r) within)
+      (subst (λ (n : ℕ). (t.moves ≤ s.moves) ⊎ RoundsMove queue s t e d round (ceiling read n))
+      fits.lines (p.moves z))
+    where
+      after : (x y z : ℕ) → x ≤ y → y ≤ z → x ≤ z
+      after x y z f g = omega (arith, f, g)
+      within_bound : (t s m b : ℕ) → t ≤ s + m → m ≤ b → t ≤ s + b
+      within_bound t s m b f g = omega (arith, f, g)
+      moved : (n : ℕ) → (queue.counts d.queue).spent
+          ≤ queue_share s.pool.shape (round_calls wide size * n) (round_calls wide size)
+          → RoundsMove queue s t e d round n
+          → t.moves ≤ s.moves + calling_moves s.pool.shape size (round_calls wide size) n
+      moved zero f r = let some = r.some in absurd (omega (arith, some))
+      moved (suc n) f r =
+          let c = ceiling size (payload_of s.pool.shape) in
+          let lists : suc n * round.moves ≤ suc n * (9 * c + 7) =
+          mul-le-mul {n₁ = suc n} {m₁ = round.moves} {n₂ = suc n} {m₂ = 9 * c + 7} (omega arith)
+          fits.moves in
+          let most = r.most in
+          sum t.moves (queue.counts e.queue).spent s.moves (queue.counts d.queue).spent
+          (suc n * round.moves) (suc n * (9 * c + 7))
+          (queue_share s.pool.shape (round_calls wide size * suc n) (round_calls wide size)) most lists f
+      sum : (t c s x m l q : ℕ) → t + c ≤ s + x + m → m ≤ l → x ≤ q → t ≤ s + (l + q)
+      sum t c s x m l q f g k = omega (arith, f, g, k)

@@ -225,13 +225,22 @@ group_calls_low h i =
 pub group_calls_most : (h : Header) → group_calls h ≤ 4 * circuit_size h + 252
 group_calls_most h = omega arith
 
+-- There is no latch if the header is one without.
+pub header_none : {h k : Header} → h ≡ k → k.latches ≡ 0 → h.latches ≡ 0
+header_none same none = ap (λ (h : Header). h.latches) same ∙ none
+
+-- There is none later if there was none.
+pub latches_kept : {Q : Type 0} {queue : QueueGhosts Q} {t : RigState} {e f : Sweeper Q}
+    → Keeps queue t e f → e.header.latches ≡ 0 → f.header.latches ≡ 0
+latches_kept keeps none = header_none keeps.header none
+
 -- A round can be made, and so can a group.
 pub group_can : {Q : Type 0} (queue : QueueGhosts Q) (s t : RigState) (e f : Sweeper Q)
     → Keeps queue t e f → e.header.latches ≡ 0 → CanRound queue t.pool f (group_calls e.header)
     → CanGroup queue t.pool f
 group_can queue s t e f keeps none can = record {
   free = can.free;
-  none = ap (λ (h : Header). h.latches) keeps.header ∙ none;
+  none = latches_kept keeps none;
   few =
       let same = ap (λ (h : Header). group_calls h) keeps.header in
       let few = can.few in

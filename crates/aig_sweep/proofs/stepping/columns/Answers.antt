@@ -1,4 +1,4 @@
-use Rattle.std.proofs.Common.{◌-◌, ◌+◌, ◌*◌, ◌≡◌, ◌∙◌, ℕ, ap, arith, drop, length, refl, sym, subst, take_all, IsTrue, List}
+use Rattle.std.proofs.Common.{◌-◌, ◌+◌, ◌≡◌, ◌∙◌, ℕ, ap, arith, drop, length, sym, take_all, IsTrue, List}
 use Rattle.std.proofs.lemmas.List.{length-map}
 use Rattle.em_record.specs.Shape.{ShapeNumbers}
 use Rattle.em_record.specs.declared.record.Record.{Record}

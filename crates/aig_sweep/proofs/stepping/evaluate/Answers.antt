@@ -1,4 +1,4 @@
-use Rattle.std.proofs.Common.{◌+◌, ◌*◌, ◌-◌, ◌∙◌, ap, arith, sym, IsTrue, List}
+use Rattle.std.proofs.Common.{◌+◌, ◌-◌, ◌∙◌, ap, arith, sym, IsTrue, List}
 use Rattle.em_record.specs.Shape.{ShapeNumbers}
 use Rattle.em_space.specs.Seen.{seen}
 use Rattle.em_chain.specs.Counts.{ceiling}

@@ -1,4 +1,4 @@
-use Rattle.std.proofs.Common.{◌<◌, arith, inl, inr, refl}
+use Rattle.std.proofs.Common.{arith, inl, inr, refl}
 use Rattle.em_space.specs.Seen.{seen}
 use Rattle.aig_text.specs.Source.{source}
 use Rattle.aig_text.proofs.Steadies.{advances_then}
@@ -26,7 +26,7 @@ returns-then-inputs-eq0-clause-line g c =
     let q = queue_state g.Q.Queue x s in
     let all = none_tiles c.args.inputs c.args.lines c.if-inputs-eq0.true
     (calls_none {q = q} c.requires.can.sound (laws.blocks_most x s c.requires.is) (laws.holds x s c.requires.is)) in
-    rest_ends c.args.inputs c.args.lines c.requires.some all (omega arith)
+    rest_ends c.args.inputs c.args.lines (source g.H.Shelf c.args.feed.now c.args.shelf.now) c.requires.some all (omega arith)
     (source g.H.Shelf c.take_end.new.feed c.args.shelf.now) c.take_end.result
     (c.take_end.ensures.reads g.H.Shelf.tells (g.H.Shelf.stand c.args.shelf.now) (g.H.Shelf.faults c.args.shelf.now))
 
@@ -45,7 +45,7 @@ returns-in_err-read_tiles-clause-line g c =
     let q = queue_state g.Q.Queue c.args.queue.now (seen g.D.Device.state c.args.rig.now) in
     let p = queue_state g.Q.Queue c.read_tiles.new.queue (seen g.D.Device.state c.read_tiles.new.rig) in
     of_error (ReadsRestBy g.H.Shelf.tells c.args.inputs c.args.lines old now q p) _ _ c.from_residual.ensures.1
-    (line_stops c.args.inputs c.args.lines c.requires.some now q p c.in_err-read_tiles.field-0.0
+    (line_stops c.args.inputs c.args.lines old c.requires.some now q p c.in_err-read_tiles.field-0.0
     c.in_err-read_tiles.ensures.tiles)
 
 pub returns-in_err-read_tiles-clause-idle : goal.returns-in_err-read_tiles-clause-idle
@@ -63,7 +63,7 @@ returns-clause-advances g c = advances_then c.in_ok-read_tiles.ensures.advances 
 pub returns-clause-line : goal.returns-clause-line
 returns-clause-line g c =
     let k = c.in_ok-read_tiles.ensures in
-    rest_ends c.args.inputs c.args.lines c.requires.some k.tiles k.advances.later
+    rest_ends c.args.inputs c.args.lines (source g.H.Shelf c.args.feed.now c.args.shelf.now) c.requires.some k.tiles k.advances.later
     (source g.H.Shelf c.read_end.new.feed c.read_end.new.shelf) c.read_end.result c.read_end.ensures.reads
 
 pub returns-clause-further : goal.returns-clause-further

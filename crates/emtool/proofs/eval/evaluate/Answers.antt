@@ -1,9 +1,10 @@
+use Rattle.std.proofs.Common.{false}
 use Rattle.em_space.specs.Seen.{seen}
 use Rattle.em_pqueue.specs.ExtQueue.{counts_of}
 use Rattle.aig_text.proofs.Lines.{of_error}
 use Rattle.emtool.specs.Evaluation.{RunsSteps}
 use Rattle.emtool.proofs.EvalEnds.{can_make, can_run, evaluated_by, made_by, refused_goes, refused_paid, runs_all, runs_none, still_ordered, unmade_by, unmade_cause, unmade_goes, unmade_paid}
-use Rattle.emtool.proofs.EvalMoves.{evaluated_moves, refused_moves, unmade_moves}
+use Rattle.emtool.proofs.EvalMoves.{evaluated_moves, refused_moves, step_fits, unmade_moves}
 use Rattle.emtool.proofs.Queues.{can_build, fails_ext, makes_ext, ready_serves}
 use Rattle.emtool.proofs.eval.evaluate.Goals as goal
 
@@ -17,13 +18,13 @@ returns-in_err-queue g c =
     let t = seen g.D.Device.state c.new.new.rig in
     let f = fails_ext c.in_err-queue.ensures.stops in
     record {
-      runs = of_error (RunsSteps g.H.Shelf g.W.Sink s t c.args.ordered c.args.shelf.now
+      runs = of_error (RunsSteps false g.H.Shelf g.W.Sink s t c.args.ordered c.args.shelf.now
           c.args.shelf.now c.args.out.now c.args.out.now) c.from_residual.result _
           c.from_residual.ensures.1
-          (runs_none g.H.Shelf g.W.Sink {t = t} c.args.shelf.now c.args.out.now g.met.W.Sink.rule
+          (runs_none false g.H.Shelf g.W.Sink {t = t} c.args.shelf.now c.args.out.now g.met.W.Sink.rule
           (g.met.W.Sink.is_state c.args.out.now) (refused_goes c.args.ordered f) f.cause
           (refused_paid c.requires.can f)
-          (refused_moves g.H.Shelf c.args.ordered c.args.shelf.now f));
+          (refused_moves false g.H.Shelf c.args.ordered c.args.shelf.now f));
     }
 
 pub new-requires-2-clause-ordered : goal.new-requires-2-clause-ordered
@@ -46,14 +47,14 @@ returns-in_err-evaluator g c =
     let n = c.in_ok-queue.ensures.makes in
     let s = seen g.D.Device.state c.args.rig.now in
     let t = seen g.D.Device.state c.new-2.new.rig in
-    let u = unmade_by {t = t} c.requires.can (makes_ext n) c.in_err-evaluator.ensures.begins in
+    let u = unmade_by {t = t} c.requires.can (makes_ext n) c.in_err-evaluator.ensures.fails in
     record {
-      runs = of_error (RunsSteps g.H.Shelf g.W.Sink s t c.args.ordered c.args.shelf.now
+      runs = of_error (RunsSteps false g.H.Shelf g.W.Sink s t c.args.ordered c.args.shelf.now
           c.args.shelf.now c.args.out.now c.args.out.now) c.from_residual-in_err-evaluator.result _
           c.from_residual-in_err-evaluator.ensures.1
-          (runs_none g.H.Shelf g.W.Sink {t = t} c.args.shelf.now c.args.out.now g.met.W.Sink.rule
+          (runs_none false g.H.Shelf g.W.Sink {t = t} c.args.shelf.now c.args.out.now g.met.W.Sink.rule
           (g.met.W.Sink.is_state c.args.out.now) (unmade_goes u) (unmade_cause u) (unmade_paid u)
-          (unmade_moves u g.H.Shelf c.args.shelf.now n.moves));
+          (unmade_moves u false g.H.Shelf c.args.shelf.now n.moves));
     }
 
 -- steps can be made
@@ -69,11 +70,11 @@ returns g c =
     let a = seen g.D.Device.state c.new-2.new.rig in
     let t = seen g.D.Device.state c.abandon.new.rig in
     let steps = c.run_steps-done.ensures.steps in
-    let all = evaluated_by {a = a} {t = t}
-    (made_by {a = a} c.requires.can (makes_ext c.in_ok-queue.ensures.makes) v.begins) v.meaning steps
-    c.abandon.ensures.leaves c.send_rest.ensures.sends g.met.W.Sink.rule
-    (g.met.W.Sink.is_state c.args.out.now) in
+    let made = made_by {a = a} c.requires.can (makes_ext c.in_ok-queue.ensures.makes) v.begins in
+    let all = evaluated_by {a = a} {t = t} made v.meaning steps c.abandon.ensures.leaves
+    c.send_rest.ensures.sends g.met.W.Sink.rule (g.met.W.Sink.is_state c.args.out.now) in
     record {
-      runs = runs_all all
-          (evaluated_moves all c.in_ok-queue.ensures.makes.moves steps.frames.is.share);
+      runs = runs_all all false
+          (evaluated_moves all false (step_fits made) c.in_ok-queue.ensures.makes.moves
+          steps.frames.is.share);
     }

@@ -3,7 +3,6 @@ use Rattle.em_io.specs.Feed.{Fed}
 use Rattle.em_space.specs.Seen.{seen}
 use Rattle.em_queued.proofs.Queued.{unstored_frames}
 use Rattle.aig_text.specs.Source.{source}
-use Rattle.aig_defs.specs.declared.circuit.Header.{Header}
 use Rattle.aig_edges.specs.declared.stop.StepStop.{StepStop}
 use Rattle.aig_wide.specs.declared.group.GroupEnd.{GroupEnd}
 use Rattle.aig_wide.specs.declared.group.GroupEnd.TheVariants.{Printed, End}
@@ -14,7 +13,7 @@ use Rattle.emtool.specs.Stop.{step_stop}
 use Rattle.emtool.proofs.LoopPrints.{rounds_ended}
 use Rattle.emtool.proofs.RoundLoop.{MadeRounds, first_scene, rounds_begin, rounds_can, rounds_next}
 use Rattle.emtool.proofs.Rounds.{IsLast, RoundSays, result_of}
-use Rattle.emtool.proofs.GroupRound.{group_calls_low, group_can, group_kept, group_room_low, group_says, round_of}
+use Rattle.emtool.proofs.GroupRound.{group_calls_low, group_can, group_kept, group_room_low, group_says, latches_kept, round_of}
 use Rattle.emtool.proofs.eval.run_groups.Given as given
 use Rattle.emtool.proofs.eval.run_groups.Goals.{After-group}
 use Rattle.emtool.proofs.eval.run_groups.Goals as goal
@@ -88,7 +87,7 @@ module _ (g : given.Over) (c : After-group g) where
       made.runs.runs.session.touches.shape c.requires.can.is made.is)
       (group_says g.met.W.Sink.rule old new (g.met.W.Sink.is_state c.loop.out) g.Q.Queue
       g.H.Shelf.tells (g.W.Sink.faults c.loop.out) (g.W.Sink.faults c.group.new.sink) c.group.result
-      made.is (ap (λ (h : Header). h.latches) made.keeps.header ∙ c.requires.no_latch)
+      made.is (latches_kept made.keeps c.requires.no_latch)
       (record {
         keeps = k.keeps;
         is = k.is;
