@@ -1,5 +1,5 @@
 -- What was done before a byte of the stimulus was taken.
-use Rattle.std.proofs.Common.{◌≡◌, ℕ, ◌+◌, ◌<◌, ◌≤◌, ◌⊎◌, inl, inr, refl, sym, ap, ◌∙◌, arith, Result, Ok, Err, IfErr, OnOk}
+use Rattle.std.proofs.Common.{◌≡◌, ℕ, ◌+◌, ◌<◌, ◌≤◌, inl, inr, refl, ◌∙◌, arith, Result, Ok, Err, IfErr, OnOk}
 use Rattle.em_space.specs.Rig.{RigState}
 use Rattle.aig_wide.specs.Calls.{BeginsAfter, CallsAfterByte, Rests}
 use Rattle.aig_wide.specs.GroupLines.{BeginsGroup}

@@ -1,5 +1,5 @@
 -- What is left of a stimulus, by its steps.
-use Rattle.std.proofs.Common.{◌≡◌, ℕ, ◌+◌, ◌<◌, ◌≤◌, Bool, List, [], ◌∷◌, ◌++◌, length, take, take_all, Option, Some, None, refl, sym, ap, ◌∙◌, arith}
+use Rattle.std.proofs.Common.{◌≡◌, ℕ, ◌<◌, ◌≤◌, Bool, List, [], ◌∷◌, ◌++◌, length, take, take_all, Some, None, refl, sym, ap, ◌∙◌, arith}
 use Rattle.std.proofs.lemmas.List.{append-nil, length-append, take-append-le}
 use Rattle.aig_defs.specs.Items.{Reading, Reads, Fails}
 use Rattle.aig_defs.specs.Stimulus.{Stimulus, line_then, no_steps, stimulus_from, stimulus_line, stimulus_within}

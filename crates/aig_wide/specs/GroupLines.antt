@@ -1,5 +1,5 @@
 -- The lines of a group, which were read and whose words stand in the queue.
-use Rattle.std.specs.Prelude.{◌≡◌, ◌<◌, ◌≤◌, ◌+◌, ◌*◌, ℕ, min, Bool, List, [], ◌∷◌, ◌++◌, length, map, Some, IsTrue, Result, Ok, Err}
+use Rattle.std.specs.Prelude.{◌≡◌, ◌<◌, ◌≤◌, ◌+◌, ◌*◌, ℕ, min, Bool, List, [], ◌∷◌, length, map, Some, IsTrue, Result, Ok, Err}
 use Rattle.em_record.specs.Count.{Rose}
 use Rattle.em_space.specs.Rig.{RigState}
 use Rattle.aig_edges.specs.declared.stop.StepStop.{StepStop}

@@ -1,5 +1,5 @@
 -- A group over a queue and two chains of edges: its lines are read, evaluated and printed.
-use Rattle.std.specs.Prelude.{◌≡◌, ◌<◌, ◌≤◌, ℕ, ◌+◌, ◌^◌, max, Bool, List, ◌++◌, IsTrue, Result, Ok, Err}
+use Rattle.std.specs.Prelude.{◌≡◌, ◌<◌, ℕ, ◌+◌, ◌^◌, max, Bool, List, ◌++◌, IsTrue, Result, Ok, Err}
 use Rattle.em_io.specs.Sink.{Sent, SentPart}
 use Rattle.em_record.specs.Count.{Rose}
 use Rattle.em_space.specs.Held.{Holds}

@@ -85,15 +85,7 @@ pub(crate) fn run_group<D: Device, H: Shelf, Q: Queue, W: Sink>(
             Ending::Ended => Ok(GroupEnd::End),
         };
     }
-    sweep(
-        rig,
-        queue,
-        header,
-        given,
-        gates,
-        group.lines,
-        group.part,
-    )?;
+    sweep(rig, queue, header, given, gates, group.lines, group.part)?;
     let columns = header.outputs + header.bads + header.constraints;
     put_lines(rig, queue, columns, group.lines, printer, sink)?;
     match group.ending {

@@ -1,4 +1,4 @@
-use Rattle.std.proofs.Common.{◌<◌, arith, inl, inr, refl}
+use Rattle.std.proofs.Common.{arith, inl, inr, refl}
 use Rattle.em_space.specs.Seen.{seen}
 use Rattle.aig_text.specs.Source.{source}
 use Rattle.aig_text.proofs.Steadies.{advances_then}
