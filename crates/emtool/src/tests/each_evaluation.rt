@@ -140,9 +140,9 @@ const EVALUATED: [&str; 11] = [
 /// it, and 2 load and release it. The lines of a group go to the printer after all of its calls, so that a
 /// call that fails in a group leaves those of the groups before it.
 const IN_GROUPS: [&str; 4] = [
-    // The conjunction on two lines. The device: 81 calls, 71 before the first group and its 10. The shelf: 15 calls, as of
-    // two steps; all come in the one group, since it looks for a third line. The output: two calls.
-    "eval --wide --block=128 --frames=64 a s|aag 3 2 0 1 1/2/4/6/6 2 4/|11/01/|1/0/|0|81 0|15 0|1 0,1 3",
+    // The conjunction on two lines. The device: 81 calls, 71 before the first group and its 10. The shelf: 16 calls, the
+    // 15 of two steps, since the group looks for a third line, and 1 more at the end of the stimulus. The output: two calls.
+    "eval --wide --block=128 --frames=64 a s|aag 3 2 0 1 1/2/4/6/6 2 4/|11/01/|1/0/|0|81 0|15 0,1 4|1 0,1 3",
     // The second line ends too early. The device: 81 calls, since the group has one line. The shelf: 14 calls, since the
     // fault is found before the end. The output: one call.
     "eval --wide --block=128 --frames=64 a s|aag 3 2 0 1 1/2/4/6/6 2 4/|11/0/|1/|2|81 0|14 0|1 0",
@@ -151,13 +151,13 @@ const IN_GROUPS: [&str; 4] = [
     "eval --wide --block=128 --frames=64 a s|aag 3 2 0 1 1/2/4/6/6 2 4/|1/11/||2|71 0|13 0|",
     // The constant 1 on 65 lines, of which the last one is a group of its own. The device: 54 calls: 44 before the first
     // group, and 5 in each: 1 loads the edge, 2 take a block for the column's word and store it, and 2 load and release it.
-    // The shelf: 32 calls: 8 for the circuit, 1 that opens the stimulus, 22 for its 65 bytes, of which the last one gives the
-    // 65th line too, and 1 at its end. The output: 44 calls for 130 bytes.
+    // The shelf: 33 calls: 8 for the circuit, 1 that opens the stimulus, 22 for its 65 bytes, of which the last one gives the
+    // 65th line too, and 2 at its end: one in the second group, and one after it. The output: 44 calls for 130 bytes.
     "eval --wide --block=128 --frames=64 a s|aag 0 0 0 1 0/1/|\
      /////////////////////////////////////////////////////////////////|\
      1/1/1/1/1/1/1/1/1/1/1/1/1/1/1/1/1/1/1/1/1/1/1/1/1/1/1/1/1/1/1/1/\
      1/1/1/1/1/1/1/1/1/1/1/1/1/1/1/1/1/1/1/1/1/1/1/1/1/1/1/1/1/1/1/1/1/|0|\
-     49 0,5 128|31 0,1 128|44 0+3",
+     49 0,5 128|31 0,1 128,1 130|44 0+3",
 ];
 
 /// Circuits with a fault, or with a stimulus that isn't there: no step is made, and the output isn't called.
