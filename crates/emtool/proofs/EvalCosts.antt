@@ -160,8 +160,10 @@ groups_units shape size n is one =
     turned shape calls n h =
         let e : n * calls ≡ calls * n = omega arith in
         subst (λ (x : ℕ). blocks_of shape x ≤ n * blocks_of shape calls) e h
+
     most : (n q b x : ℕ) → 1 ≤ n → b ≤ x → x ≤ n * (2 * q + 2) → b + 1 ≤ 3 * n * (q + 1)
     most n q b x one h k = omega (arith, one, h, k)
+
     units : (x n q floors : ℕ) → x ≤ 240 * (3 * n * (q + 1)) * (2 * floors)
         → x ≤ 1440 * n * ((q + 1) * floors)
     units x n q floors h = omega (arith, h)

@@ -1,6 +1,6 @@
 -- The moves of an evaluation along the edges of a circuit: those of its evaluator and of its queue are
 -- within those of a circuit of this size and of the rounds that were begun.
-use Rattle.std.proofs.Common.{◌≡◌, ℕ, ◌+◌, ◌*◌, ◌<◌, ◌≤◌, ◌⊎◌, ⊎_elim, Bool, true, false, zero, suc, refl, List, ap, sym, subst, ◌∙◌, arith, IsTrue, Result}
+use Rattle.std.proofs.Common.{◌≡◌, ℕ, ◌+◌, ◌*◌, ◌<◌, ◌≤◌, ◌⊎◌, ⊎_elim, Bool, true, false, zero, suc, refl, List, ap, sym, subst, ◌∙◌, arith, IsTrue, IfSome, Option, Some, None, Result}
 use Rattle.std.proofs.Math.Nat.{mul-le-mul}
 use Rattle.em_record.specs.Cost.{cost}
 use Rattle.em_record.specs.Shape.{IsShape, ShapeNumbers, payload_of}
@@ -21,12 +21,10 @@ use Rattle.aig_defs.specs.Begun.{circuit_size}
 use Rattle.aig_defs.specs.Circuit.{columns}
 use Rattle.aig_edges.specs.Graph.{edge_count}
 use Rattle.aig_edges.specs.declared.graph.Ordered.{Ordered}
-use Rattle.aig_forward.specs.Step.{step_moves}
 use Rattle.aig_sweep.specs.Lists.{begin_moves}
-use Rattle.aig_sweep.specs.Sweeper.{lists_size}
 use Rattle.aig_sweep.specs.declared.sweeper.Sweeper.{Sweeper}
-use Rattle.aig_wide.specs.Group.{group_calls, group_moves}
-use Rattle.emtool.specs.EvalMoves.{calling_moves, groups_moves, making_moves, round_calls, round_lines, rounds_moves}
+use Rattle.aig_wide.specs.Group.{group_calls}
+use Rattle.emtool.specs.EvalMoves.{calling_moves, making_moves, round_calls, round_lines, rounds_moves}
 use Rattle.emtool.specs.EvalSize.{rounds_of}
 use Rattle.emtool.specs.Evaluation.{CanBegin, PrintsSteps, Round, RoundsMove, group_round, step_round, steps_of}
 use Rattle.emtool.specs.Queues.{FailsToMake}
@@ -151,8 +149,16 @@ module _ {Q : Type 0} {queue : QueueGhosts Q} {s m a : RigState} {o : Ordered} {
       record {
         lines = refl;
         calls = omega (arith, edges);
-        moves = omega (arith, lists_held, u.can.packed, fit.edges, fit.inputs, fit.latches, inputs,
-            latches);
+        moves = omega (
+          arith,
+          lists_held,
+          u.can.packed,
+          fit.edges,
+          fit.inputs,
+          fit.latches,
+          inputs,
+          latches,
+        );
       }
 
   -- and so does a group.
@@ -178,106 +184,118 @@ module _ {H W Q : Type 0} {h : ShelfGhosts H} {w : SinkGhosts W} {queue : QueueG
     {done result : Result (Unit {0}) Stop}
     (v : Evaluated h w queue round s m a b t o q e d shelf shelf_after out mid out_after pending done result)
     (wide : Bool) (fits : FitsRound wide s.pool.shape (circuit_size o.header) round) where
-    -- how many lines were begun, and how many rounds
-    abbrev lines : ℕ
-    lines = steps_of o.header.inputs ((h.stand shelf).slot Second).left
-        ((h.stand shelf_after).slot Second)
+  -- how many lines were begun, and how many rounds
+  abbrev lines : ℕ
+  lines = steps_of o.header.inputs ((h.stand shelf).slot Second).left
+      ((h.stand shelf_after).slot Second)
 
-    abbrev begun : ℕ
-    begun = ceiling lines (round_lines wide)
+  abbrev begun : ℕ
+  begun = ceiling lines (round_lines wide)
 
-    -- the same, by the evaluator's header and the round
-    rounds_same : (x : Header) (n : ℕ) → x ≡ o.header → n ≡ round_lines wide
-        → ceiling (steps_of x.inputs ((h.stand shelf).slot Second).left
-        ((h.stand shelf_after).slot Second)) n ≡ begun
-    rounds_same x n f g = rw (f, g) refl
+  -- the same, by the evaluator's header and the round
+  rounds_same : (x : Header) (n : ℕ) → x ≡ o.header → n ≡ round_lines wide
+      → ceiling (steps_of x.inputs ((h.stand shelf).slot Second).left
+      ((h.stand shelf_after).slot Second)) n ≡ begun
+  rounds_same x n f g = rw (f, g) refl
 
-    -- What its queue moved, if it keeps to its share, is within the share of the calls of the rounds that were
-    -- begun.
-    spent_few : IsTrue h.tells → (queue.counts d.queue).spent
-        ≤ queue_share b.pool.shape (queue.counts d.queue).n (queue.counts d.queue).k
-        → (queue.counts d.queue).spent ≤ queue_share s.pool.shape
-        (round_calls wide (circuit_size o.header) * begun) (round_calls wide (circuit_size o.header))
-    spent_few z spends =
-        let c = queue.counts d.queue in
-        let calls = round_calls wide (circuit_size o.header) in
-        let own : c.n ≤ round.calls * begun =
-        subst (λ (n : ℕ). c.n ≤ round.calls * n)
-        (rounds_same e.header round.lines v.made.begins.header fits.lines) (v.steps.called z) in
-        let all : round.calls * begun ≤ calls * begun =
-        mul-le-mul {n₁ = round.calls} {m₁ = begun} {n₂ = calls} {m₂ = begun} fits.calls
-        (omega arith) in
-        let none : (queue.counts e.queue).k ≡ 0 =
-        ap (λ (x : QueueCounts). x.k) (counts_same v.made) ∙ v.made.makes.new.k in
-        let run = v.steps.run in
-        let few = fits.calls in
-        let rises = queue_share_rises s.pool.shape c.n (calls * begun) c.k calls
-        (most_calls c.n (round.calls * begun) (calls * begun) own all)
-        (omega (arith, run, none, few)) in
-        let within : c.spent ≤ queue_share s.pool.shape c.n c.k =
-        subst (λ (x : ShapeNumbers). c.spent ≤ queue_share x c.n c.k)
-        (v.steps.touches.shape ∙ shape_before v.made) spends in
-        most_calls c.spent (queue_share s.pool.shape c.n c.k)
-        (queue_share s.pool.shape (calls * begun) calls) within rises
-      where
-        most_calls : (x y z : ℕ) → x ≤ y → y ≤ z → x ≤ z
-        most_calls x y z h k = omega (arith, h, k)
+  -- What its queue moved, if it keeps to its share, is within the share of the calls of the rounds that were
+  -- begun.
+  spent_few : IsTrue h.tells → (queue.counts d.queue).spent
+      ≤ queue_share b.pool.shape (queue.counts d.queue).n (queue.counts d.queue).k
+      → (queue.counts d.queue).spent ≤ queue_share s.pool.shape
+      (round_calls wide (circuit_size o.header) * begun) (round_calls wide (circuit_size o.header))
+  spent_few z spends =
+      let c = queue.counts d.queue in
+      let calls = round_calls wide (circuit_size o.header) in
+      let own : c.n ≤ round.calls * begun =
+      subst (λ (n : ℕ). c.n ≤ round.calls * n)
+      (rounds_same e.header round.lines v.made.begins.header fits.lines) (v.steps.called z) in
+      let all : round.calls * begun ≤ calls * begun =
+      mul-le-mul {n₁ = round.calls} {m₁ = begun} {n₂ = calls} {m₂ = begun} fits.calls
+      (omega arith) in
+      let none : (queue.counts e.queue).k ≡ 0 =
+      ap (λ (x : QueueCounts). x.k) (counts_same v.made) ∙ v.made.makes.new.k in
+      let run = v.steps.run in
+      let few = fits.calls in
+      let rises = queue_share_rises s.pool.shape c.n (calls * begun) c.k calls
+      (most_calls c.n (round.calls * begun) (calls * begun) own all)
+      (omega (arith, run, none, few)) in
+      let within : c.spent ≤ queue_share s.pool.shape c.n c.k =
+      subst (λ (x : ShapeNumbers). c.spent ≤ queue_share x c.n c.k)
+      (v.steps.touches.shape ∙ shape_before v.made) spends in
+      most_calls c.spent (queue_share s.pool.shape c.n c.k)
+      (queue_share s.pool.shape (calls * begun) calls) within rises
+    where
+      most_calls : (x y z : ℕ) → x ≤ y → y ≤ z → x ≤ z
+      most_calls x y z h k = omega (arith, h, k)
 
-    -- No step was begun: what was moved is what making the evaluator moved.
-    still_moves : m.moves ≤ s.moves + 4 → b.moves ≤ a.moves
-        → b.moves ≤ s.moves + (making_moves s.pool.shape (circuit_size o.header)
-        + rounds_moves wide s.pool.shape (circuit_size o.header) lines)
-    still_moves few none =
-        let u = v.made in
-        let size = circuit_size o.header in
-        let all = begun_by b.moves a.moves (queue.counts q).spent m.moves (begin_moves o) none
-        u.begins.runs.runs.spends.moves in
-        without_steps (ceiling size (payload_of s.pool.shape))
-        (rounds_moves wide s.pool.shape size lines) s.moves b.moves
-        (added b.moves m.moves s.moves (begin_moves o) (ceiling size (payload_of s.pool.shape)) all
-        few (begins_few u.can))
-      where
-        begun_by : (b a c m n : ℕ) → b ≤ a → a + (c + 0) + (0 + 0) ≤ m + (0 + n) + (c + 0)
-            → b ≤ m + n
-        begun_by b a c m n none h = omega (arith, none, h)
+  -- No step was begun: what was moved is what making the evaluator moved.
+  still_moves : m.moves ≤ s.moves + 4 → b.moves ≤ a.moves
+      → b.moves ≤ s.moves + (making_moves s.pool.shape (circuit_size o.header)
+      + rounds_moves wide s.pool.shape (circuit_size o.header) lines)
+  still_moves few none =
+      let u = v.made in
+      let size = circuit_size o.header in
+      let all = begun_by b.moves a.moves (queue.counts q).spent m.moves (begin_moves o) none
+      u.begins.runs.runs.spends.moves in
+      without_steps (ceiling size (payload_of s.pool.shape))
+      (rounds_moves wide s.pool.shape size lines) s.moves b.moves
+      (added b.moves m.moves s.moves (begin_moves o) (ceiling size (payload_of s.pool.shape)) all
+      few (begins_few u.can))
+    where
+      begun_by : (b a c m n : ℕ) → b ≤ a → a + (c + 0) + (0 + 0) ≤ m + (0 + n) + (c + 0)
+          → b ≤ m + n
+      begun_by b a c m n none h = omega (arith, none, h)
 
-    -- Steps were begun.
-    steps_made : IsTrue h.tells → IsTrue s.device.told
-        → (IsTrue b.device.told → (queue.counts d.queue).spent
-        ≤ queue_share b.pool.shape (queue.counts d.queue).n (queue.counts d.queue).k)
-        → RoundsMove queue a b e d round begun
-        → b.moves ≤ s.moves + (making_moves s.pool.shape (circuit_size o.header)
-        + rounds_moves wide s.pool.shape (circuit_size o.header) lines)
-    steps_made z told spends r =
-        let u = v.made in
-        let size = circuit_size o.header in
-        let calls = round_calls wide size in
-        let later : IsTrue b.device.told = v.steps.touches.told ∙ ((made_touches u).told ∙ told) in
-        let share = queue_share s.pool.shape (calls * begun) calls in
-        let all = run_by (queue.counts q) (queue.counts e.queue) (queue.counts d.queue) s.moves
-        m.moves a.moves b.moves (begin_moves o) (begun * round.moves) share (counts_same u)
-        u.makes.spent u.begins.runs.runs.spends.moves r.most (spent_few z (spends later)) in
-        rounds_counted s.pool.shape size calls begun s.moves b.moves r.some
-        (with_rounds (ceiling size (payload_of s.pool.shape)) begun share s.moves b.moves
-        (begin_moves o) round.moves all (begins_few u.can) fits.moves)
+  -- Steps were begun.
+  steps_made : IsTrue h.tells → IsTrue s.device.told
+      → (IsTrue b.device.told → (queue.counts d.queue).spent
+      ≤ queue_share b.pool.shape (queue.counts d.queue).n (queue.counts d.queue).k)
+      → RoundsMove queue a b e d round begun
+      → b.moves ≤ s.moves + (making_moves s.pool.shape (circuit_size o.header)
+      + rounds_moves wide s.pool.shape (circuit_size o.header) lines)
+  steps_made z told spends r =
+      let u = v.made in
+      let size = circuit_size o.header in
+      let calls = round_calls wide size in
+      let later : IsTrue b.device.told = v.steps.touches.told ∙ ((made_touches u).told ∙ told) in
+      let share = queue_share s.pool.shape (calls * begun) calls in
+      let all = run_by (queue.counts q) (queue.counts e.queue) (queue.counts d.queue) s.moves
+      m.moves a.moves b.moves (begin_moves o) (begun * round.moves) share (counts_same u)
+      u.makes.spent u.begins.runs.runs.spends.moves r.most (spent_few z (spends later)) in
+      rounds_counted s.pool.shape size calls begun s.moves b.moves r.some
+      (with_rounds (ceiling size (payload_of s.pool.shape)) begun share s.moves b.moves
+      (begin_moves o) round.moves all (begins_few u.can) fits.moves)
 
-    -- An evaluation moves at most what making its evaluator does, and its rounds.
-    pub evaluated_moves : m.moves ≤ s.moves + 4 → (IsTrue b.device.told → (queue.counts d.queue).spent
-        ≤ queue_share b.pool.shape (queue.counts d.queue).n (queue.counts d.queue).k)
-        → KeepsSteps wide h s t o shelf shelf_after
-    evaluated_moves few spends = λ z told.
-        let size = circuit_size o.header in
-        let steps : (b.moves ≤ a.moves) ⊎ RoundsMove queue a b e d round begun =
-        subst (λ (n : ℕ). (b.moves ≤ a.moves) ⊎ RoundsMove queue a b e d round n)
-        (rounds_same e.header round.lines v.made.begins.header fits.lines) (v.steps.moves z) in
-        let ended : t.moves ≡ b.moves = ap (λ (r : RigState). r.moves) v.leaves.same in
-        subst (λ (n : ℕ). n ≤ s.moves + (making_moves s.pool.shape size
-        + rounds_moves wide s.pool.shape size lines)) (sym ended)
-        (⊎_elim (λ (none : b.moves ≤ a.moves). still_moves few none)
-        (λ (r : RoundsMove queue a b e d round begun). steps_made z told spends r) steps)
+  -- An evaluation moves at most what making its evaluator does, and its rounds.
+  pub evaluated_moves : m.moves ≤ s.moves + 4 → (IsTrue b.device.told → (queue.counts d.queue).spent
+      ≤ queue_share b.pool.shape (queue.counts d.queue).n (queue.counts d.queue).k)
+      → KeepsSteps wide h s t o shelf shelf_after
+  evaluated_moves few spends = λ z told.
+      let size = circuit_size o.header in
+      let steps : (b.moves ≤ a.moves) ⊎ RoundsMove queue a b e d round begun =
+      subst (λ (n : ℕ). (b.moves ≤ a.moves) ⊎ RoundsMove queue a b e d round n)
+      (rounds_same e.header round.lines v.made.begins.header fits.lines) (v.steps.moves z) in
+      let ended : t.moves ≡ b.moves = ap (λ (r : RigState). r.moves) v.leaves.same in
+      subst (λ (n : ℕ). n ≤ s.moves + (making_moves s.pool.shape size
+      + rounds_moves wide s.pool.shape size lines)) (sym ended)
+      (⊎_elim (λ (none : b.moves ≤ a.moves). still_moves few none)
+      (λ (r : RoundsMove queue a b e d round begun). steps_made z told spends r) steps)
 
--- All rounds together cost 2E records a round, and twice that a group: over a queue that was new, and that moved no
--- more than its share.
+-- It is an allowance that is at most a queue's share.
+abbrev pub IsWithinShare : Option (ShapeNumbers → ℕ → ℕ → ℕ) → Type 0
+IsWithinShare (Some f) = (shape : ShapeNumbers) (n k : ℕ) → f shape n k ≤ queue_share shape n k
+IsWithinShare None = ⊥
+
+-- A queue that keeps to it keeps to its share.
+pub within_share : (allowance : Option (ShapeNumbers → ℕ → ℕ → ℕ)) (shape : ShapeNumbers)
+    (n k spent : ℕ) → IsWithinShare allowance → IfSome allowance (λ f. spent ≤ f shape n k)
+    → spent ≤ queue_share shape n k
+within_share (Some f) shape n k spent low most = let few = low shape n k in omega (arith, few, most)
+within_share None shape n k spent low most = absurd low
+
+-- All rounds together cost no more than the rounds of a bound: over a queue of which no call came, and that moved
+-- no more than its share.
 module _ {H W Q : Type 0} {h : ShelfGhosts H} {w : SinkGhosts W} {queue : QueueGhosts Q} {round : Round}
     {s t : RigState} {e d : Sweeper Q} {shelf shelf_after : H} {out out_after : W} {pending : List ℕ}
     {result : Result (Unit {0}) Stop}
@@ -288,11 +306,11 @@ module _ {H W Q : Type 0} {h : ShelfGhosts H} {w : SinkGhosts W} {queue : QueueG
   read = steps_of e.header.inputs ((h.stand shelf).slot Second).left
       ((h.stand shelf_after).slot Second)
 
-  pub rounds_cost : IsShape s.pool.shape → IsTrue h.tells → (queue.counts e.queue).k ≡ 0
-      → (queue.counts d.queue).spent
+  pub rounds_cost : IsShape s.pool.shape → IsTrue h.tells → (queue.counts e.queue).n ≡ 0
+      → (queue.counts e.queue).k ≤ (queue.counts e.queue).n → (queue.counts d.queue).spent
       ≤ queue_share s.pool.shape (queue.counts d.queue).n (queue.counts d.queue).k
       → t.moves ≤ s.moves + rounds_of wide read * cost s.pool.shape (2 * size)
-  rounds_cost is z none spends =
+  rounds_cost is z none few_k spends =
       let shape = s.pool.shape in
       let c = queue.counts d.queue in
       let calls = round_calls wide size in
@@ -305,7 +323,7 @@ module _ {H W Q : Type 0} {h : ShelfGhosts H} {w : SinkGhosts W} {queue : QueueG
       let few = fits.calls in
       let rises = queue_share_rises shape c.n (calls * begun) c.k calls
       (after c.n (round.calls * begun) (calls * begun) own all)
-      (omega (arith, run, none, few)) in
+      (omega (arith, run, none, few_k, few)) in
       let share = queue_share shape (calls * begun) calls in
       let within = rounds_within wide shape size read is in
       let bound = rounds_of wide read * cost shape (2 * size) in
@@ -318,8 +336,13 @@ module _ {H W Q : Type 0} {h : ShelfGhosts H} {w : SinkGhosts W} {queue : QueueG
     where
       after : (x y z : ℕ) → x ≤ y → y ≤ z → x ≤ z
       after x y z f g = omega (arith, f, g)
+
       within_bound : (t s m b : ℕ) → t ≤ s + m → m ≤ b → t ≤ s + b
       within_bound t s m b f g = omega (arith, f, g)
+
+      added_up : (t c s x m l q : ℕ) → t + c ≤ s + x + m → m ≤ l → x ≤ q → t ≤ s + (l + q)
+      added_up t c s x m l q f g k = omega (arith, f, g, k)
+
       moved : (n : ℕ) → (queue.counts d.queue).spent
           ≤ queue_share s.pool.shape (round_calls wide size * n) (round_calls wide size)
           → RoundsMove queue s t e d round n
@@ -331,8 +354,6 @@ module _ {H W Q : Type 0} {h : ShelfGhosts H} {w : SinkGhosts W} {queue : QueueG
           mul-le-mul {n₁ = suc n} {m₁ = round.moves} {n₂ = suc n} {m₂ = 9 * c + 7} (omega arith)
           fits.moves in
           let most = r.most in
-          sum t.moves (queue.counts e.queue).spent s.moves (queue.counts d.queue).spent
+          added_up t.moves (queue.counts e.queue).spent s.moves (queue.counts d.queue).spent
           (suc n * round.moves) (suc n * (9 * c + 7))
           (queue_share s.pool.shape (round_calls wide size * suc n) (round_calls wide size)) most lists f
-      sum : (t c s x m l q : ℕ) → t + c ≤ s + x + m → m ≤ l → x ≤ q → t ≤ s + (l + q)
-      sum t c s x m l q f g k = omega (arith, f, g, k)

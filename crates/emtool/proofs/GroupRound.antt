@@ -1,5 +1,5 @@
 -- A group of an evaluator is a round of up to 64 lines.
-use Rattle.std.proofs.Common.{◌≡◌, ℕ, ◌+◌, ◌*◌, ◌^◌, ◌<◌, ◌≤◌, max, Bool, List, [], ◌∷◌, ◌++◌, length, map, take, ap, sym, subst, ◌∙◌, refl, arith, IsTrue, Option, Some, None, Result, Ok, Err}
+use Rattle.std.proofs.Common.{◌≡◌, ℕ, ◌+◌, ◌*◌, ◌^◌, ◌<◌, ◌≤◌, Bool, List, [], ◌∷◌, ◌++◌, map, take, ap, sym, subst, ◌∙◌, refl, arith, IsTrue, Option, Some, None, Result, Ok, Err}
 use Rattle.std.proofs.lemmas.List.{nil_from_length}
 use Rattle.std.specs.Prelude.{IfErr, OnOk}
 use Rattle.em_record.specs.declared.record.Record.{Record}
@@ -11,29 +11,28 @@ use Rattle.em_chain.specs.Counts.{ceiling}
 use Rattle.em_chain.proofs.Readers.{length_items}
 use Rattle.aig_defs.specs.Begun.{circuit_size}
 use Rattle.aig_defs.specs.Circuit.{Circuit, IsHeader, columns, nexts, resets}
-use Rattle.aig_defs.specs.Stimulus.{Stimulus, output_lines}
+use Rattle.aig_defs.specs.Stimulus.{output_lines}
 use Rattle.aig_defs.specs.Value.{literal_value, run_from, step_of}
 use Rattle.aig_defs.specs.declared.circuit.Gate.{Gate}
 use Rattle.aig_defs.specs.declared.circuit.Header.{Header}
 use Rattle.aig_defs.specs.declared.circuit.Latch.{Latch}
 use Rattle.aig_text.specs.Reads.{Advances}
-use Rattle.aig_text.specs.Source.{Source, left}
-use Rattle.aig_edges.specs.Graph.{edge_count}
+use Rattle.aig_text.specs.Source.{Source}
 use Rattle.aig_edges.specs.declared.stop.StepStop.{StepStop}
 use Rattle.aig_edges.specs.declared.stop.StepStop.TheVariants as stop
 use Rattle.aig_sweep.specs.Bits.{bits_of}
 use Rattle.aig_sweep.specs.Columns.{column_room}
-use Rattle.aig_sweep.specs.Scene.{ActsAfterByte, IsQuiet, Keeps, KeepsFront, Scene, StepCause}
+use Rattle.aig_sweep.specs.Scene.{ActsAfterByte, Keeps, KeepsFront, Scene, StepCause}
 use Rattle.aig_sweep.specs.Sweeper.{Evaluates, IsSweeper, lists_size}
 use Rattle.aig_sweep.specs.declared.sweeper.Sweeper.{Sweeper}
-use Rattle.aig_wide.specs.Group.{AnswersGroup, CanGroup, FollowsGroup, GroupCosts, IfPrintedGroup, TakesLines, group_calls, group_moves, group_room, lines_of, stimulus_at}
+use Rattle.aig_wide.specs.Group.{AnswersGroup, CanGroup, FollowsGroup, GroupCosts, IfPrintedGroup, group_calls, group_moves, group_room, lines_of, stimulus_at}
 use Rattle.aig_wide.specs.Sweeps.{input_room}
 use Rattle.aig_wide.specs.declared.group.GroupEnd.{GroupEnd}
 use Rattle.aig_wide.specs.declared.group.GroupEnd.TheVariants.{Printed, End}
 use Rattle.aig_words.specs.Words.{lane}
-use Rattle.emtool.specs.Evaluation.{Round, group_round}
+use Rattle.emtool.specs.Evaluation.{group_round}
 use Rattle.emtool.proofs.RoundLoop.{gates_same, given_same, payload_same, same_round, size_kept}
-use Rattle.emtool.proofs.Rounds.{AnswersRound, CanRound, FollowsRound, IfLines, RoundCosts, RoundSays, TakesRound}
+use Rattle.emtool.proofs.Rounds.{AnswersRound, CanRound, FollowsRound, IfLines, RoundCosts, RoundSays}
 use Rattle.emtool.proofs.StepRound.{quiet_front}
 use Rattle.emtool.proofs.Stepping.{lines_from, lines_next, state_after}
 
@@ -63,14 +62,17 @@ pub record GroupSays {Q : Type 0} (queue : QueueGhosts Q) (took : List ℕ → L
 
 follows_many : (inputs : ℕ) (old new : Source) (r : Result GroupEnd StepStop)
     → FollowsGroup inputs old new r → FollowsRound 64 inputs old new (round_of r)
-follows_many inputs old new (Ok (Printed count)) f = (f.0, record {
-  some = f.1.some;
-  low = f.1.low;
-  high = f.1.high;
-  steps = f.1.steps;
-  last = f.1.last;
-  begun = f.1.begun;
-})
+follows_many inputs old new (Ok (Printed count)) f = (
+  f.0,
+  record {
+    some = f.1.some;
+    low = f.1.low;
+    high = f.1.high;
+    steps = f.1.steps;
+    last = f.1.last;
+    begun = f.1.begun;
+  },
+)
 follows_many inputs old new (Ok End) f = f
 follows_many inputs old new (Err (stop.Fault kind place)) f = (f.0, f.1.steps)
 follows_many inputs old new (Err stop.Read) f = tt

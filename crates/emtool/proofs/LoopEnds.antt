@@ -21,7 +21,6 @@ use Rattle.em_queued.specs.Queued.{RunsBeside}
 use Rattle.em_queued.proofs.Queued.{called_then, shares_frames}
 use Rattle.aig_defs.specs.Items.{Reading, Reads, Fails}
 use Rattle.aig_defs.specs.Stimulus.{Stimulus, begun_from, stimulus_from, stimulus_line}
-use Rattle.aig_defs.specs.declared.circuit.Header.{Header}
 use Rattle.aig_defs.proofs.Stimulus.{begun_read, begun_stops}
 use Rattle.aig_text.specs.Reads.{Advances}
 use Rattle.aig_text.specs.Source.{Source, left}
@@ -31,7 +30,6 @@ use Rattle.aig_sweep.specs.Lists.{lists_account}
 use Rattle.aig_sweep.specs.Scene.{ActsAfterByte, Scene, StepCause}
 use Rattle.aig_sweep.specs.Sweeper.{Halted, IsSweeper, lists_size, sweeper_blocks}
 use Rattle.aig_sweep.specs.declared.sweeper.Sweeper.{Sweeper}
-use Rattle.aig_wide.specs.Group.{stimulus_at}
 use Rattle.emtool.specs.EvalSize.{given_of}
 use Rattle.emtool.specs.Evaluation.{EndsSteps, ReadsSecond, Round, RoundsMove, StepsCause}
 use Rattle.emtool.specs.Opens.{IsAllRead}

@@ -1,5 +1,5 @@
 -- The loop over the rounds of an evaluation: what was printed at its end, and all that it promises.
-use Rattle.std.proofs.Common.{◌≡◌, ℕ, ◌+◌, ◌*◌, ◌<◌, ◌≤◌, Bool, true, List, [], ◌++◌, take, drop, ap, sym, subst, ◌∙◌, refl, arith, append_assoc, IsTrue, Option, Some, None, Result, Ok, Err}
+use Rattle.std.proofs.Common.{◌≡◌, ℕ, ◌+◌, ◌<◌, ◌≤◌, Bool, true, List, [], ◌++◌, take, drop, ap, sym, subst, ◌∙◌, refl, arith, append_assoc, IsTrue, Option, Some, None, Result, Ok, Err}
 use Rattle.std.proofs.lemmas.List.{append-nil}
 use Rattle.em_io.specs.Feed.{Fed}
 use Rattle.em_io.specs.Sink.{IsRule, Sent, SentPart}

@@ -1,5 +1,5 @@
 -- The loop over the rounds of an evaluation, steps or groups: what was done after some of them.
-use Rattle.std.proofs.Common.{◌≡◌, ℕ, ◌+◌, ◌*◌, ◌^◌, ◌<◌, ◌≤◌, ◌⊎◌, ⊎_elim, inl, inr, max, Bool, List, [], ◌++◌, zero, suc, ap, sym, subst, ◌∙◌, refl, arith, append_assoc, IsTrue, Option, Some, Result, Ok}
+use Rattle.std.proofs.Common.{◌≡◌, ℕ, ◌+◌, ◌*◌, ◌^◌, ◌<◌, ◌≤◌, ◌⊎◌, ⊎_elim, inl, inr, max, Bool, List, [], ◌++◌, zero, suc, ap, subst, ◌∙◌, refl, arith, append_assoc, IsTrue, Some, Ok}
 use Rattle.em_record.specs.Shape.{ShapeNumbers, fan_of, payload_of}
 use Rattle.em_io.specs.Sink.{IsRule, Sent}
 use Rattle.em_io.specs.declared.shelf.Shelf.{Ghosts as ShelfGhosts}
@@ -12,7 +12,7 @@ use Rattle.em_space.specs.declared.queue.Queue.{Ghosts as QueueGhosts}
 use Rattle.em_chain.specs.Chain.{payload_in}
 use Rattle.em_chain.specs.Counts.{ceiling}
 use Rattle.em_chain.specs.declared.chain.Chain.{Chain}
-use Rattle.em_chain.proofs.Counts.{ceiling_more, lt_or_le, more_by}
+use Rattle.em_chain.proofs.Counts.{lt_or_le, more_by}
 use Rattle.em_queued.specs.Queued.{RunsBeside}
 use Rattle.em_queued.proofs.Queued.{beside_none, beside_then, beside_wider}
 use Rattle.aig_defs.specs.Circuit.{Circuit}

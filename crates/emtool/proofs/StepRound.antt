@@ -1,5 +1,5 @@
 -- A step of an evaluator is a round of one line.
-use Rattle.std.proofs.Common.{◌≡◌, ℕ, ◌+◌, ◌*◌, ◌^◌, ◌<◌, ◌≤◌, Bool, List, [], ◌∷◌, ◌++◌, take, ap, sym, subst, ◌∙◌, refl, arith, IsTrue, Option, Some, None, Result, Ok, Err}
+use Rattle.std.proofs.Common.{◌≡◌, ℕ, ◌+◌, ◌^◌, ◌<◌, ◌≤◌, Bool, List, [], ◌∷◌, ◌++◌, take, ap, sym, subst, ◌∙◌, refl, arith, IsTrue, Option, Some, None, Result, Ok, Err}
 use Rattle.std.proofs.lemmas.List.{append-nil}
 use Rattle.std.specs.Prelude.{IfErr, OnOk}
 use Rattle.em_io.specs.Sink.{IsRule, Sent, SentPart}
@@ -9,15 +9,12 @@ use Rattle.em_space.specs.declared.queue.Queue.{Ghosts as QueueGhosts}
 use Rattle.em_chain.specs.Counts.{ceiling}
 use Rattle.aig_defs.specs.Circuit.{Circuit, IsHeader}
 use Rattle.aig_defs.specs.Items.{Reading, Reads, Fails}
-use Rattle.aig_defs.specs.Stimulus.{Stimulus, begun_from, output_line, stimulus_from}
-use Rattle.aig_defs.specs.Value.{step_of}
+use Rattle.aig_defs.specs.Stimulus.{Stimulus}
 use Rattle.aig_defs.specs.declared.circuit.Gate.{Gate}
 use Rattle.aig_defs.specs.declared.circuit.Header.{Header}
-use Rattle.aig_defs.specs.declared.fault.AigKind.{AigKind}
 use Rattle.aig_defs.proofs.Stimulus.{begun_read, line_some, stimulus_read, stimulus_stops}
 use Rattle.aig_text.specs.Reads.{Advances}
 use Rattle.aig_text.specs.Source.{Source, left}
-use Rattle.aig_edges.specs.Graph.{edge_count}
 use Rattle.aig_edges.specs.declared.stop.StepStop.{StepStop}
 use Rattle.aig_edges.specs.declared.stop.StepStop.TheVariants as stop
 use Rattle.aig_sweep.specs.Lists.{input_room}
@@ -27,11 +24,10 @@ use Rattle.aig_sweep.specs.declared.sweeper.Sweeper.{Sweeper}
 use Rattle.aig_forward.specs.Step.{AnswersStep, CanStep, FollowsText, HaltsStep, IfPrinted, StepCosts, TakesLine, line_at, line_of, step_calls, step_moves, step_room}
 use Rattle.aig_forward.specs.declared.step_end.StepEnd.{StepEnd}
 use Rattle.aig_forward.specs.declared.step_end.StepEnd.TheVariants.{Printed, End}
-use Rattle.aig_wide.specs.Group.{after_steps, stimulus_at}
-use Rattle.emtool.specs.Evaluation.{Round, step_round}
+use Rattle.emtool.specs.Evaluation.{step_round}
 use Rattle.emtool.proofs.RoundLoop.{gates_same, given_same, latch_same, payload_same, same_round}
 use Rattle.emtool.proofs.Rounds.{AnswersRound, CanRound, FollowsRound, IfLines, RoundCosts, RoundSays, TakesRound}
-use Rattle.emtool.proofs.Stepping.{lines_from, lines_next, state_after}
+use Rattle.emtool.proofs.Stepping.{lines_from, lines_next}
 
 -- how a step ended, as a round
 abbrev pub round_of : Result StepEnd StepStop → Result (Option ℕ) StepStop
