@@ -44,7 +44,7 @@ pub(crate) fn shelf_of(alloc: Global, slot: Slot, escaped: &str) -> Result<MemSh
 }
 
 /// Prints the chains of a circuit, or its edges between ranks.
-fn print_records(rt: &HostRuntime, title: &str, circuit: &str, ranked: bool) -> Result<(), Fail> {
+fn print_circuit(rt: &HostRuntime, title: &str, circuit: &str, ranked: bool) -> Result<(), Fail> {
     let alloc = rt.alloc();
     let mut circuit = shelf_of(alloc, Slot::First, circuit)?;
     let mut device = MemDevice::new(alloc, &[])?;
@@ -67,8 +67,8 @@ fn print_part(
     part: Part,
 ) -> Result<(), Fail> {
     match part {
-        Part::Chains => print_records(rt, title, circuit, false),
-        Part::Edges => print_records(rt, title, circuit, true),
+        Part::Chains => print_circuit(rt, title, circuit, false),
+        Part::Edges => print_circuit(rt, title, circuit, true),
         Part::Lines(by, pace) => print_lines(rt, title, circuit, stimulus, by, pace),
         Part::Failing(by, pace) => print_failing(rt, title, circuit, stimulus, by, pace),
     }
