@@ -69,6 +69,15 @@ stimulus_at inputs s = stimulus_from inputs s.feed.place (left s)
 abbrev pub after_steps : List (List Bool) → Stimulus → Stimulus
 after_steps bits s = record { steps = bits ++ s.steps; fault = s.fault }
 
+-- no line is whole from here on: nothing is left, or the first line has a fault
+abbrev pub HasNoLine : ℕ → Source → Type 0
+HasNoLine inputs s = (stimulus_at inputs s).steps ≡ []
+
+-- Nothing went out, and what is pending is what it was.
+pub record LeavesOutput (taken taken_after pending pending_after : List ℕ) : Type 0 where
+  pub same : taken_after ≡ taken
+  pub kept : pending_after ≡ pending
+
 -- Lines were begun: this many, and those from here on, whatever was given beyond here.
 abbrev pub BeginsLines : ℕ → Source → Source → ℕ → Type 0
 BeginsLines inputs old new count = (given : ℕ) → new.feed.place ≤ given

@@ -32,7 +32,7 @@ impl<Q: Queue> WideEvaluator<Q> {
     ghost use Rattle.aig_sweep.specs.Scene.{ActsAfterByte, Keeps, StepCause, scene};
     ghost use Rattle.aig_sweep.specs.Sweeper.{BeginsFor, EndsSweeper, EndsTo, Evaluates, HasSweeperFrames, IsSweeper};
     ghost use Rattle.aig_wide.specs.Begins.{BeginsWideTo};
-    ghost use Rattle.aig_wide.specs.Group.{AnswersGroup, CanGroup, FollowsGroup, GroupCosts, IfPrintedGroup};
+    ghost use Rattle.aig_wide.specs.Group.{AnswersGroup, CanGroup, FollowsGroup, GroupCosts, HasNoLine, IfPrintedGroup, LeavesOutput};
 
     /// An evaluator along these edges, by a queue with no item. There is no latch.
     ///
@@ -73,7 +73,7 @@ impl<Q: Queue> WideEvaluator<Q> {
     /// stimulus's first fault, and exactly the lines before it were printed. `Read` and `Write` come only if
     /// the count of faults of shelf or sink rose, and `Em` if a call on the rig gave up. Over a device and
     /// a shelf that tell, nothing was printed at `Read`, and at `Write` and `Em` a front of the lines went out
-    /// or is pending. After a stop only `abandon` may be called.
+    /// or is pending. If no line is whole, nothing goes to the output. After a stop only `abandon` may be called.
     ///
     /// The queue is called at most twice for each edge, 128 times for each 64 inputs and 128 times for each
     /// 64 columns, however many lines there are; its calls in all, with these, are below 2^100. Beside its
@@ -111,6 +111,9 @@ impl<Q: Queue> WideEvaluator<Q> {
             (W.state sink.old) printer.old)
             (scene (seen D.state rig.new) self.new.sweeper (source H.Shelf feed.new shelf.new)
             (W.state sink.new) printer.new) result }
+        ensures quiet { IfErr result (λ stopped. IsTrue H.tells
+            → HasNoLine self.old.sweeper.header.inputs (source H.Shelf feed.old shelf.old)
+            → LeavesOutput (W.state sink.old) (W.state sink.new) printer.old printer.new) }
         ensures goes_on { W.faults sink.old ≤ W.faults sink.new }
         ensures cause { IfErr result (StepCause (H.faults shelf.old) (H.faults shelf.new)
             (W.faults sink.old) (W.faults sink.new) (seen D.state rig.old) (seen D.state rig.new)) }

@@ -9,7 +9,7 @@ ghost use Rattle.aig_text.specs.Reads.{Advances};
 ghost use Rattle.aig_text.specs.Source.{CanRead, source};
 ghost use Rattle.aig_sweep.specs.QueueState.{queue_state};
 ghost use Rattle.aig_wide.specs.Calls.{CallsAfterByte, Rests, UnlessRefused};
-ghost use Rattle.aig_wide.specs.Group.{FollowsGroup, IfPrintedGroup};
+ghost use Rattle.aig_wide.specs.Group.{FollowsGroup, HasNoLine, IfPrintedGroup, LeavesOutput};
 ghost use Rattle.aig_wide.specs.Prints.{CanRun, GroupCause, GroupedTo, IfEnded, PrintsTo};
 ghost use Rattle.aig_wide.specs.Puts.{printed};
 ghost use Rattle.aig_wide.specs.Sweeps.{HasEdges};
@@ -75,6 +75,9 @@ pub(crate) fn run_group<D: Device, H: Shelf, Q: Queue, W: Sink>(
         (printed W.Sink (queue_state Q.Queue queue.old (seen D.state rig.old)) sink.old printer.old)
         (printed W.Sink (queue_state Q.Queue queue.new (seen D.state rig.new)) sink.new printer.new)
         result }
+    ensures quiet { IfErr result (λ stopped. IsTrue H.tells
+        → HasNoLine header.now.inputs (source H.Shelf feed.old shelf.old)
+        → LeavesOutput (W.state sink.old) (W.state sink.new) printer.old printer.new) }
     ensures goes_on { W.faults sink.old ≤ W.faults sink.new }
 {
     let group = read_lines(rig, feed, shelf, queue, header.inputs)?;
