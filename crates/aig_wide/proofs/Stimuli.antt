@@ -28,15 +28,15 @@ steps_none inputs p [] e = refl
 steps_none inputs p (byte ∷ x) e =
     absurd (line_some (stimulus_line inputs p (byte ∷ x)) (stimulus_within (length x) inputs) e)
 
-no_bits : (bits : List (List Bool)) → length bits ≡ 0 → bits ≡ []
-no_bits [] e = refl
-no_bits (b ∷ bits) e = absurd (omega (arith, e))
+pub none_in : {A : Type 0} (xs : List A) → length xs ≡ 0 → xs ≡ []
+none_in [] e = refl
+none_in (x ∷ xs) e = absurd (omega (arith, e))
 
 pub nothing_left : (inputs : ℕ) (s t : Source) (bits : List (List Bool)) → length bits ≡ 0
     → stimulus_at inputs s ≡ after_steps bits (stimulus_at inputs t) → left t ≡ [] → left s ≡ []
 nothing_left inputs s t bits none steps e =
     steps_none inputs s.feed.place (left s)
-    (steps ∙ ap (λ (bs : List (List Bool)). after_steps bs (stimulus_at inputs t)) (no_bits bits none)
+    (steps ∙ ap (λ (bs : List (List Bool)). after_steps bs (stimulus_at inputs t)) (none_in bits none)
     ∙ ap (after_steps []) (none_at inputs t e))
 
 -- Something is left if there is a step, or a fault.

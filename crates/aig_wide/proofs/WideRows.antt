@@ -59,7 +59,7 @@ part_line : rows_records 0 (put_line (9 ∷ []) two_lines) ≡
     ∷ record { a = 1; b = 2; c = 2; d = 0 } ∷ []
 part_line = refl
 
--- so many words they are
+-- how many words they are
 words_counted : words_left 2 0 2 ≡ 4
 words_counted = refl
 

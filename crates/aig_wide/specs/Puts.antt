@@ -76,7 +76,7 @@ words_bytes n words = map bit_byte (line_bits n words)
 abbrev pub line_text : ℕ → List Record → List ℕ
 line_text columns items = output_line (line_bits columns (words_in (take (tiles columns) items)))
 
--- the lines of so many steps
+-- the lines of n steps
 abbrev pub lines_text : ℕ → ℕ → List Record → List ℕ
 lines_text columns zero items = []
 lines_text columns (suc n) items = line_text columns items ++ lines_text columns n (drop (tiles columns) items)

@@ -2,10 +2,11 @@ use Rattle.std.proofs.Common.{arith, inl, inr, refl}
 use Rattle.em_space.specs.Seen.{seen}
 use Rattle.aig_text.specs.Source.{source}
 use Rattle.aig_text.proofs.Steadies.{advances_then}
+use Rattle.aig_text.proofs.Lines.{of_error}
 use Rattle.aig_sweep.specs.QueueState.{queue_state}
 use Rattle.aig_wide.specs.Lines.{ReadsRestBy, UnlessEm}
 use Rattle.aig_wide.proofs.Bits.{read_on}
-use Rattle.aig_wide.proofs.Calls.{calls_none, of_error}
+use Rattle.aig_wide.proofs.Calls.{calls_none}
 use Rattle.aig_wide.proofs.Idles.{if_stopped, on_done}
 use Rattle.aig_wide.proofs.LineEnds.{line_stops, none_tiles, rest_ends}
 use Rattle.aig_wide.proofs.Tiles.{unless_unread}
