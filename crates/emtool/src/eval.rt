@@ -2,6 +2,7 @@
 //!
 //!     circuit   text -> parts -> graph -> edges between ranks     (first slot)
 //!     stimulus  a line -> a step -> a line of the output          (second slot)
+//!               up to 64 lines -> a group -> as many lines        (the same, if the job is wide)
 //!
 //! The second slot is opened only after the whole circuit was read and found to have no fault. Kept
 //! here: at each exit all frames are back, and the lines of the steps that were made were sent,
@@ -165,7 +166,8 @@ fn evaluate<D: Device, H: Shelf, W: Sink>(
     send_rest(done, &mut printer, out)
 }
 
-/// The same of a circuit without latches, up to 64 steps at once.
+/// The same of a circuit without latches, up to 64 steps at once. By `rounds_cost` of proofs/EvalMoves all its
+/// groups together make at most twice as many times the moves of the cost of 2E records as there are groups.
 fn evaluate_wide<D: Device, H: Shelf, W: Sink>(
     rig: &mut Rig<'_, D>,
     ordered: Ordered,
