@@ -25,8 +25,9 @@ import aiger
 STATES = 1 << 31
 KINDS = "map", "queue", "stab", "eval"
 SMALLEST = ["--block=128", "--frames=64"]
-# what --run tries; the plain answers of stab are quadratic. 20,000 lines of it have 5,000 stabs, of which nodes have nodes below them
-TRIED = ("map", 1, 20000), ("queue", 1, 20000), ("stab", 1, 2000), ("stab", 1, 20000), ("eval", 1, 2000), ("map", 7, 1), ("eval", 2147483647, 1)
+# what --run tries; the plain answers of stab are quadratic. 20,000 lines of it have 5,000 stabs, of which nodes have nodes below them; the bits of
+# 300,000 gates don't fit into an area of the smallest shape
+TRIED = ("map", 1, 20000), ("queue", 1, 20000), ("stab", 1, 2000), ("stab", 1, 20000), ("eval", 1, 2000), ("eval", 3, 300000), ("map", 7, 1), ("eval", 2147483647, 1)
 COMMAND = re.compile(r"emtool gen(?: --(?:stats|block=\d+|frames=\d+))* (\w+) (\d+) (\d+)")
 
 

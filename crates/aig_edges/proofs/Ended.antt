@@ -149,7 +149,7 @@ pub costs_left : {Q : Type 0} (q : QueueGhosts Q) (x y : Q) {s u v : RigState} (
     → (IsTrue u.device.told → IfSome q.allowance (λ f. (q.counts y).spent
     ≤ f u.pool.shape (q.counts y).n (q.counts y).k))
     → IfSome q.room IsRisingRoom
-    → IfSome q.room (λ f. (q.counts y).most ≤ f u.pool.shape (q.counts y).k)
+    → (IsTrue u.device.told → IfSome q.room (λ f. (q.counts y).most ≤ f u.pool.shape (q.counts y).k))
     → GraphCosts q x s v p
 costs_left q x y {s} {u} {v} p h has l rising spends rising_room fits =
     let calls = sort_calls p.header in
@@ -164,16 +164,17 @@ costs_left q x y {s} {u} {v} p h has l rising spends rising_room fits =
       frames = has;
       shape = e;
       called = h.called;
-      most =
-          let top = most_at_end q.room u.pool.shape (q.counts y) fits in
+      most = λ told.
+          let here = h.touches.told ∙ told in
+          let top = most_at_end q.room u.pool.shape (q.counts y) (fits here) in
           let same = ap (λ (z : ShapeNumbers). ending_most q.room z (q.counts y)) e in
           omega (arith, h.most, m, top, same);
       moves = h.moves;
       all_moves = λ z. allowed q.allowance s u v (q.counts x) (q.counts y) calls run
           (sort_moves s p) e h.called h.moves rising
           (still_allowed q.allowance u v (q.counts y) n (spends (h.touches.told ∙ z)));
-      room = roomy q.room s u v (q.counts x) (q.counts y) calls run (parts_size p) (sort_peak s p) e
-          h.called h.most m rising_room fits;
+      room = λ told. roomy q.room s u v (q.counts x) (q.counts y) calls run (parts_size p) (sort_peak s p) e
+          h.called h.most m rising_room (fits (h.touches.told ∙ told));
     }
 
 -- after it was abandoned no more blocks aren't stored
@@ -247,7 +248,7 @@ pub costs_ended : {Q : Type 0} (q : QueueGhosts Q) (x y : Q) {s u v : RigState} 
     (p : Parts) → BuildsBeside q x y s u p m → q.HasItsFrames y u
     → Ends q.allowance q.room (q.blocks y u) (q.counts y) u v
     → IfSome q.allowance IsRising → IfSome q.room IsRisingRoom
-    → IfSome q.room (λ f. (q.counts y).most ≤ f u.pool.shape (q.counts y).k) → GraphCosts q x s v p
+    → (IsTrue u.device.told → IfSome q.room (λ f. (q.counts y).most ≤ f u.pool.shape (q.counts y).k)) → GraphCosts q x s v p
 costs_ended q x y {s} {u} {v} {m} p b has l rising rising_room fits =
     let h = until_built q x y p b in
     let calls = sort_calls p.header in
@@ -262,18 +263,19 @@ costs_ended q x y {s} {u} {v} {m} p b has l rising rising_room fits =
       frames = has;
       shape = e;
       called = h.called;
-      most =
-          let top = most_at_end q.room u.pool.shape (q.counts y) fits in
+      most = λ told.
+          let here = h.touches.told ∙ told in
+          let top = most_at_end q.room u.pool.shape (q.counts y) (fits here) in
           let same = ap (λ (z : ShapeNumbers). ending_most q.room z (q.counts y)) e in
           ended_within (ending_most q.room u.pool.shape (q.counts y)) s u v (q.counts x)
           (q.counts y) (parts_size p) (sort_peak s p) (graph_size m) h.most
-          (omega (arith, used)) least top same l.most;
+          (omega (arith, used)) least top same (l.most here);
       moves = h.moves;
       all_moves = λ z. allowed q.allowance s u v (q.counts x) (q.counts y) calls run
           (sort_moves s p) e h.called h.moves rising (l.spent (h.touches.told ∙ z));
-      room = ended_roomy q.room s u v (q.counts x) (q.counts y) calls run (parts_size p)
+      room = λ told. ended_roomy q.room s u v (q.counts x) (q.counts y) calls run (parts_size p)
           (sort_peak s p) (graph_size m) e h.called h.most (omega (arith, used)) least rising_room
-          fits l.most;
+          (fits (h.touches.told ∙ told)) (l.most (h.touches.told ∙ told));
     }
 
 -- It is the graph of each circuit whose parts there were.

@@ -13,6 +13,8 @@ use Rattle.em_space.proofs.Within.{touches_within}
 use Rattle.em_chain.specs.Chain.{chain_blocks}
 use Rattle.em_chain.specs.declared.chain.Chain.{Chain}
 use Rattle.em_queued.specs.Queued.{Called, StopsBeside}
+use Rattle.em_queued.specs.Room.{FitsRoom, FullBeside}
+use Rattle.em_queued.proofs.Room.{full_others, full_then, full_unneeded, full_wider}
 use Rattle.em_queued.proofs.Queued.{beside_as, called_none, shares_frames}
 use Rattle.aig_defs.specs.Circuit.{Circuit}
 use Rattle.em_record.specs.declared.record.Record.{Record}
@@ -30,6 +32,7 @@ use Rattle.aig_edges.specs.Making.{BuildsNone}
 use Rattle.aig_edges.specs.Accounts.{stored_account}
 use Rattle.aig_edges.proofs.Looks.{looks_none}
 use Rattle.aig_edges.proofs.Pushes.{stops_value}
+use Rattle.aig_edges.proofs.Room.{stop_by}
 use Rattle.aig_edges.proofs.Stands.{StandsBeside, one_and_others, runs_wider, runs_within}
 
 -- The last calls before a stop: they touched these blocks at most, and aren't accounted for.
@@ -50,8 +53,10 @@ none_made : {Q : Type 0} (q : QueueGhosts Q) (x y w : Q) {s t u : RigState} (p :
     → n + more ≤ sort_calls p.header → peak ≤ sort_peak s p
     → ks ≡ q.blocks y t ++ chains_blocks t a b c
     → HaltsBeside more peak ks (a.blocks + (b.blocks + c.blocks)) owed (q.counts y) (q.counts w) t u
-    → StopsBuilding s p (Err e) → IfEmStop e (Cause s u) → BuildsNone q x w s u p e
-none_made q x y w {s} {t} {u} p {n} {more} ks e o l m fits same v stops cause =
+    → StopsBuilding s p (Err e) → IfEmStop e (Cause s u)
+    → IfEmStop e (FullBeside q.room (a.blocks + (b.blocks + c.blocks)) peak (q.counts y) (q.counts w).k t)
+    → BuildsNone q x w s u p e
+none_made q x y w {s} {t} {u} p {n} {more} ks e o l m fits same v stops cause full =
     let r = o.runs.runs in
     let k = r.spends in
     let within = (beside_as ks o.runs (λ z. same)).runs.session.within in
@@ -71,6 +76,7 @@ none_made q x y w {s} {t} {u} p {n} {more} ks e o l m fits same v stops cause =
       };
       stops = stops;
       cause = cause;
+      full = stop_by e (λ f z. full_then o.runs fits z) full;
       pays = pays_then (pays_more {q = (q.counts y).unstored} k.pays (omega arith))
           (pays_more {q = s.pool.shape.frames + 2} v.pays (omega (arith, shape))) v.touches.moves;
     }
@@ -81,7 +87,7 @@ pub sort_none : {Q : Type 0} (q : QueueGhosts Q) (x y w : Q) {s t u : RigState} 
     {fault : EmFault} → StandsBeside q x y s t p n owed a b c f g h → owed ≡ m + rest
     → more ≤ sort_run p.header → n + more ≤ sort_calls p.header
     → peak + (b.blocks + c.blocks) ≤ sort_peak s p
-    → StopsBeside more peak 0 1 (q.blocks y t ++ chain_blocks t a) (stored_account a.blocks m)
+    → StopsBeside q.room more peak 0 1 (q.blocks y t ++ chain_blocks t a) (stored_account a.blocks m)
     (q.counts y) (q.counts w) t u fault → BuildsNone q x w s u p (stop.Em fault)
 sort_none q x y w {s} {t} {u} p m rest {a} {b} {c} {fault = fault} o e l k fits v =
     let qs = q.blocks y t in
@@ -101,6 +107,7 @@ sort_none q x y w {s} {t} {u} p m rest {a} {b} {c} {fault = fault} o e l k fits 
       pays = pays_more z.pays (omega arith);
     }) tt
     (cause_after (q.blocks x s ++ lists_blocks s p) s t u fault o.runs.runs.session.touches v.cause)
+    z.full
 
 looks_halt : {c : QueueCounts} {m size owed : ℕ} {t u : RigState} (peak : ℕ) (ks : List ℕ)
     → m ≤ owed → c.unstored ≤ t.pool.shape.frames → Looks m t u → HaltsBeside 0 peak ks size owed c c t u
@@ -127,6 +134,7 @@ look_none q x y {s} {t} {u} p {a = a} {b} {c} {fault = fault} o l k few v =
     (looks_halt (sort_peak s p) (q.blocks y t ++ chains_blocks t a b c) l few v.looks) tt
     (cause_after (q.blocks x s ++ lists_blocks s p) s t u fault o.runs.runs.session.touches
     (block_cause t u fault v.cause))
+    (full_unneeded t u fault v.cause)
 
 -- or a variable is defined twice.
 pub twice_none : {Q : Type 0} (q : QueueGhosts Q) (x y : Q) {s t : RigState} (p : Parts)
@@ -138,7 +146,7 @@ twice_none q x y {s} {t} p {a = a} {b} {c} v o k few i =
     none_made q x y y p (q.blocks y t ++ chains_blocks t a b c) (stop.Fault kind.Twice v) o
     (omega arith) (omega (arith, k)) (omega arith) refl
     (looks_halt {m = 0} (sort_peak s p) (q.blocks y t ++ chains_blocks t a b c) (omega arith) few
-    (looks_none 0 o.runs.runs.session.sound)) i tt
+    (looks_none 0 o.runs.runs.session.sound)) i tt tt
 
 -- the moves and the peak of comparing are what is left of all
 pub record CanHalt {Q : Type 0} (q : QueueGhosts Q) (y : Q) (s t : RigState) (p : Parts)
@@ -146,6 +154,7 @@ pub record CanHalt {Q : Type 0} (q : QueueGhosts Q) (y : Q) (s t : RigState) (p 
   pub calls : n ≤ sort_calls p.header
   pub blocks : (q.counts y).blocks ≤ (q.counts y).most
   pub few : (q.counts y).unstored ≤ t.pool.shape.frames
+  pub room : FitsRoom q.room (q.counts y) t
   pub owed_is : owed ≡ compare_moves t d e k
   pub fits : compare_peak t d e k + g.blocks ≤ sort_peak s p
 
@@ -157,9 +166,11 @@ compare_halted : {Q : Type 0} (q : QueueGhosts Q) (x y : Q) {s t u : RigState} (
     → u.most + (d.blocks + e.blocks)
     ≤ max (t.most + (d.blocks + e.blocks)) (t.used + compare_peak t d e k)
     → u.moves ≤ t.moves + compare_moves t d e k → Pays 0 2 t u
-    → StopsBuilding s p (Err r) → IfEmStop r (Cause s u) → BuildsNone q x y s u p r
+    → StopsBuilding s p (Err r) → IfEmStop r (Cause s u)
+    → IfEmStop r (FullBeside q.room (d.blocks + e.blocks) (compare_peak t d e k) (q.counts y) (q.counts y).k t)
+    → BuildsNone q x y s u p r
 compare_halted q x y {s} {t} {u} p {n} {owed} {k} {d} {e} {g} r o can goes most moves pays stops
-    cause =
+    cause full =
     let qs = q.blocks y t in
     let ds = chain_blocks t d in
     let es = chain_blocks t e in
@@ -176,7 +187,7 @@ compare_halted q x y {s} {t} {u} p {n} {owed} {k} {d} {e} {g} r o can goes most 
       most = let v = can.blocks in omega (arith, most, v);
       moves = omega (arith, moves, can.owed_is);
       pays = let v = can.few in pays_more pays (omega (arith, v));
-    }) stops cause
+    }) stops cause (stop_by r (λ f z. full_wider (omega arith) z) full)
 
 pub compare_none : {Q : Type 0} (q : QueueGhosts Q) (x y : Q) {s t u : RigState} (p : Parts)
     {n owed k : ℕ} {d e g : Chain} {i j l : Circuit → List Record} (r : AigStop)
@@ -188,12 +199,13 @@ compare_none q x y {s} {t} {u} p {k = k} {d} {e} (stop.Fault fault place) o can 
     (record {
       kind_is = subst IsDefinitionKind (sym v.kind_is) tt;
       found = λ z c a. v.found (o.runs.runs.session.touches.told ∙ z) c (are z c a);
-    }) tt
+    }) tt tt
 compare_none q x y p stop.Read o can are v = absurd v
 compare_none q x y {s} {t} {u} p {k = k} (stop.Em fault) o can are v =
     compare_halted q x y p {k = k} (stop.Em fault) o can v.goes v.halts.most
     (let z = v.halts.moves in omega (arith, z)) v.halts.pays tt
     (cause_after (q.blocks x s ++ lists_blocks s p) s t u fault o.runs.runs.session.touches v.cause)
+    (full_others (q.counts y) fault can.blocks can.room v.halts v.cause)
 
 -- what comparing touched, if it stopped
 pub compare_goes : {t u : RigState} (k : ℕ) (d e : Chain) (r : AigStop)

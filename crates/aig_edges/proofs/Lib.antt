@@ -2,6 +2,7 @@ pub mod Advances
 pub mod AllCompared
 pub mod AllPushed
 pub mod Besides
+pub mod BuiltRoom
 pub mod Compared
 pub mod ComparedLists
 pub mod Ended
@@ -17,6 +18,7 @@ pub mod OrderedLaws
 pub mod Pushed
 pub mod Pushes
 pub mod Repeated
+pub mod Room
 pub mod SortedEdges
 pub mod SortedLists
 pub mod Sorts

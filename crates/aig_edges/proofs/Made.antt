@@ -13,6 +13,7 @@ use Rattle.em_chain.specs.Chain.{chain_blocks, chain_items, payload_in}
 use Rattle.em_chain.specs.Counts.{ceiling}
 use Rattle.em_chain.specs.declared.chain.Chain.{Chain}
 use Rattle.em_chain.proofs.Keeps.{payload_kept}
+use Rattle.em_queued.specs.Room.{FitsRoom}
 use Rattle.em_queued.proofs.Queued.{beside_holds}
 use Rattle.aig_defs.specs.Chains.{defs_of, gates_of, uses_of}
 use Rattle.aig_defs.specs.Circuit.{Circuit}
@@ -380,8 +381,8 @@ MayCompare q y s t p d g e =
 pub may_compare : {Q : Type 0} (q : QueueGhosts Q) (x y : Q) {s t : RigState} {p : Parts}
     {d g e : Chain} → Given q x s p → AreSizes s p d g e → AllStand q x y s t p d g e
     → (q.counts y).blocks ≤ (q.counts y).most → (q.counts y).unstored ≤ t.pool.shape.frames
-    → MayCompare q y s t p d g e
-may_compare q x y {p = p} v z o blocks few =
+    → FitsRoom q.room (q.counts y) t → MayCompare q y s t p d g e
+may_compare q x y {p = p} v z o blocks few room =
     let defs = v.parts.defs.count_is in
     let gates = v.parts.gates.count_is in
     let uses = v.parts.uses.count_is in
@@ -392,6 +393,7 @@ may_compare q x y {p = p} v z o blocks few =
       calls = omega (arith, defs, gates, uses, same);
       blocks = blocks;
       few = few;
+      room = room;
       owed_is = omega (arith, sources, edges, z.defs_blocks, z.edges_blocks);
       fits = omega (arith, sources, edges, z.defs_blocks, z.edges_blocks, z.gates_blocks);
     }

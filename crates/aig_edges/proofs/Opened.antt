@@ -30,6 +30,7 @@ has_out h e out = record {
 pub unmoved_then : {s t u : RigState} → Unmoved s t → Unmoved t u → Unmoved s u
 unmoved_then h g = record {
   device = g.device ∙ h.device;
+  spare = g.spare ∙ h.spare;
   same = record {
     head = g.same.head ∙ h.same.head;
     used = g.same.used ∙ h.same.used;

@@ -110,7 +110,7 @@ pub record CalledInRuns (calls run : ℕ) (c d : QueueCounts) : Type 0 where
 -- The queue at the moment when it was ended or abandoned, which was the last thing done, and what was
 -- done until then: at most `calls` calls of it, in runs, and at most `own` moves beside its own ones. At
 -- no moment, while it ended either, did parts, lists, graph and queue hold more blocks than `peak` and
--- the most that the queue may hold.
+-- the most that the queue may hold, if the device tells.
 pub record SortCosts {Q : Type 0} (queue : QueueGhosts Q) (calls run own held peak : ℕ)
     (c : QueueCounts) (old new : RigState) : Type 0 where
   pub last : Q
@@ -120,12 +120,12 @@ pub record SortCosts {Q : Type 0} (queue : QueueGhosts Q) (calls run own held pe
   pub frames : queue.HasItsFrames last then
   pub shape : then.pool.shape ≡ old.pool.shape
   pub called : CalledInRuns calls run c (queue.counts last)
-  pub most : new.most + (c.blocks + held) ≤ max (old.most + (c.blocks + held))
+  pub most : IsTrue old.device.told → new.most + (c.blocks + held) ≤ max (old.most + (c.blocks + held))
       (old.used + (ending_most queue.room old.pool.shape (queue.counts last) + peak))
   pub moves : then.moves + c.spent ≤ old.moves + (queue.counts last).spent + own
   pub all_moves : IsTrue old.device.told → IfSome queue.allowance (λ f. new.moves + c.spent
       ≤ old.moves + f old.pool.shape (c.n + calls) (max c.k (c.since + run)) + own)
-  pub room : IfSome queue.room (λ f. new.most + (c.blocks + held)
+  pub room : IsTrue old.device.told → IfSome queue.room (λ f. new.most + (c.blocks + held)
       ≤ max (old.most + (c.blocks + held))
       (old.used + (f old.pool.shape (max c.k (c.since + run)) + peak)))
 

@@ -9,5 +9,6 @@ pub mod Looks
 pub mod Making
 pub mod Pushes
 pub mod Repeats
+pub mod Room
 pub mod SortEdges
 pub mod Sorts

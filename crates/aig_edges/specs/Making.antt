@@ -5,6 +5,7 @@ use Rattle.em_space.specs.Rig.{RigState, Cause, Sound, Touches}
 use Rattle.em_space.specs.declared.queue.Queue.{Ghosts as QueueGhosts}
 use Rattle.em_chain.specs.Chain.{ChainStays}
 use Rattle.em_queued.specs.Queued.{RunsBeside}
+use Rattle.em_queued.specs.Room.{FullBeside}
 use Rattle.aig_text.specs.Ascii.{IfEmStop}
 use Rattle.aig_text.specs.Parts.{lists_blocks}
 use Rattle.aig_text.specs.declared.parts.Parts.{Parts}
@@ -50,6 +51,7 @@ pub record BuildsNone {Q : Type 0} (q : QueueGhosts Q) (x y : Q) (s t : RigState
   pub done : DoneUntil q x y s t p
   pub stops : StopsBuilding s p (Err e)
   pub cause : IfEmStop e (Cause s t)
+  pub full : IfEmStop e (FullBeside q.room (parts_size p) (sort_peak s p) (q.counts x) (q.counts y).k s)
   pub pays : Pays (q.counts x).unstored (s.pool.shape.frames + 2) s t
 
 -- what making it did, by the result

@@ -17,6 +17,7 @@ ghost use Rattle.aig_text.specs.Parts.{IsParts, parts_blocks};
 ghost use Rattle.aig_edges.specs.Build.{UsesUp, parts_size};
 ghost use Rattle.aig_edges.specs.BuildGraph.{BeginsSorting, BuildsGraph, SortCosts, StopsBuilding, StoresSorted, sort_calls, sort_moves, sort_peak, sort_run};
 ghost use Rattle.aig_edges.specs.Making.{BuildsTo};
+ghost use Rattle.aig_edges.specs.Room.{BuildsInRoom};
 
 use crate::comparing::{Compared, compare};
 use crate::graph::Graph;
@@ -44,6 +45,11 @@ use em_space::{Queue, Rig};
 /// and at most twice the greater of I + L + A and E between two moments at which it is empty. The
 /// moves and blocks beside it go by the header too. Over a device that doesn't tell what it holds,
 /// nothing is said of which graph it is, nor of which circuit a fault is.
+///
+/// If the device tells and the queue states a room, `Full` comes only if that room and `sort_peak` are
+/// more than all blocks that were free, the queue's or the parts'. If nothing else is in use at first, the
+/// room is at most a tree's, and each list has at most two blocks more than its records need, then at most
+/// `circuit_room` blocks are in use at any moment, and `Full` comes only if the device has fewer.
 pub fn check_and_build<D: Device, Q: Queue>(
     rig: &mut Rig<'_, D>,
     parts: Parts,
@@ -70,6 +76,8 @@ pub fn check_and_build<D: Device, Q: Queue>(
     ensures stores { StoresSorted (Q.counts queue) (seen D.state rig.old) (seen D.state rig.new)
         parts result }
     ensures cause { IfEm result (Cause (seen D.state rig.old) (seen D.state rig.new)) }
+    ensures room { BuildsInRoom Q.Queue (Q.counts queue) (seen D.state rig.old)
+        (seen D.state rig.new) parts result }
 {
     match build(rig, parts, &mut queue) {
         Ok(graph) => {

@@ -1,7 +1,9 @@
 mod Joined
+mod StepCalls
 mod StepEnds
 mod StepLines
 mod StepPasses
+mod StepRoom
 mod StepStops
 pub mod BitLists
 pub mod PutLines

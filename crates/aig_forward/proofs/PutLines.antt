@@ -10,12 +10,10 @@ use Rattle.em_space.specs.Held.{Holds, Within}
 use Rattle.em_space.specs.Ledger.{Account}
 use Rattle.em_space.specs.Queue.{CanServe, QueueCounts, Served, Serves}
 use Rattle.em_space.specs.Rig.{RigState, Sound}
-use Rattle.em_space.specs.declared.fault.EmFault.{EmFault}
 use Rattle.em_space.proofs.Runs.{runs_first, runs_none, runs_then, runs_wider}
-use Rattle.em_space.proofs.Steps.{cause_after, touches_wider}
-use Rattle.em_space.proofs.Apart.{off_left}
+use Rattle.em_space.proofs.Steps.{cause_after}
 use Rattle.em_space.proofs.Paying.{pays_more}
-use Rattle.em_queued.specs.Queued.{RunsBeside, StopsBeside, no_account, queue_account}
+use Rattle.em_queued.specs.Queued.{RunsBeside, no_account, queue_account}
 use Rattle.em_queued.proofs.Queued.{calls_none, calls_one, calls_then, calls_wider, queue_runs, stops_then, stops_wider}
 use Rattle.aig_defs.specs.Stimulus.{bit_byte, output_line}
 use Rattle.aig_edges.specs.declared.stop.StepStop.{StepStop}
@@ -67,20 +65,6 @@ pub alone_beside : {i : ℕ} {ks js : List ℕ} {c d : QueueCounts} {s t : RigSt
     (x : Account) → (IsTrue s.device.told → Holds s (ks ++ ys)) → RunsAlone i ks js c d s t
     → RunsBeside i x.blocks (ks ++ ys) (js ++ ys) x x c d s t
 alone_beside ys x n h = record { runs = runs_first ys x n h.runs; calls_on = h.calls_on }
-
-pub alone_stops : {i : ℕ} {ks : List ℕ} {c d : QueueCounts} {s t : RigState} {fault : EmFault}
-    (ys : List ℕ) (x : Account) → StopsBeside i 0 0 0 ks no_account c d s t fault
-    → StopsBeside i x.blocks x.paid x.unstored (ks ++ ys) x c d s t fault
-alone_stops {i} {ks} {c} {d} {s} {t} ys x h = record {
-  sound = h.sound;
-  touches = touches_wider (ks ++ ys) ks s t h.touches (λ z k u o. off_left k ks ys o);
-  frames = h.frames;
-  called = h.called;
-  most = omega (arith, h.most);
-  moves = omega (arith, h.moves);
-  pays = pays_more h.pays (omega arith);
-  cause = h.cause;
-}
 
 -- with no message, all outputs say 0
 none_bits : (n : ℕ) (x : List Record) → 0 ≡ length x

@@ -24,6 +24,8 @@ use Rattle.em_chain.proofs.Keeps.{payload_kept}
 use Rattle.em_chain.proofs.Laws.{chain_stays}
 use Rattle.em_queued.specs.Queued.{StopsBeside}
 use Rattle.em_queued.proofs.Queued.{called_wider, calls_wider}
+use Rattle.em_queued.specs.Room.{FitsRoom}
+use Rattle.em_queued.proofs.Room.{full_from, full_others, full_wider}
 use Rattle.aig_defs.specs.Circuit.{Circuit}
 use Rattle.aig_defs.specs.Value.{step_of}
 use Rattle.aig_defs.specs.declared.circuit.Gate.{Gate}
@@ -86,8 +88,9 @@ module _ {Q : Type 0} (queue : Ghosts Q) {s : RigState} (e : Sweeper Q) (inputs 
       (lists_account (inputs.blocks + e.state.blocks) 4) s t fault
       → (queue.counts e.queue).blocks ≤ (queue.counts e.queue).most
       → (queue.counts e.queue).unstored ≤ s.pool.shape.frames
+      → FitsRoom queue.room (queue.counts e.queue) s
       → (f : Sweeper Q) → f.queue ≡ e.queue → FailsPass queue s t e f inputs fault
-  pass_unjoined {t} {fault} k most stored f same =
+  pass_unjoined {t} {fault} k most stored fits f same =
       let c = queue.counts e.queue in
       let h = k.halts in
       let room = n.blocks_are in
@@ -104,6 +107,7 @@ module _ {Q : Type 0} (queue : Ghosts Q) {s : RigState} (e : Sweeper Q) (inputs 
           pays = pays_more h.pays (omega (arith, stored));
         };
         cause = k.cause;
+        full = full_wider (omega (arith, room, latches)) (full_others c fault most fits h k.cause);
       } in
       subst (λ (q : Q). FailsPass queue s t e (record f { queue = q }) inputs fault) (sym same) done
 
@@ -143,7 +147,7 @@ module _ {Q : Type 0} (queue : Ghosts Q) {s : RigState} (e : Sweeper Q) (inputs 
 
     -- The circuit wasn't evaluated.
     pub pass_refused : {u : RigState} {fault : EmFault} (f : Sweeper Q)
-        → StopsBeside (2 * edge_count e.header) (c.blocks + latch_room e.header t)
+        → StopsBeside queue.room (2 * edge_count e.header) (c.blocks + latch_room e.header t)
         (2 * latch_room e.header t + 1) 1 (queue.blocks e.queue t ++ chain_blocks t c)
         (bits_account e.given e.gates c) (queue.counts e.queue) (queue.counts f.queue) t u fault
         → FailsPass queue s u e f inputs fault
@@ -182,6 +186,8 @@ module _ {Q : Type 0} (queue : Ghosts Q) {s : RigState} (e : Sweeper Q) (inputs 
             pays = pays_then first last k.touches.moves;
           };
           cause = cause_after (qs ++ (ks ++ ys)) s t u fault on.touches k.cause;
+          full = full_from on.touches.shape on.touches.told
+              (omega (arith, x.used, room, latches, blocks, latch)) k.full;
         }
 
     module _ {u : RigState} (f : Sweeper Q) (next : Chain) (q : Q)

@@ -22,6 +22,8 @@ use Rattle.em_chain.specs.declared.chain.Chain.{Chain}
 use Rattle.em_chain.proofs.Keeps.{payload_kept}
 use Rattle.em_queued.specs.Queued.{RunsBeside, StopsBeside, no_account}
 use Rattle.em_queued.proofs.Queued.{beside_holds, beside_then, called_wider, shares_frames, stops_then}
+use Rattle.em_queued.specs.Room.{FullBeside, StatedRoom}
+use Rattle.em_queued.proofs.Room.{full_from, full_wider}
 use Rattle.aig_defs.specs.Circuit.{Circuit, columns}
 use Rattle.aig_defs.specs.declared.circuit.Gate.{Gate}
 use Rattle.aig_defs.specs.declared.circuit.Header.{Header}
@@ -34,12 +36,14 @@ use Rattle.aig_forward.specs.Line.{AnswersLine, ReadsWholeLine, TakesBits}
 use Rattle.aig_sweep.specs.Lists.{latch_room, lists_account, input_room}
 use Rattle.aig_forward.specs.Outputs.{OutputCosts, Printing, printing}
 use Rattle.aig_forward.specs.Step.{HaltsStep, StepCosts, AnswersStep, line_of, step_account, step_calls, step_room}
+use Rattle.aig_forward.specs.Room.{FullStep}
 use Rattle.aig_forward.specs.StepPass.{FailsPass, IsInput, Passed, pass_blocks}
 use Rattle.aig_sweep.specs.declared.sweeper.Sweeper.{Sweeper}
 use Rattle.aig_forward.specs.declared.step_end.StepEnd.{StepEnd}
-use Rattle.aig_sweep.proofs.Passes.{of_error}
-use Rattle.aig_forward.proofs.PutLines.{alone_beside, alone_stops}
+use Rattle.aig_sweep.proofs.Passes.{of_error, stops_value}
+use Rattle.aig_forward.proofs.PutLines.{alone_beside}
 use Rattle.aig_forward.proofs.StepLines.{line_session}
+use Rattle.aig_sweep.specs.Room.{IfStepEm}
 use Rattle.aig_sweep.specs.Scene.{IsQuiet, Keeps, Scene}
 
 -- what a stop costs is the same for each of them
@@ -129,7 +133,8 @@ beside_halted stored h =
 
 -- and such whose last one was refused.
 stops_halted : {i p : ℕ} {held : List ℕ} {a : Account} {c d : QueueCounts} {s t : RigState}
-    {fault : EmFault} → StopsBeside i p 0 0 held a c d s t fault → Halted i p 1 held a c d s t
+    {fault : EmFault} {room : StatedRoom} → StopsBeside room i p 0 0 held a c d s t fault
+    → Halted i p 1 held a c d s t
 stops_halted h = record {
   sound = h.sound;
   touches = h.touches;
@@ -165,7 +170,7 @@ outputs_halted {n = n} count old new ys stop.Write few h k =
     let all = beside_then h (alone_beside ys (lists_account n 0) (beside_holds h) k) in
     beside_halted (omega (arith, k.stored, all.calls_on.frames, few)) all
 outputs_halted {n = n} count old new ys (stop.Em fault) few h k =
-    stops_halted (stops_then h (alone_stops ys (lists_account n 0) k))
+    stops_halted (stops_then h (stops_value ys (lists_account n 0) k))
 
 module _ {Q : Type 0} (queue : Ghosts Q) {s t : RigState} (e : Sweeper Q) (sound : Sound s)
     (i : IsSweeper queue s e) (goes : Goes [] s t)
@@ -232,6 +237,16 @@ module _ {Q : Type 0} (queue : Ghosts Q) {s t : RigState} (e : Sweeper Q) (sound
           pays = pays_then first last k.touches.moves;
         }
 
+    -- It was full.
+    pub pass_full : {u : RigState} {fault : EmFault} (f : Sweeper Q)
+        → FailsPass queue t u e f inputs fault → FullStep queue s e f fault
+    pass_full f p =
+        let x = line.spends in
+        let room = n.blocks_are in
+        let used = x.used in
+        full_from goes.touches.shape goes.touches.told
+        (omega (arith, used, room, input_same, latch_same)) p.full
+
     -- The line and the pass together.
     pub pass_runs : {u : RigState} (f : Sweeper Q) → Passed queue t u e f inputs
         → RunsBeside (2 * edge_count e.header - columns e.header) (step_room s e)
@@ -281,3 +296,33 @@ module _ {Q : Type 0} (queue : Ghosts Q) {s t : RigState} (e : Sweeper Q) (sound
         halted_wider (omega (arith, outputs)) (omega (arith, size, last, given, gates))
         (outputs_halted (columns f.header) (printing queue w f.queue a x u)
         (printing queue w g.queue b y v) (lists_blocks u f) stopped (omega (arith, out.singles)) h k)
+
+    outputs_full : {i p m : ℕ} {held : List ℕ} {a : Account} {c : QueueCounts} {x : RigState}
+        (count : ℕ) (old new : Printing) (ys : List ℕ) (stopped : StepStop)
+        → RunsBeside i p held (old.blocks ++ ys) a (lists_account m 0) c old.counts x old.rig
+        → OutputCosts count old new (Err stopped) → (r : ℕ) → max p m ≤ r
+        → IfStepEm stopped (FullBeside new.room a.blocks r c new.counts.k x)
+    outputs_full count old new ys (stop.Fault kind place) h k r l = absurd k
+    outputs_full count old new ys stop.Read h k r l = absurd k
+    outputs_full count old new ys stop.Write h k r l = tt
+    outputs_full {m = m} count old new ys (stop.Em fault) h k r l =
+        full_wider (omega (arith, l)) (stops_then h (stops_value ys (lists_account m 0) k)).full
+
+    -- Printing was.
+    pub step_full : {W : Type 0} (w : sink.Ghosts W) {u : RigState} (v : RigState) (f g : Sweeper Q)
+        (a b : W) (x y : List ℕ) (stopped : StepStop) → Passed queue t u e f inputs
+        → Keeps queue u e f
+        → OutputCosts (columns f.header) (printing queue w f.queue a x u)
+        (printing queue w g.queue b y v) (Err stopped)
+        → IfStepEm stopped (FullStep queue s e g)
+    step_full w {u} v f g a b x y stopped p keeps k =
+        let h = pass_runs f p in
+        let size = p.state_blocks in
+        let last : latch_room e.header u ≡ latch_room e.header s =
+        ap (λ (m : ℕ). ceiling e.header.latches m)
+        (payload_kept (sweeper_blocks queue s e) s u h.runs.session.touches) in
+        let given : f.given.blocks ≡ e.given.blocks = ap (λ (m : Chain). m.blocks) keeps.given in
+        let gates : f.gates.blocks ≡ e.gates.blocks = ap (λ (m : Chain). m.blocks) keeps.gates in
+        outputs_full (columns f.header) (printing queue w f.queue a x u)
+        (printing queue w g.queue b y v) (lists_blocks u f) stopped h k (step_room s e)
+        (omega (arith, size, last, given, gates))

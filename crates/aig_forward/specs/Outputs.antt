@@ -9,6 +9,7 @@ use Rattle.em_space.specs.Queue.{QueueCounts}
 use Rattle.em_space.specs.Rig.{RigState, Cause}
 use Rattle.em_space.specs.declared.queue.Queue as queue
 use Rattle.em_queued.specs.Queued.{CallsOn, StopsBeside, no_account, queue_account}
+use Rattle.em_queued.specs.Room.{StatedRoom}
 use Rattle.aig_defs.specs.Stimulus.{bit_byte, output_line}
 use Rattle.aig_edges.specs.declared.stop.StepStop.{StepStop}
 use Rattle.aig_edges.specs.declared.stop.StepStop.TheVariants as stop
@@ -37,13 +38,14 @@ pub record RunsAlone (calls : ℕ) (held ks : List ℕ) (c d : QueueCounts) (fir
   pub calls_on : CallsOn calls c d
   pub stored : d.unstored ≤ d.frames
 
--- A queue on a rig, and what was printed, at one moment: the messages, the queue's blocks and
--- numbers; what the sink has taken and how often it failed; and what is pending in the printer.
+-- A queue on a rig, and what was printed, at one moment: the messages, the queue's blocks,
+-- numbers and stated room; what the sink has taken and how often it failed; and what is pending in the printer.
 pub record Printing : Type 0 where
   pub rig : RigState
   pub items : List Record
   pub blocks : List ℕ
   pub counts : QueueCounts
+  pub room : StatedRoom
   pub out : List ℕ
   pub faults : ℕ
   pub pending : List ℕ
@@ -55,6 +57,7 @@ printing q w queue sink pending rig = record {
   items = q.items queue rig;
   blocks = q.blocks queue rig;
   counts = q.counts queue;
+  room = q.room;
   out = w.state sink;
   faults = w.faults sink;
   pending = pending;
@@ -90,7 +93,7 @@ OutputCosts count old new (Ok u) =
 OutputCosts count old new (Err stop.Write) =
     RunsAlone count old.blocks new.blocks old.counts new.counts old.rig new.rig
 OutputCosts count old new (Err (stop.Em fault)) =
-    StopsBeside count 0 0 0 old.blocks no_account old.counts new.counts old.rig new.rig fault
+    StopsBeside new.room count 0 0 0 old.blocks no_account old.counts new.counts old.rig new.rig fault
 OutputCosts count old new (Err (stop.Fault kind place)) = ⊥
 OutputCosts count old new (Err stop.Read) = ⊥
 
@@ -131,7 +134,7 @@ abbrev pub PutsBy : (List ℕ → List ℕ → List ℕ) → Printing → Printi
 PutsBy took old new (Ok u) = PutsOne took old new
 PutsBy took old new (Err stop.Write) = FailsPut took old new
 PutsBy took old new (Err (stop.Em fault)) =
-    StopsBeside 1 0 0 0 old.blocks no_account old.counts new.counts old.rig new.rig fault
+    StopsBeside new.room 1 0 0 0 old.blocks no_account old.counts new.counts old.rig new.rig fault
     × (new.out ≡ old.out) × (new.faults ≡ old.faults) × (new.pending ≡ old.pending)
 PutsBy took old new (Err (stop.Fault kind place)) = ⊥
 PutsBy took old new (Err stop.Read) = ⊥

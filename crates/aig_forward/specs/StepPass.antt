@@ -6,6 +6,7 @@ use Rattle.em_space.specs.declared.queue.Queue.{Ghosts}
 use Rattle.em_chain.specs.Chain.{IsChain, chain_blocks, chain_items}
 use Rattle.em_chain.specs.declared.chain.Chain.{Chain}
 use Rattle.em_queued.specs.Queued.{RunsBeside}
+use Rattle.em_queued.specs.Room.{FullBeside}
 use Rattle.aig_defs.specs.Circuit.{Circuit, columns}
 use Rattle.aig_defs.specs.Value.{step_of}
 use Rattle.aig_defs.specs.declared.circuit.Header.{Header}
@@ -55,6 +56,8 @@ pub record FailsPass {Q : Type 0} (queue : Ghosts Q) (s t : RigState) (e f : Swe
       (lists_account (inputs.blocks + lists_size e) (pass_moves s e))
       (queue.counts e.queue) (queue.counts f.queue) s t
   pub cause : Cause s t fault
+  pub full : FullBeside queue.room (inputs.blocks + lists_size e) (step_room s e)
+      (queue.counts e.queue) (queue.counts f.queue).k s fault
 
 abbrev pub PassesTo : {Q : Type 0} → Ghosts Q → RigState → RigState → Sweeper Q → Sweeper Q
     → Chain → Result (Unit {0}) EmFault → Type 0

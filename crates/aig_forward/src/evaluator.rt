@@ -1,21 +1,24 @@
 //! An evaluator of a circuit: what `Sweeper` holds between two steps, where the state has a bit for each
 //! latch in lane 0 of its word.
 
-ghost use Rattle.std.specs.Prelude.{◌≡◌, ◌<◌, ◌+◌, ◌++◌, ◌≤◌, Bool, List, IfErr, IfOk, IsTrue, OnOk};
+ghost use Rattle.std.specs.Prelude.{◌≡◌, ◌<◌, ◌+◌, ◌*◌, ◌++◌, ◌≤◌, Bool, List, IfErr, IfOk, IsTrue, OnOk};
 ghost use Rattle.em_space.specs.Held.{Holds};
 ghost use Rattle.em_space.specs.Queue.{CanServe, Leaves};
 ghost use Rattle.em_space.specs.Rig.{Sound};
 ghost use Rattle.em_space.specs.Seen.{seen};
 ghost use Rattle.em_chain.specs.Chain.{chain_items};
-ghost use Rattle.aig_defs.specs.Circuit.{Circuit};
+ghost use Rattle.aig_defs.specs.Circuit.{Circuit, columns};
 ghost use Rattle.aig_defs.specs.declared.circuit.Gate.{Gate};
 ghost use Rattle.aig_text.specs.Reads.{Advances};
 ghost use Rattle.aig_text.specs.Source.{CanRead, source};
 ghost use Rattle.aig_edges.specs.Graph.{CanBuild, IsOrdered, ordered_blocks};
 ghost use Rattle.aig_sweep.specs.Bits.{bits_of};
+ghost use Rattle.aig_sweep.specs.Room.{BeginsInRoom};
 ghost use Rattle.aig_sweep.specs.Scene.{ActsAfterByte, Keeps, StepCause, scene};
 ghost use Rattle.aig_sweep.specs.Sweeper.{BeginsFor, BeginsSweeper, EndsSweeper, EndsTo, Evaluates, FailsToBegin, HasSweeperFrames, IsSweeper};
+ghost use Rattle.aig_table.specs.Steps.{CallsTo, Fits, FitsFrames};
 ghost use Rattle.aig_words.specs.Words.{lane};
+ghost use Rattle.aig_forward.specs.Room.{StepsInRoom};
 ghost use Rattle.aig_forward.specs.Step.{AnswersStep, CanStep, FollowsText, IfPrinted, StepCosts};
 ghost use Rattle.aig_forward.specs.StepPass.{IsInput, PassesFor, PassesTo, pass_blocks};
 
@@ -24,7 +27,8 @@ use crate::lists::join_bits;
 use crate::outputs::put_outputs;
 use crate::step_end::StepEnd;
 use aig_edges::{Ordered, StepStop};
-use aig_sweep::{Sweeper, evaluate};
+use aig_sweep::Sweeper;
+use aig_table::evaluate;
 use em_chain::Chain;
 use em_frames::Device;
 use em_io::{Feed, Printer, Shelf, Sink};
@@ -45,6 +49,10 @@ impl<Q: Queue> Evaluator<Q> {
     /// of edges and resets at most one block comes into use, and at most 4·b + 4 moves are made, if the
     /// edges have b blocks. Each fault is the rig's, and `Full` comes only if all blocks are in use. After
     /// a fault the queue's frames are back, and the blocks stay in use.
+    ///
+    /// If the device tells, nothing else is in use at first, the queue's room is at most a tree's, and the
+    /// edges have at most two blocks more than they need, then at most `circuit_room` blocks are in use at
+    /// any moment, and `Full` comes only if the device has fewer.
     pub fn new<D: Device>(
         rig: &mut Rig<'_, D>,
         ordered: Ordered,
@@ -64,6 +72,8 @@ impl<Q: Queue> Evaluator<Q> {
             (seen D.state rig.new) ordered queue) }
         ensures meaning { IsTrue (seen D.state rig.old).device.told → IfOk result (λ e.
             BeginsFor Q.Queue (seen D.state rig.old) (seen D.state rig.new) ordered e.sweeper) }
+        ensures room { BeginsInRoom Q.Queue (seen D.state rig.old) (seen D.state rig.new)
+            ordered queue result }
     {
         let sweeper = Sweeper::new(rig, ordered, queue)?;
         Ok(Evaluator { sweeper })
@@ -78,9 +88,15 @@ impl<Q: Queue> Evaluator<Q> {
     /// of shelf or sink rose, and `Em` if a call on the rig gave up: then, over a device and a shelf that
     /// tell, a front of the line went out or is pending. After a stop only `abandon` may be called.
     ///
-    /// The queue is called at most twice for each edge. Its calls in all, with these, are below 2^100.
+    /// The queue is called at most twice for each edge, or if a bit for each rank fits into an area and one for each
+    /// column into a frame, at most twice for each column. Its calls in all, with these, are below 2^100.
     /// Beside its moves at most `step_moves` are made. Nothing is called or moved before a byte of the
     /// stimulus was taken.
+    ///
+    /// If the device tells and the queue states a room, `Full` comes only if that room and `step_room` are
+    /// more than all blocks that were free or the evaluator's. An evaluator that was made as above, of a
+    /// queue that was never called, keeps to `circuit_room` if nothing else is in use, and `Full` comes only
+    /// if the device has fewer blocks.
     pub fn step<D: Device, H: Shelf, W: Sink>(
         &mut self,
         rig: &mut Rig<'_, D>,
@@ -102,6 +118,9 @@ impl<Q: Queue> Evaluator<Q> {
             (seen D.state rig.new) self.old.sweeper self.new.sweeper feed.old.place feed.new.place) }
         ensures costs { StepCosts Q.Queue (seen D.state rig.old) (seen D.state rig.new)
             self.old.sweeper self.new.sweeper result }
+        ensures few { FitsFrames self.old.sweeper.header (seen D.state rig.old).pool.shape
+            → CallsTo (2 * columns self.old.sweeper.header) (Q.counts self.old.sweeper.queue)
+            (Q.counts self.new.sweeper.queue) result }
         ensures same { IsTrue H.tells → FollowsText self.old.sweeper.header.inputs
             (source H.Shelf feed.old shelf.old) (source H.Shelf feed.new shelf.new) result }
         ensures printed { IsTrue H.tells → IsTrue (seen D.state rig.old).device.told
@@ -115,11 +134,59 @@ impl<Q: Queue> Evaluator<Q> {
         ensures goes_on { W.faults sink.old ≤ W.faults sink.new }
         ensures cause { IfErr result (StepCause (H.faults shelf.old) (H.faults shelf.new)
             (W.faults sink.old) (W.faults sink.new) (seen D.state rig.old) (seen D.state rig.new)) }
+        ensures room { StepsInRoom Q.Queue (seen D.state rig.old) (seen D.state rig.new)
+            self.old.sweeper self.new.sweeper result }
+    {
+        self.step_within(rig, feed, shelf, printer, sink, u64::MAX)
+    }
+
+    /// The same, but a circuit of more ranks than `limit` goes by messages, also if they fit: so the two ways can be
+    /// compared.
+    pub fn step_within<D: Device, H: Shelf, W: Sink>(
+        &mut self,
+        rig: &mut Rig<'_, D>,
+        feed: &mut Feed,
+        shelf: &mut H,
+        printer: &mut Printer,
+        sink: &mut W,
+        limit: u64,
+    ) -> Result<StepEnd, StepStop>
+        requires sound { Sound (seen D.state rig.old) }
+        requires is { IsSweeper Q.Queue (seen D.state rig.old) self.old.sweeper }
+        requires ready { CanRead (source H.Shelf feed.old shelf.old) }
+        requires can { CanStep Q.Queue (seen D.state rig.old).pool self.old.sweeper }
+        ensures keeps { Keeps Q.Queue (seen D.state rig.new) self.old.sweeper self.new.sweeper }
+        ensures is { OnOk result (IsSweeper Q.Queue (seen D.state rig.new) self.new.sweeper) }
+        ensures feed { Advances H.tells (source H.Shelf feed.old shelf.old)
+            (source H.Shelf feed.new shelf.new) }
+        ensures further { IfPrinted result (feed.old.place < feed.new.place) }
+        ensures idle { IfErr result (λ stopped. ActsAfterByte (seen D.state rig.old)
+            (seen D.state rig.new) self.old.sweeper self.new.sweeper feed.old.place feed.new.place) }
+        ensures costs { StepCosts Q.Queue (seen D.state rig.old) (seen D.state rig.new)
+            self.old.sweeper self.new.sweeper result }
+        ensures few { Fits limit self.old.sweeper.header (seen D.state rig.old).pool.shape
+            → CallsTo (2 * columns self.old.sweeper.header) (Q.counts self.old.sweeper.queue)
+            (Q.counts self.new.sweeper.queue) result }
+        ensures same { IsTrue H.tells → FollowsText self.old.sweeper.header.inputs
+            (source H.Shelf feed.old shelf.old) (source H.Shelf feed.new shelf.new) result }
+        ensures printed { IsTrue H.tells → IsTrue (seen D.state rig.old).device.told
+            → (c : Circuit) (order : List Gate) (state : List Bool)
+            → Evaluates Q.Queue (seen D.state rig.old) self.old.sweeper c order state
+            → AnswersStep Q.Queue W.took c order state
+            (scene (seen D.state rig.old) self.old.sweeper (source H.Shelf feed.old shelf.old)
+            (W.state sink.old) printer.old)
+            (scene (seen D.state rig.new) self.new.sweeper (source H.Shelf feed.new shelf.new)
+            (W.state sink.new) printer.new) result }
+        ensures goes_on { W.faults sink.old ≤ W.faults sink.new }
+        ensures cause { IfErr result (StepCause (H.faults shelf.old) (H.faults shelf.new)
+            (W.faults sink.old) (W.faults sink.new) (seen D.state rig.old) (seen D.state rig.new)) }
+        ensures room { StepsInRoom Q.Queue (seen D.state rig.old) (seen D.state rig.new)
+            self.old.sweeper self.new.sweeper result }
     {
         let Some(inputs) = read_line(rig, feed, shelf, self.sweeper.header.inputs)? else {
             return Ok(StepEnd::End);
         };
-        pass(rig, &mut self.sweeper, inputs)?;
+        pass(rig, &mut self.sweeper, inputs, limit)?;
         let header = self.sweeper.header;
         let columns = header.outputs + header.bads + header.constraints;
         put_outputs(rig, &mut self.sweeper.queue, columns, printer, sink)?;
@@ -155,11 +222,12 @@ impl<Q: Queue> Evaluator<Q> {
 
 /// The part of a step between the stimulus and the printed line: by a list of the inputs' bits
 /// the latches change, and the queue takes the messages of the columns. It gives up as the rig
-/// does.
+/// does. A circuit of more ranks than `limit` goes by messages, also if they fit.
 fn pass<D: Device, Q: Queue>(
     rig: &mut Rig<'_, D>,
     sweeper: &mut Sweeper<Q>,
     inputs: Chain,
+    limit: u64,
 ) -> Result<(), EmFault>
     requires sound { Sound (seen D.state rig.old) }
     requires is { IsSweeper Q.Queue (seen D.state rig.old) sweeper.old }
@@ -171,6 +239,9 @@ fn pass<D: Device, Q: Queue>(
     ensures queue { OnOk result (Q.IsQueue sweeper.new.queue (seen D.state rig.new)) }
     ensures passes { PassesTo Q.Queue (seen D.state rig.old) (seen D.state rig.new)
         sweeper.old sweeper.new inputs result }
+    ensures few { Fits limit sweeper.old.header (seen D.state rig.old).pool.shape
+        → CallsTo (columns sweeper.old.header) (Q.counts sweeper.old.queue)
+        (Q.counts sweeper.new.queue) result }
     ensures values { OnOk result (IsTrue (seen D.state rig.old).device.told
         → (c : Circuit) (order : List Gate) (state bits : List Bool)
         → Evaluates Q.Queue (seen D.state rig.old) sweeper.old c order state
@@ -188,6 +259,7 @@ fn pass<D: Device, Q: Queue>(
         &sweeper.given,
         &sweeper.gates,
         bits,
+        limit,
     )?;
     Ok(())
 }

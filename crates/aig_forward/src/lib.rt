@@ -1,5 +1,5 @@
-//! Evaluates a circuit step by step by time-forward processing: a step reads a line of the stimulus, lets
-//! `aig_sweep` send values along the edges, and prints a line of the columns.
+//! Evaluates a circuit step by step: a step reads a line of the stimulus, lets `aig_table` send values along the
+//! edges, and prints a line of the columns.
 #![tactic(auto)]
 
 mod evaluator;

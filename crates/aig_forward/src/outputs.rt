@@ -1,17 +1,15 @@
 //! The line of a step's columns, which leave the queue in their order, as messages.
-ghost use Rattle.std.specs.Prelude.{◌≡◌, ◌≤◌, ◌+◌, ◌^◌, ◌<◌, ◌++◌, ◌∷◌, [], IfErr, OnOk, IsTrue};
-ghost use Rattle.em_io.specs.Sink.{Sent, SentPart};
-ghost use Rattle.em_record.specs.Count.{HasCause};
+ghost use Rattle.std.specs.Prelude.{◌≡◌, ◌≤◌, ◌+◌, ◌^◌, ◌<◌, IfErr, OnOk, IsTrue};
 ghost use Rattle.em_space.specs.Queue.{CanServe};
 ghost use Rattle.em_space.specs.Rig.{Sound};
 ghost use Rattle.em_space.specs.Seen.{seen};
-ghost use Rattle.aig_defs.specs.Stimulus.{bit_byte};
 ghost use Rattle.aig_forward.specs.Outputs.{HaltsOutputs, OutputCause, OutputCosts, PrintsOutputs, PrintsPart, PutsBy, message_bit, printing};
 
 use aig_edges::StepStop;
+use aig_sweep::put_bit;
 use em_frames::Device;
 use em_io::{Printer, Sink};
-use em_record::{Failed, Record};
+use em_record::Record;
 use em_space::{Queue, Rig};
 
 /// Whether a message says 1 in lane 0. A missing one says 0.
@@ -21,21 +19,6 @@ fn message_bit(message: Option<Record>) -> bool
     match message {
         Some(message) => message.c & 1 == 1,
         None => false,
-    }
-}
-
-/// Prints a bit as a byte.
-fn put_bit<W: Sink>(printer: &mut Printer, sink: &mut W, bit: bool) -> Result<(), Failed>
-    ensures sent { OnOk result (Sent W.took (W.state sink.old) (printer.old ++ bit_byte bit ∷ [])
-        (W.state sink.new) printer.new) }
-    ensures part { SentPart W.took (W.state sink.old) (printer.old ++ bit_byte bit ∷ [])
-        (W.state sink.new) }
-    ensures cause { HasCause (W.faults sink.old) (W.faults sink.new) result }
-{
-    if bit {
-        printer.add(sink, b"1")
-    } else {
-        printer.add(sink, b"0")
     }
 }
 

@@ -23,7 +23,9 @@ use Rattle.em_chain.specs.declared.writer.Writer.{Writer}
 use Rattle.em_chain.proofs.Keeps.{lent_given, lent_same}
 use Rattle.em_chain.proofs.Sessions.{ceiling_rises}
 use Rattle.em_queued.specs.Queued.{RunsBeside, StopsBeside}
+use Rattle.em_queued.specs.Room.{StatedRoom}
 use Rattle.em_queued.proofs.Queued.{shares_frames}
+use Rattle.em_queued.proofs.Room.{full_device, full_wider}
 
 -- The blocks of a packed list of at most k records.
 pub blocks_within : (n k p : ℕ) {b : ℕ} → n ≤ k → 0 < p → b ≡ ceiling n p → b ≤ ceiling k p
@@ -93,14 +95,15 @@ finish_runs {i} {p} {a} {c} {d} {s} {m} {n} {t} {v} {e} held old qs js has l u e
     }
 
 -- or it wasn't.
-pub finish_stops : {i p : ℕ} {a : Account} {c d : QueueCounts} {s m n t : RigState} (v : Writer)
+pub finish_stops : {i p : ℕ} {a : Account} {c d : QueueCounts} {s m n t : RigState}
+    {room : StatedRoom} (v : Writer)
     {fault : EmFault} (held old qs : List ℕ) → (IsTrue s.device.told → Holds s held)
     → LendsFrame s m → Unmoved s m → (IsTrue s.device.told → old ≡ held)
     → RunsBeside i p old (qs ++ writer_blocks n v) a (writer_account v) c d m n
     → d.unstored ≤ n.pool.shape.frames → GivesFrame (writer_blocks n v) n t
     → Halts v.blocks (2 * v.blocks + min v.blocks 1) (min v.blocks 1) (writer_account v) n t fault
     → DeviceCause n t fault → v.blocks ≤ p
-    → StopsBeside i p (2 * v.blocks + 1) 1 held a c d s t fault
+    → StopsBeside room i p (2 * v.blocks + 1) 1 held a c d s t fault
 finish_stops {i} {p} {a} {c} {d} {s} {m} {n} {t} v {fault} held old qs has l u eo h few g k cause
     low =
     let r = h.runs in
@@ -135,13 +138,15 @@ finish_stops {i} {p} {a} {c} {d} {s} {m} {n} {t} v {fault} held old qs has l u e
       pays = pays_then (pays_then (pays_kept (c.unstored + a.unstored) (omega (arith, u.same.used))
           (omega (arith, u.moves))) x.pays x.later) owing k.later;
       cause = cause_after held s n t fault whole.touches (device_cause n t fault cause);
+      full = full_device a.blocks p c d.k s n t fault cause;
     }
 
 -- Another account of as many blocks, that owes what came beyond.
 pub stops_by : {i p l u : ℕ} {held : List ℕ} {a : Account} {c d : QueueCounts} {s t : RigState}
-    {fault : EmFault} (x : Account) (n : ℕ) → x.blocks ≡ a.blocks → x.unstored ≡ a.unstored
-    → a.owed + x.paid + l ≤ x.owed + a.paid + n → StopsBeside i p l u held a c d s t fault
-    → StopsBeside i p n u held x c d s t fault
+    {fault : EmFault} {room : StatedRoom} (x : Account) (n : ℕ) → x.blocks ≡ a.blocks
+    → x.unstored ≡ a.unstored
+    → a.owed + x.paid + l ≤ x.owed + a.paid + n → StopsBeside room i p l u held a c d s t fault
+    → StopsBeside room i p n u held x c d s t fault
 stops_by x n blocks unstored most h = record {
   sound = h.sound;
   touches = h.touches;
@@ -151,4 +156,5 @@ stops_by x n blocks unstored most h = record {
   moves = omega (arith, h.moves, most);
   pays = pays_more h.pays (omega (arith, unstored));
   cause = h.cause;
+  full = full_wider (omega (arith, blocks)) h.full;
 }

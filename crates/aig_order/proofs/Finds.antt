@@ -17,13 +17,14 @@ use Rattle.em_queued.specs.Queued.{Called, RunsBeside}
 use Rattle.em_queued.proofs.Queued.{beside_holds, beside_none, beside_then, beside_wider, called_wider, stops_then, stops_wider}
 use Rattle.aig_defs.specs.declared.circuit.Header.{Header}
 use Rattle.aig_defs.specs.declared.circuit.Latch.{Latch}
-use Rattle.aig_defs.specs.Circuit.{Circuit, IsHeader, currents}
+use Rattle.aig_defs.specs.Circuit.{Circuit, IsCircuit, IsHeader, currents}
+use Rattle.aig_defs.specs.Founded.{passed, upwards}
 use Rattle.aig_defs.specs.Ranks.{first_gate_rank}
 use Rattle.aig_edges.specs.BuildGraph.{CalledInRuns}
 use Rattle.aig_edges.specs.Accounts.{stored_account}
 use Rattle.aig_edges.proofs.Besides.{beside_by}
 use Rattle.aig_edges.proofs.Sorts.{runs_then}
-use Rattle.aig_order.specs.ByPass.{found}
+use Rattle.aig_order.specs.ByPass.{added, found}
 use Rattle.aig_order.specs.declared.passing.Swept.{Swept}
 use Rattle.aig_order.specs.declared.standing.Sweep.TheVariants.{Recall, Find}
 use Rattle.aig_order.specs.Findings.{CanFind, FindsAll, IsListOf, StopsFinding, finding_calls, finding_limits, finding_moves}
@@ -36,7 +37,8 @@ use Rattle.aig_order.proofs.Finding.{last_variable, moment, stand}
 use Rattle.aig_order.proofs.FirstRanks.{first_is}
 use Rattle.aig_order.proofs.ListBounds.{next_few}
 use Rattle.aig_order.proofs.Meeting.{calls_most}
-use Rattle.aig_order.proofs.Orders.{AllAdd, passes_fewer}
+use Rattle.aig_order.proofs.ByPass.{found_in, found_unlike}
+use Rattle.aig_order.proofs.Orders.{AllAdd, no_more, passes_fewer}
 use Rattle.aig_order.proofs.PassEnds.{adds_more, list_still, passes_end}
 use Rattle.aig_order.proofs.PassLists.{gives_none, gives_some, next_after, pass_finds, pass_recalls}
 use Rattle.aig_order.proofs.SweepCalls.{pass_calls}
@@ -361,6 +363,60 @@ finds_all q h list n next x y d {s} {t} e f =
       count_is = f.count_is;
       blocks_is = f.blocks_is;
       passes_most = omega (arith, e);
+      empty = f.empty;
+      rests = f.rests;
+      runs = beside_wider (omega (arith, more)) (omega arith)
+          (beside_by (stored_account list.blocks (finding_moves list (n + 1)))
+          (stored_account d.blocks 0) refl refl refl refl (omega (arith, moves)) f.runs);
+    }
+
+-- the next rank is one past that of the last gate: another pass finds none
+nothing_left : (c : Circuit) (n : ℕ) → IsCircuit c → next_after c n ≡ first_gate_rank c + length c.gates
+    → next_after c (suc n) ≡ next_after c n
+nothing_left c n is e =
+    let few = no_more (found c (suc n)) c.gates (found_unlike c (suc n))
+    (λ g i. (found_in c (suc n) g i).is) in
+    let more = length-append (found c n) (added (upwards c.gates) (passed c n)) in
+    omega (arith, few, more, e)
+
+-- All gates were found.
+pub finds_whole : {Q : Type 0} (q : QueueGhosts Q) (h : Header) (list : Chain) (n next : ℕ) (x y : Q)
+    (d : Chain) {s t : RigState} → n ≤ h.gates → next ≡ 1 + h.inputs + h.latches + h.gates
+    → Passed q h list n next x y d s t
+    → FindsAll q h x y list (record { list = d; passes = n; next = next }) s t
+finds_whole q h list n next x y d {s} {t} l e f =
+    let more = calls_next n h.gates in
+    let moves = moves_next n list.blocks 0 (omega arith) in
+    record {
+      few = few_end (q.counts x).n (q.counts y).n (adjacency_count h) n h.gates l f.few;
+      in_runs = record {
+        n = let few = f.in_runs.n in omega (arith, more, few);
+        k = f.in_runs.k;
+        more = f.in_runs.more;
+      };
+      finds = λ o c k.
+          let b = f.of o c k in
+          let given = length-append c.inputs (currents c.latches) in
+          let latches = length-map c.latches (λ (i : Latch). i.current) in
+          let first = k.is.lengths.inputs in
+          let second = k.is.lengths.latches in
+          let third = k.is.lengths.gates in
+          let one = ap (λ (i : Header). i.inputs) k.header in
+          let two = ap (λ (i : Header). i.latches) k.header in
+          let three = ap (λ (i : Header). i.gates) k.header in
+          let all : next_after c n ≡ first_gate_rank c + length c.gates =
+          sym b.next_is ∙ e
+          ∙ omega (arith, given, latches, first, second, third, one, two, three) in
+          let r = passes_end c n b.adds (inl (gives_none c n (nothing_left c n k.is all))) in
+          record {
+            passes_is = r;
+            items = b.items ∙ ap (λ (i : ℕ). list_after c i) r;
+            next_is = b.next_is ∙ ap (λ (i : ℕ). first_gate_rank c + length (found c i)) r;
+          };
+      is = f.is;
+      count_is = f.count_is;
+      blocks_is = f.blocks_is;
+      passes_most = l;
       empty = f.empty;
       rests = f.rests;
       runs = beside_wider (omega (arith, more)) (omega arith)

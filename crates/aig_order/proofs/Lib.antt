@@ -29,6 +29,7 @@ pub mod OrderMade
 pub mod OrderRanked
 pub mod OrderRanks
 pub mod OrderReady
+pub mod OrderRoom
 pub mod OrderSteps
 pub mod Orders
 pub mod PassBits

@@ -17,6 +17,7 @@ use Rattle.em_queued.specs.Popped.{grown_blocks}
 use Rattle.em_queued.specs.Queued.{RunsBeside, StopsBeside, no_account}
 use Rattle.em_queued.proofs.Popped.{grown_low}
 use Rattle.em_queued.proofs.Queued.{beside_apart, beside_as, beside_holds, beside_then, beside_wider, others_beside, others_stop, stops_then, stops_wider}
+use Rattle.em_queued.specs.Room.{FitsRoom}
 use Rattle.aig_defs.specs.declared.circuit.Header.{Header}
 use Rattle.aig_edges.proofs.Pushes.{beside_value, both_none, stops_value}
 use Rattle.aig_order.specs.declared.standing.Standing.{Standing}
@@ -102,9 +103,9 @@ meet_one q h sweep n r x y p {s} {t} {u} {w} {v} notes can g most b items blocks
 -- or notes weren't passed,
 pub meet_stops : {Q : Type 0} (q : QueueGhosts Q) (sweep : Sweep) (r : Record) (x y : Q)
     {s t : RigState} (w : Writer) {fault : EmFault} → CanMeet q 1 x w s
-    → StopsBeside (calls_at sweep r) 0 0 0 (q.blocks x s) no_account (q.counts x) (q.counts y) s t
+    → StopsBeside q.room (calls_at sweep r) 0 0 0 (q.blocks x s) no_account (q.counts x) (q.counts y) s t
     fault
-    → StopsBeside (calls_at sweep r) (grown_blocks (written_at sweep r) s w)
+    → StopsBeside q.room (calls_at sweep r) (grown_blocks (written_at sweep r) s w)
     (2 * grown_blocks (written_at sweep r) s w) 1 (q.blocks x s ++ writer_blocks s w)
     (writer_account w) (q.counts x) (q.counts y) s t fault
 meet_stops q sweep r x y {s} w can g =
@@ -117,13 +118,14 @@ pub meet_refused : {Q : Type 0} (q : QueueGhosts Q) (h : Header) (sweep : Sweep)
     (x y : Q) (p : Standing) {s t u : RigState} (w : Writer) (notes : Record × Record)
     {fault : EmFault} → CanMeet q 1 x w s → PassesNotes q sweep p n r x y notes s t
     → (q.counts y).blocks ≤ (q.counts y).most → (q.counts y).unstored ≤ t.pool.shape.frames
+    → FitsRoom q.room (q.counts y) t
     → Stops (grown_blocks (length (sent h sweep p r notes)) t w)
     (2 * grown_blocks (length (sent h sweep p r notes)) t w) 1 (writer_blocks t w)
     (writer_account w) t u fault
-    → StopsBeside (calls_at sweep r) (grown_blocks (written_at sweep r) s w)
+    → StopsBeside q.room (calls_at sweep r) (grown_blocks (written_at sweep r) s w)
     (2 * grown_blocks (written_at sweep r) s w) 1 (q.blocks x s ++ writer_blocks s w)
     (writer_account w) (q.counts x) (q.counts y) s u fault
-meet_refused q h sweep n r x y p {s} {t} w notes can g most few b =
+meet_refused q h sweep n r x y p {s} {t} w notes can g most few fits b =
     let low = grown_low (written_at sweep r) can.notes.sound can.writer in
     let st = list_stays q x y can g in
     let one = passed_beside q x y can g in
@@ -135,4 +137,4 @@ meet_refused q h sweep n r x y p {s} {t} w notes can g most few b =
     ap₂ (λ (f : ℕ) (k : ℕ). ceiling (f + k) (payload_in t)) st.filled_is len
     ∙ ap (λ (k : ℕ). ceiling (filled s w + written_at sweep r) k) pay in
     stops_wider (omega arith) (omega (arith, low, same)) (omega (arith, same)) (omega arith)
-    (stops_then one (others_stop (q.blocks y t) (q.counts y) b most few))
+    (stops_then one (others_stop (q.blocks y t) (q.counts y) b most few fits))

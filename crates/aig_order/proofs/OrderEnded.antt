@@ -84,7 +84,7 @@ pub costs_left : {Q : Type 0} (q : QueueGhosts Q) (x y : Q) {s u v : RigState} (
     → (IsTrue u.device.told → IfSome q.allowance (λ f. (q.counts y).spent
     ≤ f u.pool.shape (q.counts y).n (q.counts y).k))
     → IfSome q.room IsRisingRoom
-    → IfSome q.room (λ f. (q.counts y).most ≤ f u.pool.shape (q.counts y).k)
+    → (IsTrue u.device.told → IfSome q.room (λ f. (q.counts y).most ≤ f u.pool.shape (q.counts y).k))
     → OrderCosts q (q.counts x) s v g
 costs_left q x y {s} {u} {v} g h has l rising spends rising_room fits =
     let calls = order_calls h.passes g.header in
@@ -100,16 +100,17 @@ costs_left q x y {s} {u} {v} g h has l rising spends rising_room fits =
       frames = has;
       shape = e;
       called = w.called;
-      most =
-          let top = most_at_end q.room u.pool.shape (q.counts y) fits in
+      most = λ told.
+          let here = h.touches.told ∙ told in
+          let top = most_at_end q.room u.pool.shape (q.counts y) (fits here) in
           let same = ap (λ (k : ShapeNumbers). ending_most q.room k (q.counts y)) e in
           omega (arith, w.most, m, top, same);
       moves = w.moves;
       all_moves = λ z. allowed q.allowance s u v (q.counts x) (q.counts y) calls run
           (order_moves h.passes s g + h.looked) e w.called w.moves rising
           (still_allowed q.allowance u v (q.counts y) n (spends (h.touches.told ∙ z)));
-      room = roomy q.room s u v (q.counts x) (q.counts y) calls run (graph_size g) (order_peak s g) e
-          w.called w.most m rising_room fits;
+      room = λ told. roomy q.room s u v (q.counts x) (q.counts y) calls run (graph_size g) (order_peak s g) e
+          w.called w.most m rising_room (fits (h.touches.told ∙ told));
     })
 
 -- or ended after the edges were made.
@@ -157,7 +158,7 @@ pub costs_ended : {Q : Type 0} (q : QueueGhosts Q) (x y : Q) {s u v : RigState} 
     (g : Graph) → OrdersBeside q x y s u g o → q.HasItsFrames y u
     → Ends q.allowance q.room (q.blocks y u) (q.counts y) u v
     → IfSome q.allowance IsRising → IfSome q.room IsRisingRoom
-    → IfSome q.room (λ f. (q.counts y).most ≤ f u.pool.shape (q.counts y).k)
+    → (IsTrue u.device.told → IfSome q.room (λ f. (q.counts y).most ≤ f u.pool.shape (q.counts y).k))
     → OrderCosts q (q.counts x) s v g
 costs_ended q x y {s} {u} {v} {o} g b has l rising rising_room fits =
     let h = b.done in
@@ -173,18 +174,20 @@ costs_ended q x y {s} {u} {v} {o} g b has l rising rising_room fits =
       frames = has;
       shape = e;
       called = w.called;
-      most =
-          let top = most_at_end q.room u.pool.shape (q.counts y) fits in
+      most = λ told.
+          let here = h.touches.told ∙ told in
+          let top = most_at_end q.room u.pool.shape (q.counts y) (fits here) in
           let same = ap (λ (k : ShapeNumbers). ending_most q.room k (q.counts y)) e in
           ended_within (ending_most q.room u.pool.shape (q.counts y)) s u v (q.counts x)
           (q.counts y) (graph_size g) (order_peak s g) o.edges.blocks w.most b.used least top same
-          l.most;
+          (l.most here);
       moves = w.moves;
       all_moves = λ z. allowed q.allowance s u v (q.counts x) (q.counts y) calls run
           (order_moves h.passes s g + h.looked) e w.called w.moves rising
           (l.spent (h.touches.told ∙ z));
-      room = ended_roomy q.room s u v (q.counts x) (q.counts y) calls run (graph_size g)
-          (order_peak s g) o.edges.blocks e w.called w.most b.used least rising_room fits l.most;
+      room = λ told. ended_roomy q.room s u v (q.counts x) (q.counts y) calls run (graph_size g)
+          (order_peak s g) o.edges.blocks e w.called w.most b.used least rising_room
+          (fits (h.touches.told ∙ told)) (l.most (h.touches.told ∙ told));
     })
 
 -- They are those of each circuit whose graph it was,

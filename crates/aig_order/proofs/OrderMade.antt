@@ -10,6 +10,7 @@ use Rattle.em_chain.specs.Chain.{IsChain, chain_blocks}
 use Rattle.em_chain.specs.declared.chain.Chain.{Chain}
 use Rattle.em_queued.specs.Queued.{RunsBeside, StopsBeside}
 use Rattle.em_queued.proofs.Queued.{beside_then, shares_frames, stops_then}
+use Rattle.em_queued.proofs.Room.{full_wider}
 use Rattle.aig_defs.specs.declared.fault.AigKind.TheVariants as kind
 use Rattle.aig_defs.specs.Circuit.{Circuit}
 use Rattle.aig_defs.specs.Founded.{passes_of}
@@ -51,7 +52,7 @@ pub record Within {Q : Type 0} (q : QueueGhosts Q) (x y : Q) (s : RigState) (g :
 -- A call was refused,
 pub orders_stopped : {Q : Type 0} (q : QueueGhosts Q) (x y : Q) {s t : RigState} (g : Graph)
     {passes calls peak moved unstored : ℕ} {fault : EmFault}
-    → StopsBeside calls peak 0 unstored (lists_at q x s g) (stored_account (graph_size g) moved)
+    → StopsBeside q.room calls peak 0 unstored (lists_at q x s g) (stored_account (graph_size g) moved)
     (q.counts x) (q.counts y) s t fault
     → unstored ≤ 2 → Within q x y s g passes peak moved → OrdersNone q x y s t g (stop.Em fault)
 orders_stopped q x y {s} {t} g {passes} w few within = record {
@@ -73,6 +74,7 @@ orders_stopped q x y {s} {t} g {passes} w few within = record {
   };
   stops = tt;
   cause = w.cause;
+  full = full_wider (let l = within.of.peak_most in omega (arith, l)) w.full;
   pays = pays_more w.pays (omega (arith, few));
 }
 
@@ -114,6 +116,7 @@ orders_cycle q x y {s} {t} g place w few within cycle =
       done = orders_until q x y g w refl within;
       stops = cycle;
       cause = tt;
+      full = tt;
       pays = pays_more w.runs.spends.pays (omega (arith, few, shape));
     }
 
@@ -145,9 +148,9 @@ list_then q x y z {g = g} {m = m} {n = n} {list = list} w h =
 -- or the last one is refused.
 pub list_stops : {Q : Type 0} (q : QueueGhosts Q) (x y z : Q) {s t u : RigState} {g : Graph}
     {i j p r m n : ℕ} {list : Chain} {fault : EmFault} → ListBeside q x y s t g i p m list
-    → StopsBeside j r 0 1 (q.blocks y t ++ chain_blocks t list) (stored_account list.blocks n)
+    → StopsBeside q.room j r 0 1 (q.blocks y t ++ chain_blocks t list) (stored_account list.blocks n)
     (q.counts y) (q.counts z) t u fault
-    → StopsBeside (i + j) (max p r) 0 1 (lists_at q x s g) (stored_account (graph_size g) (m + n))
+    → StopsBeside q.room (i + j) (max p r) 0 1 (lists_at q x s g) (stored_account (graph_size g) (m + n))
     (q.counts x) (q.counts z) s u fault
 list_stops q x y z {g = g} {m = m} {n = n} {list = list} w h =
     stops_then

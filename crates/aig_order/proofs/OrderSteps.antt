@@ -18,6 +18,8 @@ use Rattle.em_chain.proofs.Keeps.{payload_kept}
 use Rattle.em_chain.proofs.Laws.{chain_stays}
 use Rattle.em_queued.specs.Queued.{RunsBeside, StopsBeside}
 use Rattle.em_queued.proofs.Queued.{beside_as, beside_holds, called_none, calls_none, others_beside, others_stop}
+use Rattle.em_queued.specs.Room.{FitsRoom}
+use Rattle.em_queued.proofs.Room.{full_unneeded}
 use Rattle.aig_defs.specs.Circuit.{Circuit}
 use Rattle.aig_text.specs.declared.stop.AigStop.TheVariants as stop
 use Rattle.aig_edges.specs.BuildGraph.{CalledInRuns}
@@ -93,10 +95,10 @@ merged_beside q x {s} {t} g {list} kept blocks most none holds m = record {
 
 pub merged_none : {Q : Type 0} (q : QueueGhosts Q) (x : Q) {s t : RigState} (g : Graph)
     {fault : EmFault} → (q.counts x).blocks ≤ (q.counts x).most
-    → (q.counts x).unstored ≤ s.pool.shape.frames → MergesTo s t g (Err fault)
-    → OrdersNone q x x s t g (stop.Em fault)
-merged_none q x {s} g most few m =
-    orders_stopped q x x g (others_stop (q.blocks x s) (q.counts x) m most few) (omega arith)
+    → (q.counts x).unstored ≤ s.pool.shape.frames → FitsRoom q.room (q.counts x) s
+    → MergesTo s t g (Err fault) → OrdersNone q x x s t g (stop.Em fault)
+merged_none q x {s} g most few fits m =
+    orders_stopped q x x g (others_stop (q.blocks x s) (q.counts x) m most few fits) (omega arith)
     (merged_within q x s g)
 
 -- It is that of each circuit of the graph.
@@ -241,7 +243,7 @@ looked_beside q x y {s} {u} {v} g {list = list} w looks is blocks most = record 
 -- or a block wasn't read.
 look_stops : {Q : Type 0} (q : QueueGhosts Q) (y : Q) {u v : RigState} {n : ℕ} {fault : EmFault}
     (list : Chain) → StopsLooking n u v fault → (q.counts y).unstored ≤ u.pool.shape.frames
-    → StopsBeside 0 list.blocks 0 1 (q.blocks y u ++ chain_blocks u list)
+    → StopsBeside q.room 0 list.blocks 0 1 (q.blocks y u ++ chain_blocks u list)
     (stored_account list.blocks n) (q.counts y) (q.counts y) u v fault
 look_stops q y {u} {v} {n} {fault} list h few =
     let looks = h.looks in
@@ -256,6 +258,7 @@ look_stops q y {u} {v} {n} {fault} list h few =
       pays = pays_more (pays_kept 0 (omega (arith, looks.used)) looks.goes.touches.moves)
           (omega (arith, few));
       cause = block_cause u v fault h.cause;
+      full = full_unneeded u v fault h.cause;
     }
 
 pub looked_low : (b : Bool) (blocks : ℕ) → looked_if b blocks ≤ blocks

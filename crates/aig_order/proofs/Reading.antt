@@ -5,7 +5,7 @@ use Rattle.em_frames.specs.Pool.{singles_of}
 use Rattle.em_space.specs.Held.{Apart, Holds}
 use Rattle.em_space.specs.Ledger.{Account, Halts, both}
 use Rattle.em_space.specs.Queue.{QueueCounts}
-use Rattle.em_space.specs.Rig.{RigState, Goes, BlockCause, Cause}
+use Rattle.em_space.specs.Rig.{RigState, Goes, BlockCause}
 use Rattle.em_space.specs.declared.fault.EmFault.{EmFault}
 use Rattle.em_space.specs.declared.fault.EmFault.TheVariants.{Damaged}
 use Rattle.em_space.specs.declared.queue.Queue.{Ghosts as QueueGhosts}
@@ -28,8 +28,10 @@ use Rattle.em_chain.proofs.Readers.{reader_stays}
 use Rattle.em_chain.proofs.Sessions.{took_one, took_stays, took_then}
 use Rattle.em_queued.specs.Popped.{grown_blocks}
 use Rattle.em_queued.specs.Queued.{RunsBeside, StopsBeside}
+use Rattle.em_queued.specs.Room.{StatedRoom}
 use Rattle.em_queued.proofs.Popped.{grown_low}
-use Rattle.em_queued.proofs.Queued.{beside_as, beside_holds, beside_then, beside_wider, others_stop, shares_frames, still_can_serve, stops_then, stops_wider}
+use Rattle.em_queued.proofs.Queued.{beside_as, beside_holds, beside_then, beside_wider, others_never, shares_frames, still_can_serve, stops_then, stops_wider}
+use Rattle.em_queued.proofs.Room.{full_unneeded, full_wider}
 use Rattle.aig_defs.specs.declared.circuit.Header.{Header}
 use Rattle.aig_edges.specs.Pushes.{HasReader, reader_account}
 use Rattle.aig_edges.proofs.Pushes.{IsBoth, ReadsRecord, beside_value, read_beside, stops_value}
@@ -62,8 +64,9 @@ with_account x h =
     }
 
 pub stops_with_account : {i p l u : ℕ} {ks : List ℕ} {a : Account} {c d : QueueCounts}
-    {s t : RigState} {fault : EmFault} (x : Account) → StopsBeside i p l u ks a c d s t fault
-    → StopsBeside i (x.blocks + p) (x.paid + l) (x.unstored + u) ks (both x a) c d s t fault
+    {s t : RigState} {fault : EmFault} {room : StatedRoom} (x : Account)
+    → StopsBeside room i p l u ks a c d s t fault
+    → StopsBeside room i (x.blocks + p) (x.paid + l) (x.unstored + u) ks (both x a) c d s t fault
 stops_with_account x h = record {
   sound = h.sound;
   touches = h.touches;
@@ -73,14 +76,15 @@ stops_with_account x h = record {
   moves = omega (arith, h.moves);
   pays = pays_more h.pays (omega arith);
   cause = h.cause;
+  full = full_wider (omega arith) h.full;
 }
 
 -- Calls that ran, and then a fault that no call gave.
 pub runs_stop : {i p : ℕ} {held ks : List ℕ} {a b : Account} {c d : QueueCounts} {s t : RigState}
-    {fault : EmFault} → RunsBeside i p held ks a b c d s t → Cause s t fault
-    → d.unstored ≤ s.pool.shape.frames
-    → StopsBeside i p b.paid b.unstored held a c d s t fault
-runs_stop h e l =
+    {fault : EmFault} {room : StatedRoom} → RunsBeside i p held ks a b c d s t
+    → BlockCause s t fault → d.unstored ≤ s.pool.shape.frames
+    → StopsBeside room i p b.paid b.unstored held a c d s t fault
+runs_stop {s = s} {t} {fault} h e l =
     let k = h.runs.spends in
     record {
       sound = h.runs.session.sound;
@@ -90,7 +94,8 @@ runs_stop h e l =
       most = omega (arith, k.most);
       moves = omega (arith, k.moves);
       pays = pays_more k.pays (omega (arith, l));
-      cause = e;
+      cause = block_cause s t fault e;
+      full = full_unneeded s t fault e;
     }
 
 pub both_is : (a x : Account) → IsBoth (both a x) a x
@@ -228,8 +233,7 @@ reads_refused {T} q x {s} {t} w {r} {k} bound {fault} can m n g c e =
       written_most = omega arith;
       stops = stops_wider (omega arith) (omega (arith, low)) (omega (arith, low)) (omega arith)
           (stops_with_account (writer_account w)
-          (others_stop (q.blocks x s ++ writer_blocks s w) (q.counts x)
-          (record { goes = g; halts = halts; cause = block_cause s t fault e }) m n));
+          (others_never (q.blocks x s ++ writer_blocks s w) (q.counts x) g halts e m n));
     }
 
 -- The reader stays while the record is met.
@@ -298,7 +302,7 @@ next_one q h sweep n x y p j {s} {t} {u} {w} {v} {r} {k} {item} one spent g =
 pub next_refused : {Q : Type 0} (q : QueueGhosts Q) (sweep : Sweep) (x y : Q) {s t u : RigState}
     (w : Writer) (r k : Reader) (item : Record) {bound left : Limits} {fault : EmFault}
     → ReadsOne q x w r k item s t → LeftAfter sweep (item ∷ []) bound left
-    → StopsBeside (calls_at sweep item) (grown_blocks (written_at sweep item) t w)
+    → StopsBeside q.room (calls_at sweep item) (grown_blocks (written_at sweep item) t w)
     (2 * grown_blocks (written_at sweep item) t w) 1 (q.blocks x t ++ writer_blocks t w)
     (writer_account w) (q.counts x) (q.counts y) t u fault
     → w.blocks ≤ grown_blocks (written_at sweep item) s w
@@ -350,7 +354,7 @@ past_limits q sweep x {s} {t} w r k item bound {fault} can one fits few same pas
     let told = one.runs.runs.session.touches.told in
     let more = fewer r k one.reads.taking one.reads.fewer in
     let low = grown_low 0 can.meets.notes.sound can.meets.writer in
-    let cause : Cause s t (Damaged 0) = (
+    let cause : BlockCause s t (Damaged 0) = (
       untold_by t.device.told (λ z.
           let old = sym told ∙ z in
           past (fits_first sweep item (reader_items t k) bound
@@ -363,5 +367,5 @@ past_limits q sweep x {s} {t} w r k item bound {fault} can one fits few same pas
       calls_most = omega arith;
       written_most = omega arith;
       stops = stops_wider (omega arith) (omega (arith, low)) (omega (arith, low)) (omega arith)
-          (runs_stop one.runs (subst (λ (e : EmFault). Cause s t e) (sym same) cause) few);
+          (runs_stop one.runs (subst (λ (e : EmFault). BlockCause s t e) (sym same) cause) few);
     }

@@ -4,7 +4,7 @@ use Rattle.em_record.specs.Shape.{ShapeNumbers, fan_of}
 use Rattle.em_record.specs.declared.record.Record.{Record}
 use Rattle.em_frames.specs.Pool.{singles_of}
 use Rattle.em_space.specs.Ledger.{both}
-use Rattle.em_space.specs.Rig.{RigState, Cause}
+use Rattle.em_space.specs.Rig.{RigState, BlockCause}
 use Rattle.em_space.specs.declared.fault.EmFault.{EmFault}
 use Rattle.em_space.specs.declared.queue.Queue.{Ghosts as QueueGhosts}
 use Rattle.em_space.proofs.Lists.{apart_sym, distinct_apart}
@@ -312,7 +312,7 @@ pub items_stop : {Q : Type 0} (q : QueueGhosts Q) (h : Header) (a b : Sweep) (ne
     → CanSweepPair q h a b next x w s c
     → SweepsList q h a 0 next (pair_held q x w s) (stored_account 0 c.blocks) c x y j w v bound some s t
     → SweepsList q h b c.count next (three_held q y v c t) (releasing c.blocks) c y z k v e some left t u
-    → Cause s u fault → (q.counts z).unstored ≤ s.pool.shape.frames
+    → BlockCause s u fault → (q.counts z).unstored ≤ s.pool.shape.frames
     → StopsPair q c x z w bound s u fault
 items_stop q h a b next x y z j k w v e {s} {t} {u} c can f g cause few =
     let written = sweep_written a f.records + sweep_written b g.records in

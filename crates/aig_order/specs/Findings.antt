@@ -128,7 +128,7 @@ pub record StopsFinding {Q : Type 0} (q : QueueGhosts Q) (h : Header) (x y : Q) 
   pub passes_most : passes ≤ h.gates
   pub fewer : IsTrue s.device.told → (c : Circuit) → IsListOf s h list c → passes ≤ passes_of c
   pub in_runs : CalledInRuns (finding_calls h (passes + 1)) (4 * h.gates) (q.counts x) (q.counts y)
-  pub stops : StopsBeside (finding_calls h (passes + 1)) (2 * list.blocks) 0 1
+  pub stops : StopsBeside q.room (finding_calls h (passes + 1)) (2 * list.blocks) 0 1
       (q.blocks x s ++ chain_blocks s list)
       (stored_account list.blocks (finding_moves list (passes + 1))) (q.counts x) (q.counts y) s t fault
 

@@ -6,6 +6,7 @@ use Rattle.em_space.specs.Queue.{Pays, Shares}
 use Rattle.em_space.specs.Rig.{RigState, Cause, Sound, Touches}
 use Rattle.em_space.specs.declared.queue.Queue.{Ghosts as QueueGhosts}
 use Rattle.em_chain.specs.Chain.{ChainStays, chain_blocks}
+use Rattle.em_queued.specs.Room.{FullBeside}
 use Rattle.aig_defs.specs.Circuit.{Circuit}
 use Rattle.aig_defs.specs.Founded.{passes_of}
 use Rattle.aig_text.specs.Ascii.{IfEmStop}
@@ -68,6 +69,7 @@ pub record OrdersNone {Q : Type 0} (q : QueueGhosts Q) (x y : Q) (s t : RigState
   pub done : DoneUntil q x y s t g
   pub stops : StopsOrdering s g (Err e)
   pub cause : IfEmStop e (Cause s t)
+  pub full : IfEmStop e (FullBeside q.room (graph_size g) (order_peak s g) (q.counts x) (q.counts y).k s)
   pub pays : Pays (q.counts x).unstored (s.pool.shape.frames + 2) s t
 
 -- what was done, by the result

@@ -7,6 +7,7 @@ pub mod Merges
 pub mod OrderGraph
 pub mod PassLists
 pub mod Passes
+pub mod Room
 pub mod SweepCalls
 pub mod SweepLists
 pub mod SweepPairs

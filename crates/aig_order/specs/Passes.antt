@@ -107,7 +107,7 @@ abbrev pub SweepsTwice : {Q : Type 0} → QueueGhosts Q → Header → Sweep →
 SweepsTwice q h first second next bound x y c s t (Ok d) =
     SweepsBoth q h first second next bound x y c d s t
 SweepsTwice q h _ _ next bound x y c s t (Err fault) =
-    StopsBeside bound.calls (c.blocks + bound_room s bound) 0 1 (q.blocks x s ++ chain_blocks s c)
+    StopsBeside q.room bound.calls (c.blocks + bound_room s bound) 0 1 (q.blocks x s ++ chain_blocks s c)
     (stored_account c.blocks (sweeping_moves c.blocks (bound_room s bound))) (q.counts x)
     (q.counts y) s t fault
 
@@ -155,7 +155,7 @@ pub record RanksList {Q : Type 0} (q : QueueGhosts Q) (h : Header) (count : ℕ)
 pub record StopsRanking {Q : Type 0} (q : QueueGhosts Q) (h : Header) (count : ℕ) (x y : Q)
     (c : Chain) (s t : RigState) (fault : EmFault) : Type 0 where
   pub in_runs : CalledInRuns (4 * h.gates + 2 * count) (2 * count) (q.counts x) (q.counts y)
-  pub stops : StopsBeside (4 * h.gates + 2 * count) (c.blocks + 2 * ceiling count (payload_in s)) 0 1
+  pub stops : StopsBeside q.room (4 * h.gates + 2 * count) (c.blocks + 2 * ceiling count (payload_in s)) 0 1
       (q.blocks x s ++ chain_blocks s c)
       (stored_account c.blocks (ranking_moves c.blocks (ceiling count (payload_in s))))
       (q.counts x) (q.counts y) s t fault

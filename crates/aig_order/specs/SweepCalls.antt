@@ -121,7 +121,7 @@ abbrev pub TakesTo : {Q : Type 0} → QueueGhosts Q → Q → Q → RigState →
     → Result (Record × Record) EmFault → Type 0
 TakesTo q x y s t (Ok notes) = TakesNotes q x y notes s t
 TakesTo q x y s t (Err fault) =
-    StopsBeside 2 0 0 0 (q.blocks x s) no_account (q.counts x) (q.counts y) s t fault
+    StopsBeside q.room 2 0 0 0 (q.blocks x s) no_account (q.counts x) (q.counts y) s t fault
 
 -- The note of a record with this number was pushed, or its two were taken, or neither is due.
 pub record PassesNotes {Q : Type 0} (q : QueueGhosts Q) (sweep : Sweep) (p : Standing) (n : ℕ)
@@ -140,7 +140,7 @@ abbrev pub PassesTo : {Q : Type 0} → QueueGhosts Q → Sweep → Standing → 
     → RigState → RigState → Result (Record × Record) EmFault → Type 0
 PassesTo q sweep p n r x y s t (Ok notes) = PassesNotes q sweep p n r x y notes s t
 PassesTo q sweep p n r x y s t (Err fault) =
-    StopsBeside (calls_at sweep r) 0 0 0 (q.blocks x s) no_account (q.counts x) (q.counts y) s t
+    StopsBeside q.room (calls_at sweep r) 0 0 0 (q.blocks x s) no_account (q.counts x) (q.counts y) s t
     fault
 
 -- These records were written, and no call was refused.
@@ -202,7 +202,7 @@ pub record MeetsOne {Q : Type 0} (q : QueueGhosts Q) (h : Header) (sweep : Sweep
 abbrev pub MeetsTo : {Q : Type 0} → QueueGhosts Q → Header → Sweep → ℕ → Record → Q → Q → Standing
     → Writer → Writer → RigState → RigState → Result Standing EmFault → Type 0
 MeetsTo q h sweep n r x y p w v s t (Ok j) = MeetsOne q h sweep n r x y p j w v s t
-MeetsTo q h sweep n r x y p w v s t (Err fault) = StopsBeside (calls_at sweep r)
+MeetsTo q h sweep n r x y p w v s t (Err fault) = StopsBeside q.room (calls_at sweep r)
     (grown_blocks (written_at sweep r) s w) (2 * grown_blocks (written_at sweep r) s w) 1
     (q.blocks x s ++ writer_blocks s w) (writer_account w) (q.counts x) (q.counts y) s t fault
 
@@ -247,7 +247,7 @@ pub record StopsSweeping {Q : Type 0} (q : QueueGhosts Q) (x y : Q) (w : Writer)
   pub written : ℕ
   pub calls_most : calls ≤ bound.calls
   pub written_most : written ≤ bound.records
-  pub stops : StopsBeside calls (grown_blocks written s w + (reader_account r).blocks)
+  pub stops : StopsBeside q.room calls (grown_blocks written s w + (reader_account r).blocks)
       (2 * grown_blocks written s w) 1 (sweep_blocks q x w r s) (sweep_account w r) (q.counts x)
       (q.counts y) s t fault
 

@@ -59,7 +59,7 @@ pub record StopsList {Q : Type 0} (q : QueueGhosts Q) (held : List ℕ) (a : Acc
   pub written : ℕ
   pub calls_most : calls ≤ bound.calls
   pub written_most : written ≤ bound.records
-  pub stops : StopsBeside calls (grown_blocks written s w + a.blocks)
+  pub stops : StopsBeside q.room calls (grown_blocks written s w + a.blocks)
       (2 * grown_blocks written s w) 1 held (both (writer_account w) a) (q.counts x) (q.counts y) s t
       fault
 

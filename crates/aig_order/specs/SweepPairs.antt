@@ -79,7 +79,7 @@ pub record StopsPair {Q : Type 0} (q : QueueGhosts Q) (c : Chain) (x y : Q) (w :
   pub written : ℕ
   pub calls_most : calls ≤ bound.calls
   pub written_most : written ≤ bound.records
-  pub stops : StopsBeside calls (grown_blocks written s w + c.blocks)
+  pub stops : StopsBeside q.room calls (grown_blocks written s w + c.blocks)
       (2 * grown_blocks written s w) 1 (three_held q x w c s)
       (both (writer_account w) (stored_account c.blocks (3 * c.blocks))) (q.counts x) (q.counts y) s
       t fault

@@ -13,7 +13,8 @@ ghost use Rattle.aig_text.specs.Ascii.{IfEm};
 ghost use Rattle.aig_edges.specs.Build.{UsesUp};
 ghost use Rattle.aig_edges.specs.Graph.{IsGraph, graph_blocks};
 ghost use Rattle.aig_order.specs.FindsOrder.{OrdersTo};
-ghost use Rattle.aig_order.specs.OrderGraph.{BeginsOrdering, OfDefinedCircuit, OrderCosts, OrdersGraph, StopsOrdering, StoresOrdered};
+ghost use Rattle.aig_order.specs.OrderGraph.{BeginsOrdering, OfDefinedCircuit, OrderCosts, OrdersGraph, StopsOrdering};
+ghost use Rattle.aig_order.specs.Room.{OrdersBlocks};
 
 use crate::merging::merge_graph;
 use crate::passing::find_all;
@@ -80,6 +81,11 @@ fn find_order<D: Device, Q: Queue>(
 /// calls, and at most 2·E between two moments at which it is empty. The moves beside it go by r, and the
 /// blocks by the header alone. All this is said over each device, with r at most A. Over a device that
 /// tells, r is at most that of the circuit, the edges are its own, and `Cyclic` is its first fault.
+///
+/// If the device tells and the queue states a room, `Full` comes only if that room and `order_peak` are
+/// more than all blocks that were free, the queue's or the graph's. If nothing else is in use at first, the
+/// room is at most a tree's, and each list has at most two blocks more than its records need, then at most
+/// `circuit_room` blocks are in use at any moment, and `Full` comes only if the device has fewer.
 pub fn order<D: Device, Q: Queue>(
     rig: &mut Rig<'_, D>,
     graph: Graph,
@@ -102,8 +108,8 @@ pub fn order<D: Device, Q: Queue>(
     ensures stops { StopsOrdering (seen D.state rig.old) graph result }
     ensures costs { OrderCosts Q.Queue (Q.counts queue) (seen D.state rig.old)
         (seen D.state rig.new) graph }
-    ensures stores { StoresOrdered (Q.counts queue) (seen D.state rig.old) (seen D.state rig.new)
-        graph result }
+    ensures blocks { OrdersBlocks Q.Queue (Q.counts queue) (seen D.state rig.old)
+        (seen D.state rig.new) graph result }
     ensures cause { IfEm result (Cause (seen D.state rig.old) (seen D.state rig.new)) }
 {
     match find_order(rig, graph, &mut queue) {

@@ -219,8 +219,8 @@ pub(crate) struct Found {
     pub(crate) next: u64,
 }
 
-/// Passes over an adjacency list up to one that finds no gate. Each other one finds a gate, so there are
-/// no more of these than gates. A pass has at most 4 calls of the queue for each gate. A fault is that of
+/// Passes over an adjacency list up to one that finds the last gate, or none. Each other one finds a gate, so
+/// there are no more of these than gates. A pass has at most 4 calls of the queue for each gate. A fault is that of
 /// a call of the queue or of one on a list, or `Damaged` with block 0 if a device that doesn't tell went
 /// past this or left notes in the queue.
 pub(crate) fn find_all<D: Device, Q: Queue>(
@@ -239,6 +239,7 @@ pub(crate) fn find_all<D: Device, Q: Queue>(
 {
     let mut list = list;
     let mut next = 1 + header.inputs + header.latches;
+    let end = next + header.gates;
     let mut passes = 0;
     for _ in 0..header.gates {
         let limits = Limits {
@@ -261,6 +262,9 @@ pub(crate) fn find_all<D: Device, Q: Queue>(
         }
         next = swept.next;
         passes += 1;
+        if next == end {
+            return Ok(Found { list, passes, next });
+        }
     }
     Ok(Found { list, passes, next })
 }

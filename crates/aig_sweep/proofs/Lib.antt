@@ -10,4 +10,5 @@ pub mod Nexts
 pub mod Passes
 pub mod Sends
 pub mod Spreads
+pub mod SweepRoom
 pub mod Waiting

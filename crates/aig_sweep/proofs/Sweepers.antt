@@ -4,7 +4,7 @@ use Rattle.em_record.specs.Shape.{ShapeNumbers}
 use Rattle.em_record.specs.declared.record.Record.{Record}
 use Rattle.em_space.specs.Held.{Holds}
 use Rattle.em_space.specs.Ledger.{Runs, Stops}
-use Rattle.em_space.specs.Queue.{Ended, Ends, ending_most, Leaves, Pays, QueueCounts}
+use Rattle.em_space.specs.Queue.{AreOut, Ended, Ends, ending_most, Leaves, Pays, QueueCounts}
 use Rattle.em_space.specs.Rig.{RigState, Sound, Cause}
 use Rattle.em_space.specs.declared.fault.EmFault.{EmFault}
 use Rattle.em_space.specs.declared.queue.Queue.{Ghosts}
@@ -19,17 +19,19 @@ use Rattle.em_chain.specs.Effects.{Unmoved}
 use Rattle.em_chain.specs.declared.chain.Chain.{Chain}
 use Rattle.em_chain.proofs.Keeps.{payload_kept}
 use Rattle.em_chain.proofs.Writings.{cause_still}
-use Rattle.em_queued.proofs.Queued.{beside_as, others_beside}
+use Rattle.em_queued.specs.Room.{FitsRoom}
+use Rattle.em_queued.proofs.Queued.{beside_as, others_beside, unstored_frames}
+use Rattle.em_queued.proofs.Room.{full_others}
 use Rattle.aig_defs.specs.Chains.{bit, numbered, reset_record}
 use Rattle.aig_defs.specs.Circuit.{Circuit, resets}
 use Rattle.aig_defs.specs.declared.circuit.Latch.{Latch}
 use Rattle.aig_defs.specs.declared.circuit.Gate.{Gate}
 use Rattle.aig_text.specs.Draft.{chains_blocks}
-use Rattle.aig_edges.specs.Graph.{IsOrdered, IsOrderedOf, ordered_blocks}
+use Rattle.aig_edges.specs.Graph.{IsOrdered, IsOrderedOf, ordered_blocks, ordered_size}
 use Rattle.aig_edges.specs.declared.graph.Ordered.{Ordered}
 use Rattle.aig_sweep.specs.Bits.{bits_of}
-use Rattle.aig_sweep.specs.Sweeper.{BeginsSweeper, EndsSweeper, EndsTo, Evaluates, Halted, IsSweeper, lists_blocks, lists_size, without_frames}
-use Rattle.aig_sweep.specs.Lists.{AreLists, Makes, lists_account}
+use Rattle.aig_sweep.specs.Sweeper.{BeginsSweeper, EndsSweeper, EndsTo, Evaluates, FailsToBegin, Halted, IsSweeper, lists_blocks, lists_size, without_frames}
+use Rattle.aig_sweep.specs.Lists.{AreLists, Makes, begin_moves, begin_room, lists_account}
 use Rattle.aig_sweep.specs.declared.sweeper.Sweeper.{Sweeper}
 use Rattle.aig_words.specs.Words.{lane, says}
 
@@ -115,6 +117,7 @@ module _ {Q : Type 0} (queue : Ghosts Q) {s t : RigState} (o : Ordered) (q : Q)
 unmoved_of : {c : QueueCounts} {t u : RigState} → Leaves c t u → Unmoved t u
 unmoved_of h = record {
   device = ap (λ (x : RigState). x.device) h.same;
+  spare = ap (λ (x : RigState). x.spare) h.same;
   same = record {
     head = ap (λ (x : RigState). x.head) h.same;
     used = ap (λ (x : RigState). x.used) h.same;
@@ -151,6 +154,22 @@ left_halted {p} {n} {ks} {m} {c} {s} {t} {u} {e} qs blocks k g most stored =
       },
       cause_still s t u e v g.touches k.cause,
     )
+
+-- It wasn't made.
+pub not_begun : {Q : Type 0} (queue : Ghosts Q) {s t u : RigState} (o : Ordered) (q : Q)
+    {fault : EmFault} → Sound s → (queue.counts q).blocks ≤ (queue.counts q).most
+    → (queue.counts q).unstored ≤ (queue.counts q).frames → AreOut (queue.counts q) s.pool
+    → FitsRoom queue.room (queue.counts q) s
+    → Stops (begin_room o) 0 1 (ordered_blocks s o) (lists_account (ordered_size o) (begin_moves o)) s t
+    fault
+    → Leaves (queue.counts q) t u → FailsToBegin queue s u o q fault
+not_begun queue {s} o q {fault} sound most stored out fits k g =
+    let h = left_halted (queue.blocks q s) (ordered_size o) k g most (unstored_frames stored out sound)
+    in record {
+      halted = h.0;
+      cause = h.1;
+      full = full_others (queue.counts q) fault most fits k.halts k.cause;
+    }
 
 -- The lists of a sweeper are apart.
 pub lists_of : {Q : Type 0} {queue : Ghosts Q} {s : RigState} {e : Sweeper Q}
@@ -201,9 +220,10 @@ module _ {Q : Type 0} (queue : Ghosts Q) {s t : RigState} (e : Sweeper Q) (sound
             (λ f. c.spent + u.moves ≤ s.moves + f s.pool.shape c.n c.k + 2 * lists_size e)
             (λ f h. let g = rw shape at h in omega (arith, g, x.moves))
             (k.spent (runs.session.touches.told ∙ z));
-        most =
+        most = λ told.
             let same = ap (λ (z : ShapeNumbers). ending_most queue.room z c) shape in
-            omega (arith, k.most, same, x.most, x.used, low);
+            let ends = k.most (runs.session.touches.told ∙ told) in
+            omega (arith, ends, same, x.most, x.used, low);
       }
 
   pub ended_to : (u : RigState) (r : Result (Unit {0}) EmFault)
@@ -251,7 +271,7 @@ end_refused queue {s} {t} {u} {f} e sound k g stored spent =
         spent = λ z. some_more queue.allowance (λ x. c.spent ≤ x s.pool.shape c.n c.k)
             (λ x. c.spent + u.moves ≤ s.moves + x s.pool.shape c.n c.k + 2 * lists_size e)
             (λ x y. omega (arith, y, h.moves, v.moves)) (spent z);
-        most = omega (arith, h.most, v.same.most, low);
+        most = λ told. omega (arith, h.most, v.same.most, low);
       },
       (
         pays_more (pays_left g h.pays) (omega (arith, stored)),

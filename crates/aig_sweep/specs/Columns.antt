@@ -32,6 +32,6 @@ abbrev pub ColumnsTo : Header → Chain → Chain → Chain → QueueState → Q
     → Result Chain EmFault → Type 0
 ColumnsTo h given gates bits q p (Ok list) = GivesColumns h given gates bits q p list
 ColumnsTo h given gates bits q p (Err fault) =
-    StopsBeside (2 * edge_count h) (max bits.blocks (column_room h q.rig))
+    StopsBeside p.room (2 * edge_count h) (max bits.blocks (column_room h q.rig))
     (2 * column_room h q.rig + 1) 1 (q.blocks ++ chain_blocks q.rig bits)
     (bits_account given gates bits) q.counts p.counts q.rig p.rig fault

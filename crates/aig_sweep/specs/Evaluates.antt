@@ -62,7 +62,7 @@ abbrev pub EvaluatesTo : Header → Chain → Chain → Chain → QueueState →
     → Result Chain EmFault → Type 0
 EvaluatesTo h given gates bits q p (Ok next) = Evaluated h given gates bits q p next
 EvaluatesTo h given gates bits q p (Err fault) =
-    StopsBeside (2 * edge_count h) (bits.blocks + latch_room h q.rig)
+    StopsBeside p.room (2 * edge_count h) (bits.blocks + latch_room h q.rig)
     (2 * latch_room h q.rig + 1) 1 (q.blocks ++ chain_blocks q.rig bits)
     (bits_account given gates bits) q.counts p.counts q.rig p.rig fault
 

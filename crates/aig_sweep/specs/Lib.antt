@@ -7,6 +7,7 @@ pub mod Messages
 pub mod Nexts
 pub mod Passes
 pub mod QueueState
+pub mod Room
 pub mod Scene
 pub mod Spreads
 pub mod Sweeper

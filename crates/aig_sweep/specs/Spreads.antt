@@ -84,6 +84,6 @@ pub record Spreads (h : Header) (given gates bits : Chain) (q p : QueueState) : 
 abbrev pub SpreadsTo : Header → Chain → Chain → Chain → QueueState → QueueState
     → Result (Unit {0}) EmFault → Type 0
 SpreadsTo h given gates bits q p (Ok done) = Spreads h given gates bits q p
-SpreadsTo h given gates bits q p (Err fault) = StopsBeside (2 * edge_count h) bits.blocks 0 0
+SpreadsTo h given gates bits q p (Err fault) = StopsBeside p.room (2 * edge_count h) bits.blocks 0 0
     (q.blocks ++ chain_blocks q.rig bits) (bits_account given gates bits) q.counts p.counts
     q.rig p.rig fault

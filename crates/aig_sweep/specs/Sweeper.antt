@@ -9,6 +9,7 @@ use Rattle.em_space.specs.declared.queue.Queue.{Ghosts}
 use Rattle.em_chain.specs.Chain.{IsChain, chain_items}
 use Rattle.em_space.specs.Ledger.{Account}
 use Rattle.em_queued.specs.Queued.{Called, RunsBeside}
+use Rattle.em_queued.specs.Room.{FullBeside}
 use Rattle.aig_defs.specs.Circuit.{Circuit, IsHeader, resets}
 use Rattle.aig_defs.specs.Ranks.{IsOrder, ordered_edges}
 use Rattle.aig_defs.specs.declared.circuit.Gate.{Gate}
@@ -101,6 +102,8 @@ pub record FailsToBegin {Q : Type 0} (queue : Ghosts Q) (s t : RigState) (o : Or
       (lists_account (ordered_size o) (begin_moves o)) (queue.counts q)
       (without_frames (queue.counts q)) s t
   pub cause : Cause s t fault
+  pub full : FullBeside queue.room (ordered_size o) (begin_room o) (queue.counts q) (queue.counts q).k s
+      fault
 
 abbrev pub BeginsTo : {Q : Type 0} → Ghosts Q → RigState → RigState → Ordered → Q
     → Result (Sweeper Q) EmFault → Type 0
@@ -125,7 +128,7 @@ pub record EndsSweeper {Q : Type 0} (queue : Ghosts Q) (s t : RigState) (e : Swe
       (queue.counts e.queue).spent + t.moves
       ≤ s.moves + f s.pool.shape (queue.counts e.queue).n (queue.counts e.queue).k
       + 2 * lists_size e)
-  pub most : t.most + (queue.counts e.queue).blocks
+  pub most : IsTrue s.device.told → t.most + (queue.counts e.queue).blocks
       ≤ max (s.most + (queue.counts e.queue).blocks)
       (s.used + ending_most queue.room s.pool.shape (queue.counts e.queue))
 

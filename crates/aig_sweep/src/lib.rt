@@ -5,6 +5,7 @@
 mod gate;
 mod line;
 mod lists;
+mod printing;
 mod ranks;
 mod sending;
 mod spreading;
@@ -13,5 +14,6 @@ mod sweeper;
 
 pub use gate::{take_message, word_in};
 pub use line::{read_bit, read_end, take_end};
+pub use printing::put_bit;
 pub use stepping::{columns, evaluate};
 pub use sweeper::Sweeper;

@@ -34,6 +34,7 @@ pub struct Sweeper<Q> {
 }
 
 impl<Q: Queue> Sweeper<Q> {
+    ghost use Rattle.aig_sweep.specs.Room.{BeginsInRoom};
     ghost use Rattle.aig_sweep.specs.Sweeper.{BeginsFor, BeginsTo, EndsSweeper, EndsTo, HasSweeperFrames, IsSweeper};
 
     /// A sweeper along these edges, by a queue with no item. Each latch starts at its reset, in lane 0.
@@ -42,6 +43,10 @@ impl<Q: Queue> Sweeper<Q> {
     /// of edges and resets at most one block comes into use, and at most 4·b + 4 moves are made, if the
     /// edges have b blocks. Each fault is the rig's, and `Full` comes only if all blocks are in use. After
     /// a fault the queue's frames are back, and the blocks stay in use.
+    ///
+    /// If the device tells, nothing else is in use at first, the queue's room is at most a tree's, and the
+    /// edges have at most two blocks more than they need, then at most `circuit_room` blocks are in use at
+    /// any moment, and `Full` comes only if the device has fewer.
     pub fn new<D: Device>(
         rig: &mut Rig<'_, D>,
         ordered: Ordered,
@@ -59,6 +64,8 @@ impl<Q: Queue> Sweeper<Q> {
             ordered queue result }
         ensures meaning { IsTrue (seen D.state rig.old).device.told → IfOk result
             (BeginsFor Q.Queue (seen D.state rig.old) (seen D.state rig.new) ordered) }
+        ensures room { BeginsInRoom Q.Queue (seen D.state rig.old) (seen D.state rig.new)
+            ordered queue result }
     {
         let header = ordered.header;
         match make_lists(rig, ordered) {

@@ -1,6 +1,6 @@
 -- A new rig; a new queue beside a circuit's parts, beside its graph, and beside its edges between ranks.
 use Rattle.std.proofs.Common.{◌≡◌, ◌+◌, ◌*◌, ◌≤◌, ◌++◌, ℕ, List, [], IsTrue, ap, sym, subst, ◌∙◌, refl, arith, Result, Ok, Err, IfOk}
-use Rattle.em_record.specs.Shape.{fan_of}
+use Rattle.em_record.specs.Shape.{ShapeNumbers, fan_of}
 use Rattle.em_frames.specs.Device.{DeviceState}
 use Rattle.em_frames.specs.Pool.{PoolCounts, fresh_pool}
 use Rattle.em_space.specs.Held.{Holds}
@@ -20,20 +20,36 @@ use Rattle.aig_edges.proofs.GraphLaws.{GraphStays, graph_stays}
 use Rattle.aig_edges.proofs.OrderedLaws.{ordered_stays}
 use Rattle.aig_edges.specs.declared.graph.Ordered.{Ordered}
 use Rattle.aig_order.specs.OrderGraph.{OfDefinedCircuit}
-use Rattle.aig_sweep.specs.Sweeper.{without_frames}
+use Rattle.em_space.specs.declared.queue.Queue.{Ghosts}
+use Rattle.em_space.proofs.Queues.{shares_same, shares_then}
+use Rattle.aig_edges.specs.declared.stop.StepStop.{StepStop}
+use Rattle.aig_sweep.specs.Sweeper.{BeginsSweeper, EndsSweeper, without_frames}
+use Rattle.aig_sweep.specs.declared.sweeper.Sweeper.{Sweeper}
 use Rattle.em_devices.specs.Small.{small}
-use Rattle.aig_tests.specs.Frames.{HasFrames}
+use Rattle.aig_tests.specs.Frames.{HasFrames, usual}
+use Rattle.aig_tests.specs.Stepping.{GivesBack, StepsOn}
 
--- A rig of the smallest shape was opened.
-pub has_opened : (device : DeviceState) (blocks : ℕ) (s : RigState)
-    → Opens device (fresh_pool small) blocks s → HasFrames s
-has_opened device blocks s o = record {
+-- A rig was opened, with 36 single frames or more,
+opened_with : (shape : ShapeNumbers) (device : DeviceState) (blocks : ℕ) (s : RigState)
+    → 12 ≤ fan_of shape → Opens device (fresh_pool shape) blocks s → HasFrames s
+opened_with shape device blocks s wide o = record {
   sound = o.sound;
   build = subst CanBuild (sym o.pool_is)
-      (record { singles = omega arith; areas = omega arith; rack = refl });
-  two = subst (λ (p : PoolCounts). 2 * fan_of p.shape + 12 ≤ p.free) (sym o.pool_is) (omega arith);
+      (record { singles = omega (arith, wide); areas = omega arith; rack = refl });
+  two = subst (λ (p : PoolCounts). 2 * fan_of p.shape + 12 ≤ p.free) (sym o.pool_is)
+      (omega (arith, wide));
   areas = subst (λ (p : PoolCounts). 2 ≤ p.free_areas) (sym o.pool_is) (omega arith);
 }
+
+-- of the smallest shape,
+pub has_opened : (device : DeviceState) (blocks : ℕ) (s : RigState)
+    → Opens device (fresh_pool small) blocks s → HasFrames s
+has_opened device blocks s o = opened_with small device blocks s (omega arith) o
+
+-- or of the default one.
+pub has_usual : (device : DeviceState) (blocks : ℕ) (s : RigState)
+    → Opens device (fresh_pool usual) blocks s → HasFrames s
+has_usual device blocks s o = opened_with usual device blocks s (omega arith) o
 
 -- A frame was lent to the queue.
 pub can_lend : (s t : RigState) → HasFrames s → LendsFrame s t → CanBuild t.pool
@@ -117,3 +133,16 @@ tree_builds s t c h lent few area = record {
   areas = omega (arith, h.areas, lent.areas, area);
   rack = lent.rack ∙ h.build.rack;
 }
+
+-- A queue that was lent to an evaluator and used up by its end has all frames back.
+pub gives_back : {Q : Type 0} (queue : Ghosts Q) (s t u v : RigState) (o : Ordered) (q : Q) (e f : Sweeper Q)
+    (result : Result (Unit {0}) StepStop) → BeginsSweeper queue s t o q e → StepsOn queue t u e f result
+    → EndsSweeper queue u v f → GivesBack (queue.counts q) s v
+gives_back queue s t u v o q e f result begins steps ends =
+    let before = shares_same (queue.counts q) s.pool t.pool begins.runs.runs.frames in
+    let meant = subst (λ x. Shares (queue.counts q) (queue.counts x) s.pool t.pool) (sym begins.queue_is) before in
+    let all = shares_then _ _ _ _ _ _ (shares_then _ _ _ _ _ _ meant steps.shares) ends.frames in
+    record {
+      sound = ends.sound;
+      frames = record { shape = all.shape; free = all.free; areas = all.areas; rack = all.rack; peak = all.peak };
+    }

@@ -32,15 +32,22 @@ pub(crate) enum Part {
     Failing(By, Pace),
 }
 
+/// A shelf that gives a text.
+pub(crate) fn shelf_with(alloc: Global, slot: Slot, text: &[u8]) -> Result<MemShelf, Fail>
+    ensures ready { IfOk result (λ shelf. ((stand_of shelf).slot slot).ready ≡ true) }
+{
+    let mut shelf = MemShelf::new(alloc, PIECE, &[])?;
+    shelf.add("text", text)?;
+    shelf.open(slot, "text")?;
+    Ok(shelf)
+}
+
 /// A shelf that gives the text that a part of a row spells.
 pub(crate) fn shelf_of(alloc: Global, slot: Slot, escaped: &str) -> Result<MemShelf, Fail>
     ensures ready { IfOk result (λ shelf. ((stand_of shelf).slot slot).ready ≡ true) }
 {
     let text = spelled(alloc, escaped)?;
-    let mut shelf = MemShelf::new(alloc, PIECE, &[])?;
-    shelf.add("text", &text)?;
-    shelf.open(slot, "text")?;
-    Ok(shelf)
+    shelf_with(alloc, slot, &text)
 }
 
 /// Prints the chains of a circuit, or its edges between ranks.

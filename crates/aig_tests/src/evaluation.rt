@@ -20,7 +20,7 @@ use em_pqueue::ExtQueue;
 use em_space::{Queue, Rig};
 
 /// No stimulus here has as many lines.
-const LINES: u64 = 200;
+const LINES: u64 = 2000;
 
 /// Which queue carries the messages.
 #[derive(Clone, Copy)]
@@ -36,14 +36,17 @@ pub(crate) enum By {
 pub(crate) enum Pace {
     /// One: a step.
     Steps,
+    /// One: a step by messages, also of a circuit that fits into memory.
+    Messages,
     /// Up to 64: a group. The circuit has no latch.
     Groups,
 }
 
-/// Steps until nothing is left of the stimulus.
+/// Steps until nothing is left of the stimulus. A circuit of more ranks than `limit` goes by messages.
 fn step_all<D: Device, Q: Queue, H: Shelf, W: Sink>(
     rig: &mut Rig<'_, D>,
     evaluator: &mut Evaluator<Q>,
+    limit: u64,
     feed: &mut Feed,
     shelf: &mut H,
     printer: &mut Printer,
@@ -55,7 +58,7 @@ fn step_all<D: Device, Q: Queue, H: Shelf, W: Sink>(
         evaluator.old.sweeper evaluator.new.sweeper result }
 {
     for _ in 0..LINES {
-        match evaluator.step(rig, feed, shelf, printer, sink) {
+        match evaluator.step_within(rig, feed, shelf, printer, sink, limit) {
             Ok(StepEnd::Printed) => {}
             Ok(StepEnd::End) => return Ok(()),
             Err(stop) => return Err(stop),
@@ -64,12 +67,13 @@ fn step_all<D: Device, Q: Queue, H: Shelf, W: Sink>(
     Ok(())
 }
 
-/// Makes an evaluator, steps until nothing is left of the stimulus, and ends it. All frames of the
-/// queue are back.
+/// Makes an evaluator, steps until nothing is left of the stimulus, and ends it. A circuit of more ranks than
+/// `limit` goes by messages. All frames of the queue are back.
 fn evaluate_steps<D: Device, Q: Queue, H: Shelf, W: Sink>(
     rig: &mut Rig<'_, D>,
     ordered: Ordered,
     queue: Q,
+    limit: u64,
     feed: &mut Feed,
     shelf: &mut H,
     printer: &mut Printer,
@@ -80,7 +84,7 @@ fn evaluate_steps<D: Device, Q: Queue, H: Shelf, W: Sink>(
     ensures { GivesBack (Q.counts queue) (seen D.state rig.old) (seen D.state rig.new) }
 {
     let mut evaluator = Evaluator::new(rig, ordered, queue)?;
-    match step_all(rig, &mut evaluator, feed, shelf, printer, sink) {
+    match step_all(rig, &mut evaluator, limit, feed, shelf, printer, sink) {
         Ok(()) => {
             evaluator.end(rig)?;
             Ok(())
@@ -109,7 +113,8 @@ fn evaluate<D: Device, Q: Queue, H: Shelf, W: Sink>(
     ensures { GivesBack (Q.counts queue) (seen D.state rig.old) (seen D.state rig.new) }
 {
     match pace {
-        Pace::Steps => evaluate_steps(rig, ordered, queue, feed, shelf, printer, sink),
+        Pace::Steps => evaluate_steps(rig, ordered, queue, u64::MAX, feed, shelf, printer, sink),
+        Pace::Messages => evaluate_steps(rig, ordered, queue, 0, feed, shelf, printer, sink),
         Pace::Groups => evaluate_groups(rig, ordered, queue, feed, shelf, printer, sink),
     }
 }

@@ -1,16 +1,19 @@
 //! What an evaluation prints: its lines and how it ended.
+ghost use Rattle.std.specs.Prelude.{◌≡◌, true};
+ghost use Rattle.em_io.specs.declared.shelf.Slot.TheVariants.{First, Second};
+ghost use Rattle.em_space.specs.Seen.{seen};
+ghost use Rattle.aig_tests.specs.Frames.{HasFrames, LeavesFrames};
+
 use crate::circuit::{BLOCKS, PIECE, shelf_of};
 use crate::evaluation::{By, Pace, evaluate_texts};
 use crate::stop::print_stop;
 use aig_edges::StepStop;
 use em_devices::{ended, opened};
-use em_frames::MemDevice;
-use em_gen::{GenKind, GenShelf, Tally};
-use em_io::{MemShelf, MemSink, Printer, Shelf, Slot};
+use em_frames::{Device, MemDevice};
+use em_gen::Tally;
+use em_io::{MemSink, Printer, Shelf, Slot};
+use em_space::Rig;
 use std::test::Fail;
-
-/// The gates of the made circuit.
-const GATES: u64 = 2000;
 
 /// Prints which queue an evaluation has, and its pace.
 pub(crate) fn print_title(rt: &HostRuntime, title: &str, by: By, pace: Pace) -> Result<(), Fail> {
@@ -20,6 +23,7 @@ pub(crate) fn print_title(rt: &HostRuntime, title: &str, by: By, pace: Pace) -> 
     }
     match pace {
         Pace::Steps => println!(rt; "")?,
+        Pace::Messages => println!(rt; ", by messages alone")?,
         Pace::Groups => println!(rt; ", in groups")?,
     }
     Ok(())
@@ -88,7 +92,8 @@ pub(crate) fn lines_in(sink: &MemSink) -> &[u8] {
     }
 }
 
-/// Prints the lines of a circuit for a stimulus, by a queue of this kind and at this pace, and how it ended.
+/// Prints the lines of a circuit for a stimulus, by a queue of this kind and at this pace, and how it ended. Steps
+/// are made by messages alone too: that must give the same.
 pub(crate) fn print_lines(
     rt: &HostRuntime,
     title: &str,
@@ -100,33 +105,42 @@ pub(crate) fn print_lines(
     print_title(rt, title, by, pace)?;
     let (sink, ending) = evaluated(rt, circuit, stimulus, by, pace, &[])?;
     print_bytes(rt, lines_in(&sink))?;
-    print_ending(rt, ending)
+    print_ending(rt, ending)?;
+    if let Pace::Steps = pace {
+        let (other, end) = evaluated(rt, circuit, stimulus, by, Pace::Messages, &[])?;
+        if lines_in(&other) != lines_in(&sink) || end != ending {
+            println!(rt; "by messages alone: something else")?;
+        }
+    }
+    Ok(())
 }
 
-/// Prints the numbers of the lines of a made circuit for its made stimulus, by a queue of this kind, and how
-/// it ended.
-pub(crate) fn print_made(rt: &HostRuntime, by: By) -> Result<(), Fail> {
-    let alloc = rt.alloc();
-    print_title(rt, "2000 made gates", by, Pace::Steps)?;
-    let mut circuit = GenShelf::new(GenKind::Eval, 1, GATES);
-    circuit.open(Slot::First, "")?;
-    let mut stimulus = GenShelf::new(GenKind::Eval, 1, GATES);
-    stimulus.open(Slot::Second, "")?;
+/// Evaluates by a queue of this kind and at this pace: the numbers of the lines, and how it ended.
+pub(crate) fn tallied<D: Device, H: Shelf>(
+    rig: &mut Rig<'_, D>,
+    circuit: &mut H,
+    stimulus: &mut H,
+    by: By,
+    pace: Pace,
+) -> Result<(Tally, Result<(), StepStop>), Fail>
+    requires circuit { ((H.stand circuit.old).slot First).ready ≡ true }
+    requires stimulus { ((H.stand stimulus.old).slot Second).ready ≡ true }
+    requires has { HasFrames (seen D.state rig.old) }
+    ensures leaves { LeavesFrames (seen D.state rig.old) (seen D.state rig.new) }
+{
     let mut tally = Tally::new();
     let mut printer = Printer::new();
-    let mut device = MemDevice::new(alloc, &[])?;
-    let mut rig = opened(alloc, BLOCKS, &mut device)?;
-    let ending = evaluate_texts(
-        &mut rig,
-        &mut circuit,
-        &mut stimulus,
-        by,
-        Pace::Steps,
-        &mut printer,
-        &mut tally,
-    );
-    let _cost = ended(rig);
+    let ending = evaluate_texts(rig, circuit, stimulus, by, pace, &mut printer, &mut tally);
     printer.send_all(&mut tally)?;
+    Ok((tally, ending))
+}
+
+/// Prints the numbers of the lines of an evaluation, and how it ended.
+pub(crate) fn print_numbers(
+    rt: &HostRuntime,
+    tally: &Tally,
+    ending: Result<(), StepStop>,
+) -> Result<(), Fail> {
     let (lines, bytes, sum) = (tally.lines(), tally.bytes(), tally.sum());
     println!(rt; "lines {lines} bytes {bytes} sum {sum}")?;
     print_ending(rt, ending)

@@ -11,13 +11,16 @@ mod evaluation;
 mod failing;
 mod groups;
 mod lines;
+mod made;
 mod ordering;
+mod room;
 mod row;
 mod stop;
 
 use crate::circuit::{Part, print_row};
 use crate::evaluation::{By, Pace};
-use crate::lines::print_made;
+use crate::made::{print_both_ways, print_made};
+use crate::room::print_in_room;
 use std::fs;
 use std::test::Fail;
 
@@ -64,6 +67,10 @@ fn main(rt: HostRuntime) -> Result<(), Fail> {
     print_table(&rt, "Evaluations in groups", "evaluations", &groups)?;
     print_table(&rt, "Many lines", "many_lines", &groups)?;
     print_table(&rt, "Failing calls of the device", "failing", &failing)?;
-    print_made(&rt, By::List)?;
-    print_made(&rt, By::Tree)
+    print_made(&rt, By::List, Pace::Steps)?;
+    print_made(&rt, By::Tree, Pace::Steps)?;
+    print_made(&rt, By::Tree, Pace::Messages)?;
+    print_both_ways(&rt)?;
+    print_in_room(&rt, Pace::Steps)?;
+    print_in_room(&rt, Pace::Messages)
 }

@@ -3,7 +3,8 @@ use Rattle.std.proofs.Common.{◌≡◌, true, false, Bool, List, ℕ, [], ◌�
 use Rattle.std.specs.Prelude.{codes}
 use Rattle.em_record.specs.declared.record.Record.{Record}
 use Rattle.aig_words.specs.Lines.{column, line_bits, line_words, no_rows, put_line, rows_records, tiles}
-use Rattle.aig_words.specs.Words.{bits_in, lane, said, says, word_of}
+use Rattle.aig_sweep.specs.Bits.{said}
+use Rattle.aig_words.specs.Words.{bits_in, lane, says, word_of}
 use Rattle.aig_wide.specs.Gathers.{words_left}
 use Rattle.aig_wide.specs.Puts.{line_text, lines_text}
 use Rattle.aig_wide.specs.Wide.{wide_columns}

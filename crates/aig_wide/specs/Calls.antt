@@ -23,7 +23,7 @@ pub record Calls (calls : ℕ) (q p : QueueState) : Type 0 where
 
 -- The last one was refused.
 pub record Refused (calls : ℕ) (q p : QueueState) (fault : EmFault) : Type 0 where
-  pub stops : StopsBeside calls 0 0 0 q.blocks no_account q.counts p.counts q.rig p.rig fault
+  pub stops : StopsBeside p.room calls 0 0 0 q.blocks no_account q.counts p.counts q.rig p.rig fault
 
 -- The first item left, and has this word.
 pub record LeavesFirst (old new : List Record) (word : ℕ) : Type 0 where

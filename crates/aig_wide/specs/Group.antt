@@ -152,6 +152,12 @@ AnswersGroup queue took c order old new (Err stop.Write) =
 AnswersGroup queue took c order old new (Err (stop.Em fault)) =
     KeepsFront took old.taken (old.pending ++ next_lines c old.text) new.taken new.pending
 
+-- from 1 to 64 lines were printed, if any were
+abbrev pub IsGroupSize : Result GroupEnd StepStop → Type 0
+IsGroupSize (Ok (Printed count)) = (0 < count) × (count ≤ 64)
+IsGroupSize (Ok End) = Unit {0}
+IsGroupSize (Err e) = Unit {0}
+
 -- P, if lines were printed
 abbrev pub IfPrintedGroup : Result GroupEnd StepStop → Type 0 → Type 0
 IfPrintedGroup (Ok (Printed count)) P = P

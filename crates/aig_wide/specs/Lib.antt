@@ -8,6 +8,7 @@ pub mod GroupLines
 pub mod Lines
 pub mod Prints
 pub mod Puts
+pub mod Room
 pub mod Sweeps
 pub mod Turns
 pub mod Wide

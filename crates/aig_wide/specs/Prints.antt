@@ -56,7 +56,7 @@ GroupedTo h given gates q p (Err (stop.Fault kind place)) = GroupRuns h given ga
 GroupedTo h given gates q p (Err stop.Read) = GroupRuns h given gates q p
 GroupedTo h given gates q p (Err stop.Write) = GroupRuns h given gates q p
 GroupedTo h given gates q p (Err (stop.Em fault)) =
-    StopsBeside (group_calls h) (max (input_room h q.rig) (column_room h q.rig)) 0 1 q.blocks
+    StopsBeside p.room (group_calls h) (max (input_room h q.rig) (column_room h q.rig)) 0 1 q.blocks
     (owing 0 (sweep_moves h given gates q.rig)) q.counts p.counts q.rig p.rig fault
 
 -- P, if nothing was left of the stimulus

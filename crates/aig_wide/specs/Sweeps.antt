@@ -61,7 +61,7 @@ pub record Swept (h : Header) (lines : ℕ) (given gates : Chain) (q p : QueueSt
 abbrev pub SweptTo : {T : Type 0} → Header → ℕ → Chain → Chain → QueueState → QueueState → Result T EmFault → Type 0
 SweptTo h lines given gates q p (Ok x) = Swept h lines given gates q p
 SweptTo h lines given gates q p (Err fault) =
-    StopsBeside (sweep_calls h q.counts.len) (max (input_room h q.rig) (column_room h q.rig)) 0 1 q.blocks
+    StopsBeside p.room (sweep_calls h q.counts.len) (max (input_room h q.rig) (column_room h q.rig)) 0 1 q.blocks
     (owing 0 (sweep_moves h given gates q.rig)) q.counts p.counts q.rig p.rig fault
 
 -- The edges are those of a circuit whose gates have this order.

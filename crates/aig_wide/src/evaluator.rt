@@ -29,10 +29,12 @@ pub struct WideEvaluator<Q> {
 }
 
 impl<Q: Queue> WideEvaluator<Q> {
+    ghost use Rattle.aig_sweep.specs.Room.{BeginsInRoom};
     ghost use Rattle.aig_sweep.specs.Scene.{ActsAfterByte, Keeps, StepCause, scene};
     ghost use Rattle.aig_sweep.specs.Sweeper.{BeginsFor, EndsSweeper, EndsTo, Evaluates, HasSweeperFrames, IsSweeper};
     ghost use Rattle.aig_wide.specs.Begins.{BeginsWideTo};
-    ghost use Rattle.aig_wide.specs.Group.{AnswersGroup, CanGroup, FollowsGroup, GroupCosts, HasNoLine, IfPrintedGroup, LeavesOutput};
+    ghost use Rattle.aig_wide.specs.Group.{AnswersGroup, CanGroup, FollowsGroup, GroupCosts, HasNoLine, IfPrintedGroup, IsGroupSize, LeavesOutput};
+    ghost use Rattle.aig_wide.specs.Room.{GroupsInRoom};
 
     /// An evaluator along these edges, by a queue with no item. There is no latch.
     ///
@@ -40,6 +42,10 @@ impl<Q: Queue> WideEvaluator<Q> {
     /// of edges at most one block comes into use, and at most 4·b + 4 moves are made, if the edges have b
     /// blocks. Each fault is the rig's, and `Full` comes only if all blocks are in use. After a fault the
     /// queue's frames are back, and the blocks stay in use.
+    ///
+    /// If the device tells, nothing else is in use at first, the queue's room is at most a tree's, and the
+    /// edges have at most two blocks more than they need, then at most `circuit_room` blocks are in use at
+    /// any moment, and `Full` comes only if the device has fewer.
     pub fn new<D: Device>(
         rig: &mut Rig<'_, D>,
         ordered: Ordered,
@@ -59,6 +65,8 @@ impl<Q: Queue> WideEvaluator<Q> {
         ensures meaning { IsTrue (seen D.state rig.old).device.told → IfOk result
             (λ e. BeginsFor Q.Queue (seen D.state rig.old) (seen D.state rig.new) ordered
             e.sweeper) }
+        ensures room { BeginsInRoom Q.Queue (seen D.state rig.old) (seen D.state rig.new)
+            ordered queue result }
     {
         let sweeper = Sweeper::new(rig, ordered, queue)?;
         Ok(WideEvaluator { sweeper })
@@ -79,6 +87,11 @@ impl<Q: Queue> WideEvaluator<Q> {
     /// 64 columns, however many lines there are; its calls in all, with these, are below 2^100. Beside its
     /// moves at most `group_moves` are made. Nothing is called or moved before a byte of the stimulus was
     /// taken.
+    ///
+    /// If the device tells and the queue states a room, `Full` comes only if that room and `group_room` are
+    /// more than all blocks that were free or the evaluator's. An evaluator that was made as above, of a
+    /// queue that was never called, keeps to `circuit_room` if nothing else is in use, and `Full` comes only
+    /// if the device has fewer blocks.
     pub fn group<D: Device, H: Shelf, W: Sink>(
         &mut self,
         rig: &mut Rig<'_, D>,
@@ -95,6 +108,7 @@ impl<Q: Queue> WideEvaluator<Q> {
         ensures is { OnOk result (IsSweeper Q.Queue (seen D.state rig.new) self.new.sweeper) }
         ensures feed { Advances H.tells (source H.Shelf feed.old shelf.old)
             (source H.Shelf feed.new shelf.new) }
+        ensures size { IsGroupSize result }
         ensures further { IfPrintedGroup result (feed.old.place < feed.new.place) }
         ensures idle { IfErr result (λ stopped. ActsAfterByte (seen D.state rig.old)
             (seen D.state rig.new) self.old.sweeper self.new.sweeper feed.old.place
@@ -117,6 +131,8 @@ impl<Q: Queue> WideEvaluator<Q> {
         ensures goes_on { W.faults sink.old ≤ W.faults sink.new }
         ensures cause { IfErr result (StepCause (H.faults shelf.old) (H.faults shelf.new)
             (W.faults sink.old) (W.faults sink.new) (seen D.state rig.old) (seen D.state rig.new)) }
+        ensures room { GroupsInRoom Q.Queue (seen D.state rig.old) (seen D.state rig.new)
+            self.old.sweeper self.new.sweeper result }
     {
         run_group(
             rig,

@@ -9,7 +9,7 @@ ghost use Rattle.aig_text.specs.Reads.{Advances};
 ghost use Rattle.aig_text.specs.Source.{CanRead, source};
 ghost use Rattle.aig_sweep.specs.QueueState.{queue_state};
 ghost use Rattle.aig_wide.specs.Calls.{CallsAfterByte, Rests, UnlessRefused};
-ghost use Rattle.aig_wide.specs.Group.{FollowsGroup, HasNoLine, IfPrintedGroup, LeavesOutput};
+ghost use Rattle.aig_wide.specs.Group.{FollowsGroup, HasNoLine, IfPrintedGroup, IsGroupSize, LeavesOutput};
 ghost use Rattle.aig_wide.specs.Prints.{CanRun, GroupCause, GroupedTo, IfEnded, PrintsTo};
 ghost use Rattle.aig_wide.specs.Puts.{printed};
 ghost use Rattle.aig_wide.specs.Sweeps.{HasEdges};
@@ -60,6 +60,7 @@ pub(crate) fn run_group<D: Device, H: Shelf, Q: Queue, W: Sink>(
         (queue_state Q.Queue queue.new (seen D.state rig.new)) result }
     ensures cause { GroupCause (H.faults shelf.old) (H.faults shelf.new) (W.faults sink.old)
         (W.faults sink.new) result }
+    ensures size { IsGroupSize result }
     ensures further { IfPrintedGroup result (feed.old.place < feed.new.place) }
     ensures idle { IfErr result (λ stopped. CallsAfterByte (seen D.state rig.old)
         (seen D.state rig.new) queue.old queue.new feed.old.place feed.new.place) }

@@ -1,10 +1,9 @@
 //! The words of a group's steps leave the queue in their order, and are printed as lines.
 
-ghost use Rattle.std.specs.Prelude.{◌≡◌, ◌<◌, ◌≤◌, ◌+◌, ◌-◌, ◌*◌, ◌^◌, ◌++◌, ◌∷◌, [], min, take, OnOk};
+ghost use Rattle.std.specs.Prelude.{◌≡◌, ◌<◌, ◌≤◌, ◌+◌, ◌-◌, ◌*◌, ◌^◌, ◌++◌, min, take, OnOk};
 ghost use Rattle.em_io.specs.Sink.{Sent, SentPart};
 ghost use Rattle.em_record.specs.Count.{HasCause};
 ghost use Rattle.em_space.specs.Seen.{seen};
-ghost use Rattle.aig_defs.specs.Stimulus.{bit_byte};
 ghost use Rattle.aig_sweep.specs.QueueState.{queue_state};
 ghost use Rattle.aig_words.specs.Lines.{tiles};
 ghost use Rattle.aig_wide.specs.Calls.{CanCall, UnlessRefused};
@@ -15,25 +14,11 @@ ghost use Rattle.aig_wide.specs.Turns.{words_in};
 use crate::gathering::{size_of, tiles_of};
 use crate::turning::pop_word;
 use aig_edges::StepStop;
+use aig_sweep::put_bit;
 use em_frames::Device;
 use em_io::{Printer, Sink};
 use em_record::Failed;
 use em_space::{Queue, Rig};
-
-/// Prints a bit as a byte.
-fn put_bit<W: Sink>(printer: &mut Printer, sink: &mut W, bit: bool) -> Result<(), Failed>
-    ensures sent { OnOk result (Sent W.took (W.state sink.old) (printer.old ++ bit_byte bit ∷ [])
-        (W.state sink.new) printer.new) }
-    ensures part { SentPart W.took (W.state sink.old) (printer.old ++ bit_byte bit ∷ [])
-        (W.state sink.new) }
-    ensures cause { HasCause (W.faults sink.old) (W.faults sink.new) result }
-{
-    if bit {
-        printer.add(sink, b"1")
-    } else {
-        printer.add(sink, b"0")
-    }
-}
 
 /// Prints the first `size` bits of a word.
 fn put_bits<W: Sink>(

@@ -108,9 +108,51 @@ pub(crate) fn free_both<D: Device>(rig: &mut Rig<'_, D>) -> Result<u64, EmFault>
     Ok(third.saturating_mul(10).saturating_add(fourth))
 }
 
-/// The device begins by its call 0. A first store, or a first release, is its call 1; the one block that is
-/// freed is read by its call 2. A freed block comes again before new ones, the last one first. The third
-/// block of two is refused.
+/// Takes this many blocks, one after another, and frees them, the last one first.
+#[tactic(auto, using(em_space::proofs::Held::in_use_kept, em_space::proofs::Apart::goes_made, em_space::proofs::Steps::goes_then))]
+fn nest<D: Device>(rig: &mut Rig<'_, D>, count: u64) -> Result<(), EmFault>
+    requires sound { Sound (seen D.state rig.old) }
+    requires free { 0 < (seen D.state rig.old).pool.free }
+    ensures goes { Goes [] (seen D.state rig.old) (seen D.state rig.new) }
+{
+    if count == 0 {
+        return Ok(());
+    }
+    let block = rig.alloc()?;
+    nest(rig, count - 1)?;
+    rig.release(block)
+}
+
+/// Takes this many blocks.
+fn take<D: Device>(rig: &mut Rig<'_, D>, count: u64) -> Result<(), EmFault>
+    requires sound { Sound (seen D.state rig.old) }
+    requires free { 0 < (seen D.state rig.old).pool.free }
+    ensures sound { Sound (seen D.state rig.new) }
+    ensures frames { SameFrames (seen D.state rig.old).pool (seen D.state rig.new).pool }
+{
+    for _ in 0..count {
+        rig.alloc()?;
+    }
+    Ok(())
+}
+
+/// Takes as many blocks as this and frees them, the last one first, and takes 512, which are those whose
+/// numbers are kept. Then it takes two more, whose numbers are the answer: the first one times 1000, and
+/// the second.
+pub(crate) fn free_many<D: Device>(rig: &mut Rig<'_, D>, count: u64) -> Result<u64, EmFault>
+    requires sound { Sound (seen D.state rig.old) }
+    requires free { 0 < (seen D.state rig.old).pool.free }
+    ensures sound { Sound (seen D.state rig.new) }
+    ensures frames { SameFrames (seen D.state rig.old).pool (seen D.state rig.new).pool }
+{
+    nest(rig, count)?;
+    take(rig, 512)?;
+    let (third, fourth) = take_two(rig)?;
+    Ok(third.saturating_mul(1000).saturating_add(fourth))
+}
+
+/// The device begins by its call 0. A first store is its call 1, and a freed block is used again with no
+/// call: the last one first, and before new ones. The third block of two is refused.
 #[test]
 fn blocks_are_kept_and_come_again(rt: HostRuntime) -> Result<(), Fail> {
     let failed = Err(EmFault::DeviceFault);
@@ -118,17 +160,38 @@ fn blocks_are_kept_and_come_again(rt: HostRuntime) -> Result<(), Fail> {
     for (script, blocks, failing, answer, cost, faults) in [
         (Script::TwoBlocks, 3, 9, Ok(1), (2, 2, 3, 1), 0),
         (Script::TwoBlocks, 3, 1, failed, (2, 2, 1, 1), 1),
-        (Script::FreeFirst, 3, 9, Ok(2), (3, 3, 2, 1), 0),
-        (Script::FreeFirst, 3, 1, failed, (2, 2, 1, 1), 1),
-        (Script::FreeFirst, 3, 2, failed, (1, 2, 2, 1), 1),
-        (Script::FreeFirst, 2, 9, full, (2, 2, 2, 1), 0),
-        (Script::FreeBoth, 3, 9, Ok(10), (2, 2, 4, 1), 0),
+        (Script::FreeFirst, 3, 1, Ok(2), (3, 3, 0, 0), 0),
+        (Script::FreeFirst, 2, 1, full, (2, 2, 0, 0), 0),
+        (Script::FreeBoth, 3, 1, Ok(10), (2, 2, 0, 0), 0),
     ] {
         let ended = run_kept(rt.alloc(), failing, blocks, script)?;
         assert_eq!(rt;
             ended,
             ((answer, cost), cost.2, faults),
             "{script:?} {failing}"
+        );
+    }
+    Ok(())
+}
+
+/// Of 514 blocks that are freed, 512 numbers are kept. Block 1 and then block 0 are linked by one store each,
+/// the calls 1 and 2, and come again by one load each, the calls 3 and 4. Of 513, block 0 is linked alone.
+#[test]
+fn numbers_past_512_are_linked(rt: HostRuntime) -> Result<(), Fail> {
+    let failed = Err(EmFault::DeviceFault);
+    for (count, failing, answer, cost, faults) in [
+        (514, 9, Ok(1), (514, 514, 4, 1), 0),
+        (514, 1, failed, (2, 514, 1, 1), 1),
+        (514, 2, failed, (1, 514, 2, 1), 1),
+        (514, 3, failed, (512, 514, 3, 1), 1),
+        (514, 4, failed, (513, 514, 4, 1), 1),
+        (513, 9, Ok(513), (514, 514, 2, 1), 0),
+    ] {
+        let ended = run_kept(rt.alloc(), failing, 514, Script::FreeMany(count))?;
+        assert_eq!(rt;
+            ended,
+            ((answer, cost), cost.2, faults),
+            "{count} {failing}"
         );
     }
     Ok(())
@@ -174,37 +237,34 @@ fn a_rig_lends_areas_and_the_rack(rt: HostRuntime) -> Result<(), Fail> {
     Ok(())
 }
 
-/// What a device gives in place of the header of the one freed block: other words, another kind, a
-/// number of records, a word d, links though there is no other freed block, and the right header.
+/// What a device gives in place of the header of the one linked block, after 513 were freed: other words,
+/// another kind, a number of records, a word d, links though there is no other linked block, and the right header.
 ///
-/// Then two blocks are freed, block 1 after block 0. With no link, or one past the four blocks, its
-/// header is refused. With a link to block 0 it comes, and then the same header is refused for
-/// block 0, which is the last one.
+/// Then 514 are freed, and block 0 leads to block 1. With no link, or one past the 514 blocks, its header is
+/// refused. With a link to block 1 it comes, and then the same header is refused for block 1, which is the
+/// last one.
 #[test]
 fn a_damaged_header_is_refused(rt: HostRuntime) -> Result<(), Fail> {
     let first = Err(EmFault::Damaged { block: 0 });
     let second = Err(EmFault::Damaged { block: 1 });
     let most = u64::MAX;
-    for (script, header, answer, cost) in [
-        (
-            Script::FreeFirst,
-            words(most, most, most, most),
-            first,
-            (1, 2, 2, 1),
-        ),
-        (Script::FreeFirst, words(0, 0, 1, 0), first, (1, 2, 2, 1)),
-        (Script::FreeFirst, words(0, 1, 3, 0), first, (1, 2, 2, 1)),
-        (Script::FreeFirst, words(0, 0, 3, 1), first, (1, 2, 2, 1)),
-        (Script::FreeFirst, words(1, 0, 3, 0), first, (1, 2, 2, 1)),
-        (Script::FreeFirst, words(3, 0, 3, 0), first, (1, 2, 2, 1)),
-        (Script::FreeFirst, words(0, 0, 3, 0), Ok(2), (3, 3, 2, 1)),
-        (Script::FreeBoth, words(0, 0, 3, 0), second, (0, 2, 3, 1)),
-        (Script::FreeBoth, words(5, 0, 3, 0), second, (0, 2, 3, 1)),
-        (Script::FreeBoth, words(1, 0, 3, 0), first, (1, 2, 4, 1)),
+    let one = (512, 513, 2, 1);
+    let two = (512, 514, 3, 1);
+    for (count, header, answer, cost) in [
+        (513, words(most, most, most, most), first, one),
+        (513, words(0, 0, 1, 0), first, one),
+        (513, words(0, 1, 3, 0), first, one),
+        (513, words(0, 0, 3, 1), first, one),
+        (513, words(1, 0, 3, 0), first, one),
+        (513, words(3, 0, 3, 0), first, one),
+        (513, words(0, 0, 3, 0), Ok(513), (514, 514, 2, 1)),
+        (514, words(0, 0, 3, 0), first, two),
+        (514, words(515, 0, 3, 0), first, two),
+        (514, words(2, 0, 3, 0), second, (513, 514, 4, 1)),
     ] {
         let mut device = Untold::giving(header);
-        let ended = run(rt.alloc(), &mut device, 4, script)?;
-        assert_eq!(rt; ended, (answer, cost), "{script:?} {header:?}");
+        let ended = run(rt.alloc(), &mut device, 514, Script::FreeMany(count))?;
+        assert_eq!(rt; ended, (answer, cost), "{count} {header:?}");
     }
     Ok(())
 }

@@ -82,3 +82,27 @@ fn an_empty_heap_is_refilled_in_its_area(rt: HostRuntime) -> Result<(), Fail> {
     pool.end();
     Ok(())
 }
+
+/// Of three records that a refill brought one is popped, and two are pushed. The lesser half are one that was
+/// brought and one that was pushed, and so are the others, which stand after the heap in order.
+#[test]
+fn a_refilled_heap_gives_its_upper_half(rt: HostRuntime) -> Result<(), Fail> {
+    let mut pool = Grant::new(rt.alloc()).pool(Shape::new(128, 64)?)?;
+    let mut heap = Heap::new(pool.lend_area());
+    write_three(heap.empty_area());
+    heap.refill(3);
+    assert_eq!(rt; heap.pop(), Some(words(0, 0, 0, 6)));
+    heap.push(words(2, 0, 0, 0));
+    heap.push(words(0, 0, 0, 5));
+    let count = heap.upper_half();
+    let behind = heap.behind(count);
+    let ends = (behind.first().copied(), behind.last().copied());
+    let wanted = (Some(words(1, 0, 0, 0)), Some(words(2, 0, 0, 0)));
+    assert_eq!(rt; (count, ends), (2, wanted));
+    let popped = [heap.pop(), heap.pop(), heap.pop()];
+    let kept = [Some(words(0, 0, 0, 5)), Some(words(0, 0, 0, 6)), None];
+    assert_eq!(rt; popped, kept);
+    pool.give_area(heap.into_area());
+    pool.end();
+    Ok(())
+}

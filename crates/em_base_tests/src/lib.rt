@@ -4,6 +4,8 @@
 #[cfg(test)]
 mod answers;
 #[cfg(test)]
+mod bits;
+#[cfg(test)]
 mod blocks;
 #[cfg(test)]
 mod cells;

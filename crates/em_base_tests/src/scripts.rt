@@ -4,7 +4,7 @@ ghost use Rattle.em_frames.specs.Pool.{SameFrames};
 ghost use Rattle.em_space.specs.Rig.{Sound};
 ghost use Rattle.em_space.specs.Seen.{seen};
 
-use crate::blocks::{free_both, free_first, two_blocks};
+use crate::blocks::{free_both, free_first, free_many, two_blocks};
 use crate::cells::{keep_beside, read_renewed, read_second, wait_again};
 use em_devices::{Cost, ended, opened};
 use em_frames::{Device, MemDevice};
@@ -18,6 +18,8 @@ pub(crate) enum Script {
     TwoBlocks,
     FreeFirst,
     FreeBoth,
+    /// `free_many` of this many blocks.
+    FreeMany(u64),
     /// `beside` as often as this.
     Beside(u64),
     ReadSecond,
@@ -37,6 +39,7 @@ fn follow<D: Device>(rig: &mut Rig<'_, D>, script: Script) -> Result<u64, EmFaul
         Script::TwoBlocks => two_blocks(rig),
         Script::FreeFirst => free_first(rig),
         Script::FreeBoth => free_both(rig),
+        Script::FreeMany(count) => free_many(rig, count),
         Script::Beside(times) => keep_beside(rig, times),
         Script::ReadSecond => read_second(rig),
         Script::WaitAgain => wait_again(rig),

@@ -1,5 +1,5 @@
 -- A number that waits and is then stored: the effect is that of a cell that was made at once.
-use Rattle.std.proofs.Common.{ℕ, List, sym, ◌∙◌, ap, subst}
+use Rattle.std.proofs.Common.{ℕ, ◌+◌, ◌≤◌, List, arith, sym, ◌∙◌, ap, subst}
 use Rattle.em_record.specs.Count.{next_count}
 use Rattle.em_space.specs.Rig.{RigState, MovesToAlloc}
 use Rattle.em_space.specs.Held.{NoneInUse}
@@ -15,5 +15,5 @@ makes_in_steps s t u n p cell a m o f = record {
   fresh = λ y. subst (λ (ks : List ℕ). NoneInUse s ks) (sym f.blocks) (a.fresh y);
   used = o.blocks.used ∙ a.used;
   none_freed = λ h. o.moves ∙ ap (λ (k : ℕ). next_count k) (m.none_freed h);
-  some_freed = λ h. o.moves ∙ ap (λ (k : ℕ). next_count k) (m.some_freed h);
+  some_freed = λ h. let e = m.some_freed h in omega (arith, o.moves);
 }

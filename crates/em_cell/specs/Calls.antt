@@ -16,13 +16,13 @@ pub record MovesOne (old new : RigState) : Type 0 where
   pub moves : new.moves ≡ next_count old.moves
 
 -- A cell of this number was made in a block that wasn't in use. The block is stored by one move,
--- and one more reads it where it was in use before.
+-- and at most one more reads it where it was in use before.
 pub record Makes (old new : RigState) (number : ℕ) (cell : Cell) : Type 0 where
   pub keeps : Keeps new number cell
   pub fresh : IsTrue old.device.told → NoneInUse old (blocks_of cell)
   pub used : new.used ≡ old.used + 1
   pub none_freed : old.head ≡ 0 → new.moves ≡ next_count old.moves
-  pub some_freed : 0 < old.head → new.moves ≡ next_count (next_count old.moves)
+  pub some_freed : 0 < old.head → new.moves ≤ old.moves + 2
 
 -- No cell was made. At most one block was taken, and none where no call of the device failed.
 pub record MakesNone (old new : RigState) (fault : EmFault) : Type 0 where

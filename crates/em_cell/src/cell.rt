@@ -62,7 +62,7 @@ pub struct Cell {
 }
 
 impl Cell {
-    /// A cell of this number in a new block: one move, and one more where the block was in use
+    /// A cell of this number in a new block: one move, and at most one more where the block was in use
     /// before. After a fault the block may be in use, and no cell holds it.
     ///
     /// `Full` comes exactly if all blocks are in use, `Damaged` where the first of the freed
@@ -124,7 +124,7 @@ impl Cell {
         store_number(rig, self.block, number)
     }
 
-    /// Gives the block back, by one move. After a fault it is still in use.
+    /// Gives the block back, by one move at most. After a fault it is still in use.
     pub fn end<D: Device>(self, rig: &mut Rig<'_, D>) -> Result<(), EmFault>
         requires sound { Sound (seen D.state rig.old) }
         requires is { IsCell (seen D.state rig.old) self }

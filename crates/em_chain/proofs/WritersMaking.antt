@@ -167,6 +167,7 @@ gives_last {s} {t} {g} {h} {m} {f} r e sd k =
       gives = gives;
       unmoved = subst (λ (x : RigState). Unmoved s x) (sym e) (record {
         device = refl;
+        spare = refl;
         same = record { head = refl; used = refl; most = refl };
         moves = refl;
       });
@@ -179,7 +180,12 @@ emptying_none {s} {g} h k = record {
   sound = h;
   touches = (goes_nothing s h).touches;
   unmoved =
-      record { device = refl; same = record { head = refl; used = refl; most = refl }; moves = refl };
+      record {
+        device = refl;
+        spare = refl;
+        same = record { head = refl; used = refl; most = refl };
+        moves = refl;
+      };
   has = k;
   shape = refl;
   free = refl;
@@ -197,6 +203,7 @@ emptying_then {s} {t} {u} {g} {h} {k} a b =
       touches = touches_then [] s t u a.touches b.gives.touches;
       unmoved = record {
         device = y.device ∙ x.device;
+        spare = y.spare ∙ x.spare;
         same = record {
           head = y.same.head ∙ x.same.head;
           used = y.same.used ∙ x.same.used;

@@ -22,6 +22,7 @@ pub record GivesFrame (held : List ℕ) (old new : RigState) : Type 0 where
 -- The device and all numbers are as they were.
 pub record Unmoved (old new : RigState) : Type 0 where
   pub device : new.device ≡ old.device
+  pub spare : new.spare ≡ old.spare
   pub same : SameBlocks old new
   pub moves : new.moves ≡ old.moves
 

@@ -12,7 +12,7 @@ use crate::chain::Chain;
 use em_frames::Device;
 use em_space::{EmFault, Rig};
 
-/// Releases all blocks of a chain, by two moves for each. It never answers `Full`. After a fault
+/// Releases all blocks of a chain, by two moves at most for each. It never answers `Full`. After a fault
 /// the blocks that are left stay in use.
 pub fn discard<D: Device>(rig: &mut Rig<'_, D>, chain: Chain) -> Result<(), EmFault>
     requires sound { Sound (seen D.state rig.old) }

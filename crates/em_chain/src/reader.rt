@@ -66,7 +66,7 @@ impl Reader {
         }
     }
 
-    /// A reader that takes a chain: each block is read by one move, and released by another one
+    /// A reader that takes a chain: each block is read by one move, and released, by one more at most,
     /// once its last record was given.
     pub fn taking<D: Device>(rig: &mut Rig<'_, D>, chain: Chain) -> Reader
         requires sound { Sound (seen D.state rig.old) }

@@ -164,6 +164,7 @@ stopped_loading {s} {a} {node} {c} {fault} g e m k =
       };
       costs = record {
         moves = omega arith;
+        used = omega arith;
         most = omega arith;
         pays = record { is = inr (omega arith) };
       };
@@ -230,6 +231,7 @@ stopped_sharing {s} {a} {t} {node} {c} {b} {fault} i g e m l x =
       goes = goes_within held (sharing_blocks a c b) s a t first within x.goes;
       costs = record {
         moves = omega arith;
+        used = omega arith;
         most = omega arith;
         pays = pays_more (pays_around used later refl (omega arith) h.pays) (omega arith);
       };
@@ -286,6 +288,7 @@ stopped_storing {key} {s} {a} {u} {t} {node} {c} {b} {d} {fault} i g e m l x go 
       goes = goes_within held (node ∷ []) s u t first within go;
       costs = record {
         moves = omega arith;
+        used = omega arith;
         most = omega arith;
         pays = pays_more (pays_around used later used2 later2 sp.pays) (omega arith);
       };
@@ -464,6 +467,7 @@ emptied_at {key} {s} {a} {u} {t} {node} {c} {b} {d} {least} limit sound i g e m 
           (same_frames_then a.pool u.pool t.pool x.runs.frames go.frames);
       costs = record {
         moves = omega arith;
+        used = omega arith;
         most = omega arith;
         pays = pays_more (pays_around used later used2 later2 sp.pays) (omega arith);
       };

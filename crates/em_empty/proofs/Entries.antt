@@ -134,6 +134,7 @@ gathers_then {s} {t} {u} {g} {h} es i c lt e a l m b =
       touches = touches_then [] s t u a.touches l.touches;
       unmoved = record {
         device = m.device ∙ a.unmoved.device;
+        spare = m.spare ∙ a.unmoved.spare;
         same = record {
           head = m.same.head ∙ a.unmoved.same.head;
           used = m.same.used ∙ a.unmoved.same.used;

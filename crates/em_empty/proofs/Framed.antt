@@ -63,6 +63,7 @@ emptied_framed {key} {s} {t} {node} {c} {least} sound free i x =
       frames = g.frames;
       costs = record {
         moves = x.costs.moves;
+        used = x.costs.used;
         most = x.costs.most;
         pays = record { is = x.costs.pays.is };
       };
@@ -76,6 +77,7 @@ stopped_framed {s} {t} {node} {c} {fault} sound free x = record {
   goes = goes_with_frame (given_blocks s node c) s t sound free x.goes;
   costs = record {
     moves = x.costs.moves;
+    used = x.costs.used;
     most = x.costs.most;
     pays = record { is = x.costs.pays.is };
   };

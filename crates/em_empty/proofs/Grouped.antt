@@ -145,6 +145,7 @@ sharing_lists {s} {a} {c} x i j h z =
 unmoved_given : {s t : RigState} (p : PoolCounts) → t ≡ record s { pool = p } → Unmoved s t
 unmoved_given {s} {t} p e = record {
   device = ap (λ (r : RigState). r.device) e;
+  spare = ap (λ (r : RigState). r.spare) e;
   same = record {
     head = ap (λ (r : RigState). r.head) e;
     used = ap (λ (r : RigState). r.used) e;

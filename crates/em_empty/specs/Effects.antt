@@ -60,6 +60,7 @@ LeavesNode s t node buffer (Err fault) = Goes (given_blocks s node buffer) s t
 -- What it cost, at every exit.
 pub record EmptyingCosts (s t : RigState) (node : ℕ) (buffer : Chain) : Type 0 where
   pub moves : t.moves ≤ s.moves + emptying_moves s node buffer
+  pub used : t.used ≤ s.used + reached s node buffer + 1
   pub most : t.most ≤ max s.most (s.used + reached s node buffer + 1)
   pub pays : Pays 0 (reached s node buffer + 1) s t
 

@@ -10,11 +10,10 @@ use Rattle.em_record.proofs.Order.{with_least, order_push}
 use Rattle.em_record.proofs.Commutes.{order_cons, order_ascending, at_least_order}
 use Rattle.em_record.proofs.OrderLaws.{which, order_set, order_permutation, ascends_apart}
 use Rattle.em_heap.specs.Heap.{IsHeap, IsHeapWithin, heap_items, SiftsUp, SiftsDown, HeapPushes, HeapPops, HeapHalves}
-use Rattle.em_heap.specs.State.{HeapState}
 use Rattle.em_heap.proofs.Sifting.{at_least_each, top}
 
 -- two lists with the same records from low up to m are heaps alike
-agrees : (xs ys : List Record) (low n m : ℕ) → m ≤ n
+pub agrees : (xs ys : List Record) (low n m : ℕ) → m ≤ n
     → ((k : ℕ) (d : Record) → low ≤ k → k < m → get_or ys k d ≡ get_or xs k d)
     → IsHeapWithin xs low n → IsHeapWithin ys low m
 agrees xs ys low n m le e h = λ p k d lo a b f.
@@ -22,7 +21,7 @@ agrees xs ys low n m le e h = λ p k d lo a b f.
     ∙ h p k d lo a b (omega arith)
 
 -- the front of two lists, one after the other
-seam : (n : ℕ) (zs ws : List Record) → length zs ≡ n → take n (zs ++ ws) ≡ zs
+pub seam : (n : ℕ) (zs ws : List Record) → length zs ≡ n → take n (zs ++ ws) ≡ zs
 seam n zs ws e =
     ap (λ (k : ℕ). take k (zs ++ ws)) (sym e) ∙ take-append_seam zs ws
 
@@ -68,7 +67,7 @@ pushes xs zs n item room heap s =
     }
 
 -- no record of the heap is below the first
-above_first : (xs : List Record) (n : ℕ) (d : Record) → IsHeap xs n
+pub above_first : (xs : List Record) (n : ℕ) (d : Record) → IsHeap xs n
     → AtLeast (get_or xs 0 d) (take n xs)
 above_first xs n d heap =
     let within = heap.within in
@@ -194,12 +193,11 @@ ascending_heap xs n le h =
       within = le;
     }
 
--- The heap was put in order and keeps its least half.
-pub halves : (xs zs : List Record) (n : ℕ) → IsHeap xs n → IsPermutation (take n xs) zs
+-- The first records were put in order, and their least half is kept.
+pub halves : (xs zs : List Record) (n : ℕ) → n ≤ length xs → IsPermutation (take n xs) zs
     → length zs ≡ n → IsAscending zs → HeapHalves (n - n / 2) xs (zs ++ drop n xs) n
-halves xs zs n heap same long rises =
+halves xs zs n within same long rises =
     let keep = n - n / 2 in
-    let within = heap.within in
     let ys = zs ++ drop n xs in
     let low = take keep zs in
     let front : take keep ys ≡ low = take-append-le keep zs (drop n xs) (omega arith) in
@@ -223,35 +221,3 @@ halves xs zs n heap same long rises =
           ∙ (λ i. (sym (order_ascending low parts.0) ∙ ap in_order (sym front)) i ++ sym back i);
       long = whole;
     }
-
--- what is seen of a heap of n records
-abbrev pub seen_as : List Record → ℕ → HeapState
-seen_as xs n = record {
-  items = heap_items xs n;
-  len = n;
-  capacity = length xs;
-  behind = drop n xs;
-}
-
--- Of a heap with no record the first m records of its area, in order, are a heap.
-pub refills : (xs : List Record) (n m : ℕ) (h : HeapState) → seen_as xs n ≡ h → h.len ≡ 0
-    → m ≤ h.capacity → IsAscending (take m h.behind)
-    → IsHeap xs m × (seen_as xs m ≡ record h {
-      items = take m h.behind;
-      len = m;
-      behind = drop m h.behind;
-    })
-refills xs zero m h e none within ascends =
-    let P : HeapState → Type 0 = λ k. m ≤ k.capacity → IsAscending (take m k.behind)
-    → IsHeap xs m × (seen_as xs m ≡ record k {
-      items = take m k.behind;
-      len = m;
-      behind = drop m k.behind;
-    }) in
-    subst P e (λ w a. (
-      ascending_heap xs m w a,
-      ap (λ l. record { items = l; len = m; capacity = length xs; behind = drop m xs })
-          (order_ascending (take m xs) a),
-    )) within ascends
-refills xs (suc n) m h e none within ascends =
-    absurd (let l = ap (λ (k : HeapState). k.len) e in omega (arith, l, none))

@@ -1,3 +1,4 @@
 pub mod Sifting
 pub mod Heaps
 pub mod HeapRows
+pub mod Stocks

@@ -1,3 +1,4 @@
 pub mod Heap
 pub mod Lending
 pub mod State
+pub mod Stock

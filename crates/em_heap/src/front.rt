@@ -4,10 +4,10 @@
 //! records:  | heap: the first `len` records | any records |
 //! ```
 //!
-//! Kept here: the heap's records (`items`) and the slice's length (`long`). Of the records after the heap
-//! only `halve` says something.
+//! Kept here: the heap's records (`items`) and the slice's length (`long`). Nothing is said of the records
+//! after the heap.
 ghost use Rattle.std.specs.Prelude.{◌≡◌, ℕ, ◌<◌, ◌≤◌, ◌∷◌, drop, length};
-ghost use Rattle.em_heap.specs.Heap.{IsHeap, HeapPushes, HeapPops, HeapHalves, heap_items};
+ghost use Rattle.em_heap.specs.Heap.{IsHeap, HeapPushes, HeapPops, heap_items};
 
 use crate::sift::{sift_down, sift_up};
 use em_record::Record;
@@ -41,13 +41,4 @@ pub(crate) fn peek(records: &[Record], len: usize) -> Record
     ensures { heap_items records.now len ≡ result ∷ drop 1 (heap_items records.now len) }
 {
     records[0]
-}
-
-/// Puts the first `len` records in order, and answers the number of their least half, rounded up.
-pub(crate) fn halve(records: &mut [Record], len: usize) -> usize
-    requires heap { IsHeap records.old len }
-    ensures { HeapHalves result records.old records.new len }
-{
-    records[..len].sort_unstable();
-    len - len / 2
 }

@@ -1,17 +1,18 @@
-//! A heap in an area.
+//! A heap in an area, and a run: records in order, which a refill brought.
 //!
 //! ```text
-//! area:  | heap: the least record first, the others in a heap's order | after the heap |
-//!        0                                                          len         capacity
+//! area:  | heap: the least record first, the others in a heap's order | any | run, in order |
+//!        0                                                          top    capacity - run   capacity
 //! ```
 //!
-//! Kept here: the first `len` records are a heap (`IsHeap`). Left to others: what stands after them.
-//! After `upper_half` these are the records that it took out, in order.
+//! A pop takes the lesser of the heap's first record and the run's, so that what a refill brought is taken
+//! with no work on the heap. Kept here: heap and run are what they are (`IsStock`). Left to others: what
+//! stands between them. After `upper_half` these are the records that it took out, in order.
 ghost use Rattle.std.specs.Prelude.{◌≡◌, ℕ, ◌+◌, ◌-◌, ◌/◌, ◌<◌, ◌≤◌, [], ◌++◌, length, take, drop, slice_get, IfNone, IfSome, option_to_list};
 ghost use Rattle.std.specs.Borrow.{sem};
 ghost use Rattle.em_record.specs.Order.{with_record, IsAscending};
 
-use crate::front;
+use crate::stock;
 use em_frames::Area;
 use em_record::Record;
 use std::marker::Model;
@@ -19,24 +20,25 @@ use std::marker::Model;
 /// A heap of records in an area. It can't be dropped: its area goes back to a pool.
 pub struct Heap {
     area: Area,
-    len: usize,
+    top: usize,
+    run: usize,
 }
 
 impl Model for Heap {
-    ghost use Rattle.std.specs.Prelude.{length, drop};
-    ghost use Rattle.em_heap.specs.Heap.{IsHeap, heap_items};
+    ghost use Rattle.std.specs.Prelude.{◌+◌, length};
     ghost use Rattle.em_heap.specs.State.{HeapState};
+    ghost use Rattle.em_heap.specs.Stock.{IsStock, between, stock_items};
 
     ghost Value = { HeapState };
 
     ghost view = { λ h. record {
-      items = heap_items h.area h.len;
-      len = h.len;
+      items = stock_items h.area h.top h.run;
+      len = h.top + h.run;
       capacity = length h.area;
-      behind = drop h.len h.area;
+      behind = between h.area h.top h.run;
     } };
 
-    ghost invariant = { λ h. IsHeap h.area h.len };
+    ghost invariant = { λ h. IsStock h.area h.top h.run };
 }
 
 impl Heap {
@@ -46,7 +48,11 @@ impl Heap {
     pub fn new(area: Area) -> Heap
         ensures { result ≡ record { items = []; len = 0; capacity = length area; behind = area } }
     {
-        Heap { area, len: 0 }
+        Heap {
+            area,
+            top: 0,
+            run: 0,
+        }
     }
 
     /// The number of its records. A heap of n records is their list in order.
@@ -56,7 +62,7 @@ impl Heap {
         ensures within { result ≤ self.now.capacity }
         ensures ascends { IsAscending self.now.items }
     {
-        self.len
+        stock::count(self.area.records(), self.top, self.run)
     }
 
     /// The number of records that the area has room for.
@@ -75,8 +81,8 @@ impl Heap {
           behind = self.new.behind;
         } }
     {
-        front::push(self.area.records_mut(), self.len, item);
-        self.len += 1;
+        stock::push(self.area.records_mut(), self.top, self.run, item);
+        self.top += 1;
     }
 
     /// The least of its records, or `None` if it has none.
@@ -85,10 +91,10 @@ impl Heap {
         ensures none { IfNone result (self.now.len ≡ 0) }
         ensures some { IfSome result (λ _. 0 < self.now.len) }
     {
-        if self.len == 0 {
+        if self.len() == 0 {
             return None;
         }
-        Some(front::peek(self.area.records(), self.len))
+        Some(stock::peek(self.area.records(), self.top, self.run))
     }
 
     /// Takes the least of its records, or answers `None` if it has none.
@@ -100,11 +106,16 @@ impl Heap {
         ensures len { self.new.len ≡ self.old.len - 1 }
         ensures capacity { self.new.capacity ≡ self.old.capacity }
     {
-        if self.len == 0 {
+        if self.len() == 0 {
             return None;
         }
-        let least = front::pop(self.area.records_mut(), self.len);
-        self.len -= 1;
+        if stock::run_leads(self.area.records(), self.top, self.run) {
+            let least = stock::first_of_run(self.area.records(), self.top, self.run);
+            self.run -= 1;
+            return Some(least);
+        }
+        let least = stock::pop(self.area.records_mut(), self.top, self.run);
+        self.top -= 1;
         Some(least)
     }
 
@@ -117,9 +128,10 @@ impl Heap {
         ensures room { self.new.len + result ≤ self.new.capacity }
         ensures capacity { self.new.capacity ≡ self.old.capacity }
     {
-        let len = self.len;
-        let keep = front::halve(self.area.records_mut(), len);
-        self.len = keep;
+        let len = self.len();
+        let keep = stock::halve(self.area.records_mut(), self.top, self.run);
+        self.top = keep;
+        self.run = 0;
         len - keep
     }
 
@@ -129,7 +141,7 @@ impl Heap {
         ensures items { result.now ≡ take count self.now.behind }
         ensures len { length result.now ≡ count }
     {
-        &self.area.records()[self.len..self.len + count]
+        &self.area.records()[self.top..self.top + count]
     }
 
     /// The area of a heap with no record, to be written. What is written stands after the heap (`behind`),
@@ -154,14 +166,19 @@ impl Heap {
           behind = drop len self.old.behind;
         } }
     {
-        self.len = len;
+        self.area.records_mut().rotate_left(len);
+        self.run = len;
     }
 
     /// Gives its area back.
     pub fn into_area(self) -> Area
         ensures { length result ≡ self.capacity }
     {
-        let Heap { area, len: _len } = self;
+        let Heap {
+            area,
+            top: _,
+            run: _,
+        } = self;
         area
     }
 }

@@ -1,8 +1,9 @@
-//! A binary heap of records in an area, the least first.
+//! A binary heap of records in an area, the least first, beside a run of records in order.
 #![tactic(auto)]
 
 mod front;
 mod heap;
 mod sift;
+mod stock;
 
 pub use heap::Heap;

@@ -17,6 +17,7 @@ use Rattle.em_plain.specs.QueueLaws.{out, stays}
 use Rattle.em_plain.specs.ScanQueue.{IsScanQueue, QueueHasFrame, counts_of, queue_blocks}
 use Rattle.em_plain.specs.declared.scan_queue.ScanQueue.{ScanQueue}
 use Rattle.em_queued.specs.Queued.{StopsBeside}
+use Rattle.em_queued.specs.Room.{StatedRoom}
 use Rattle.em_queued.proofs.Queued.{apart_after}
 use Rattle.em_sorting.specs.Lacking.{AllLack}
 use Rattle.em_sorting.specs.Sorts.{CanSort, IsSorted}
@@ -72,9 +73,10 @@ can_sort {s} {t} {q} {c} r g is n lacks = record {
 }
 
 -- A call of sorting was refused,
-pub kept_stops : {T : Type 0} {i j l u : ℕ} {s t v : RigState} (x : ScanQueue) {y : ScanQueue}
+pub kept_stops : {T : Type 0} {i j l u : ℕ} {s t v : RigState}
+    {room : StatedRoom} (x : ScanQueue) {y : ScanQueue}
     {ks : List ℕ} {a : Account} {fault : EmFault} (result : Result T EmFault) → IsErr result → Goes [] s t
-    → StopsBeside i j l u ks a (counts_of x) (counts_of y) t v fault → QueueHasFrame v y
+    → StopsBeside room i j l u ks a (counts_of x) (counts_of y) t v fault → QueueHasFrame v y
     → KeepsQueue s v y result
 kept_stops x (Ok e) i g h f = cc
 kept_stops {s = s} {t} {v} x {y} (Err e) i g h f = record {

@@ -112,27 +112,27 @@ fn first_wrong(
     Ok(None)
 }
 
-/// A list makes one move for each of its blocks when it is written, one more each time that they are
-/// read, and one when they are released. `join` links the last of the first 2 blocks to the 3 others
-/// by 2 moves; `extend` loads the last of the first 2 again by 1, and stores it with the 2 others.
+/// A list makes one move for each of its blocks when it is written, and one more each time that they are
+/// read. A release makes none, since its block's number is kept. `join` links the last of the first 2 blocks
+/// to the 3 others by 2 moves; `extend` loads the last of the first 2 again by 1, and stores it with the 2 others.
 ///
 /// 300 records fill blocks of 127, 127 and 46, written by 3 moves. The last one is loaded to go on with, and
 /// the two others are read by 2 moves: the second one leads on, and ends the view all the same.
 ///
-/// 500 records stand in 4 blocks. Cut at the 300th, 3 blocks are loaded and 2 released; the first part
-/// has 3 blocks, each stored once, of which 2 were released before and are read when they come again.
-/// To read the parts takes 2 moves for each of 5 blocks. Cut at 0 one block is loaded, and cut after
-/// the last record all 4 are. The third frame is that of a release.
+/// 500 records stand in 4 blocks, written by 4 moves. Cut at the 300th, 3 blocks are loaded and 2 released; the
+/// first part has 3 blocks, each stored once, of which 2 were released before. To read the parts takes a move
+/// for each of 5 blocks: 4 + 3 + 3 + 5. Cut at 0 one block is loaded and 4 are read: 4 + 1 + 4. Cut after the last
+/// record all 4 are loaded, stored and read: 4 + 4 + 4 + 4.
 const CHAINS: &str = "\
-take 0|100|ok|0 79 237 2|0:10000|1 0 79 10000,79
+take 0|100|ok|0 79 158 1|0:10000|1 0 79 10000,79
 scan 0|100|ok|3 3 9 1|0:300|1 0 3 300,3
 stored 254|100|ok|3 3 6 2|0:300|1 0 3 300,3
-discard 0|100|ok|0 8 24 1|0:1000|1 0 8 1000,8
-join 200|100|ok|0 5 17 2|0:500|1 0 5 500,5
-extend 200|100|ok|0 4 14 2|0:500|1 0 4 500,4
-cut 300|100|ok|0 5 24 3|0:500|3 46 4 200,2
-cut 0|100|ok|0 4 13 2|0:500|1 0 4 500,4
-cut 500|100|ok|0 5 27 3|0:500|0,0
+discard 0|100|ok|0 8 16 1|0:1000|1 0 8 1000,8
+join 200|100|ok|0 5 12 1|0:500|1 0 5 500,5
+extend 200|100|ok|0 4 10 1|0:500|1 0 4 500,4
+cut 300|100|ok|0 5 15 2|0:500|3 46 4 200,2
+cut 0|100|ok|0 4 9 2|0:500|1 0 4 500,4
+cut 500|100|ok|0 5 16 2|0:500|0,0
 ";
 
 #[test]
@@ -201,8 +201,8 @@ fn a_damaged_block_is_named(rt: HostRuntime) -> Result<(), Fail> {
 /// The first list has blocks of 127 and 73, written by 2 moves. Its last block is loaded again by 1
 /// move, and it grows to 127, 127, 127 and 19: 3 more are stored. The two others have 2 blocks each,
 /// stored once. 3 moves read what is stored of the first list, beside 19 records that are pending, and
-/// each of the 8 blocks is read and released: 2 + 1 + 3 + 4 + 3 + 16.
-const GROUP: &str = "group 0|100|ok|0 8 29 4|0:200|0:600|0:200,0:600:3|1:601:3|2:602:3";
+/// each of the 8 blocks is read: 2 + 1 + 3 + 4 + 3 + 8.
+const GROUP: &str = "group 0|100|ok|0 8 21 4|0:200|0:600|0:200,0:600:3|1:601:3|2:602:3";
 
 #[test]
 fn each_list_of_a_group_gets_its_records(rt: HostRuntime) -> Result<(), Fail> {
@@ -212,21 +212,21 @@ fn each_list_of_a_group_gets_its_records(rt: HostRuntime) -> Result<(), Fail> {
 
 /// The worked examples, with the least and the greatest key and point, and a del of a key that has no value. The
 /// commands have one block: 1 move stores it, 1 reads it for the answers and 1 more for each get or stab but one with no command
-/// before it, 1 stores the answers, and 2 release each of both blocks.
+/// before it, 1 stores the answers, and 1 reads each of both blocks before it is released.
 ///
 /// Last, 202 commands in 2 blocks, and 300 pairs in 3: the first stab is answered by the first 100 of 200
 /// intervals, the second one by all. The commands are stored by 2 moves, read by 2 for all and by 2
-/// for each stab, and released by 4; the pairs are stored by 3, read by 3 and released by 3.
+/// for each stab, and read by 2 when they are released; the pairs are stored by 3 and read by 3.
 const COMMANDS: &str = "\
-map 0|10|ok|0 2 10 3|5 10 1,5,5 11 1,5,5 0 2,5|2 1 10,4 1 11,6
-map 0|10|ok|0 2 9 3|0,0 7 1,18446744073709551615 8 1,9 0 2,18446744073709551615,0|1,5 1 8,6 1 7
-map 0|1|ok|0 1 4 2|1 2 1 0:127|
+map 0|10|ok|0 2 8 3|5 10 1,5,5 11 1,5,5 0 2,5|2 1 10,4 1 11,6
+map 0|10|ok|0 2 7 3|0,0 7 1,18446744073709551615 8 1,9 0 2,18446744073709551615,0|1,5 1 8,6 1 7
+map 0|1|ok|0 1 3 2|1 2 1 0:127|
 stab 0|10|ok|0 0 0 2||
-stab 0|10|ok|0 2 11 3|5,5 5 1,7 18446744073709551615 1,5,6,18446744073709551615,0 5 1,5|1,3 1,4,4 2
-stab 0|10|ok|0 1 4 2|0 9 1|
-stab 0|10|ok|0 1 4 3|5,0 9 1|
-stab 0|10|ok|0 2 9 3|0 18446744073709551615 1,0,18446744073709551615|0,1
-stab 0|10|ok|0 5 21 3|0:200 18446744073709551615 1,99,18446744073709551615|0 0:100,1 0:200
+stab 0|10|ok|0 2 9 3|5,5 5 1,7 18446744073709551615 1,5,6,18446744073709551615,0 5 1,5|1,3 1,4,4 2
+stab 0|10|ok|0 1 3 2|0 9 1|
+stab 0|10|ok|0 1 3 3|5,0 9 1|
+stab 0|10|ok|0 2 7 3|0 18446744073709551615 1,0,18446744073709551615|0,1
+stab 0|10|ok|0 5 16 3|0:200 18446744073709551615 1,99,18446744073709551615|0 0:100,1 0:200
 ";
 
 #[test]
@@ -235,28 +235,26 @@ fn commands_are_answered_by_those_before_them(rt: HostRuntime) -> Result<(), Fai
     Ok(())
 }
 
-/// By hand the first two pops store, load and release one block and take it again, the third one doesn't, and the last one
-/// moves nothing. Of 300 items in 3 blocks the first pop takes a fourth block, and makes 11 moves; the next ones make 12, and 8
-/// and 4 from 254 and 127 items on, and 2, 2 and 1 less where a block is left. One block takes 127 items.
+/// A block that a queue or a list releases comes again with no move, and lends no frame. One block takes 127 items.
 ///
-/// Pushes move nothing: all other items stand in one block of the queue. A pop stores and reads that
-/// block and releases it, by 3 moves, and by a fourth takes a block that was freed; the pop of one
-/// item takes none, and one that finds no item moves nothing. The first pop takes a new block, and
-/// so does the second one if it finds three items or more, since the list took the freed block by 1
-/// move. The list is stored, read and released by 3 moves. Of 8 items the 3 that are left are
-/// stored, read and released by 3 moves more. With no list the pops of three, two and one items make 3, 4 and 3 moves.
-/// If the queue is filled again after that, the first push and the first pop take a block that was freed, by 1 move more each.
+/// Pushes move nothing while all items stand in one block of the queue. A pop stores and reads that block, by 2
+/// moves, and one that finds no item moves nothing. Of 300 items two blocks are stored by the pushes. A pop of n
+/// items stores the last block, reads all, and stores all but the last one of the n - 1 items that are left: 6 moves
+/// down to n = 256, then 5, 4 from 254 on, then 3 at 128, and 2 from 127 on: 2 + 45 * 6 + 5 + 126 * 4 + 3 + 127 * 2.
+///
+/// The end of a queue stores and reads its block. A list is stored and read by 2 moves. So five pops beside a list
+/// are 5 * 2 + 2, and with three items that are left in the queue 2 more.
 const QUEUES: &str = "\
-queue 0|1|ok|0 1 11 3|4,4,4 1 1,4,4 2 1,4 4 1,0 0 2
-queue 0|4|ok|0 4 2072 3|300:0,300 0 3,1:301 300:0 1,0 0 3
-queue 0|1|ok|0 1 3 1|127:0,127 0 3
-queue 0|4|ok|0 2 22 3|30,10,20,10 2 1,20 3 1,30 1 1,30,10,20,10 8 1,20 9 1,30 7 1,0 0 2
-drain 0|4|ok|0 2 10 3|30,10,20|10 2 7,20 3 7,30 1 7
-beside 0|4|ok|0 2 14 4|30,10,20|10 2 7,20 3 7,30 1 7
-pop 0|4|ok|0 3 21 4|5:0|1:6 5:0 7
-pop 0|4|ok|0 2 14 4|3:0|1:4 3:0 7,0,0
-pop 0|4|ok|0 1 3 3||0,0,0,0,0
-pop 0|4|ok|0 3 25 4|8:0|1:6 8:3 7
+queue 0|1|ok|0 1 6 2|4,4,4 1 1,4,4 2 1,4 4 1,0 0 2
+queue 0|4|ok|0 4 1038 2|300:0,300 0 3,1:301 300:0 1,0 0 3
+queue 0|1|ok|0 1 2 1|127:0,127 0 3
+queue 0|4|ok|0 2 12 2|30,10,20,10 2 1,20 3 1,30 1 1,30,10,20,10 8 1,20 9 1,30 7 1,0 0 2
+drain 0|4|ok|0 2 6 2|30,10,20|10 2 7,20 3 7,30 1 7
+beside 0|4|ok|0 2 8 3|30,10,20|10 2 7,20 3 7,30 1 7
+pop 0|4|ok|0 3 12 3|5:0|1:6 5:0 7
+pop 0|4|ok|0 2 8 3|3:0|1:4 3:0 7,0,0
+pop 0|4|ok|0 1 2 3||0,0,0,0,0
+pop 0|4|ok|0 3 14 3|8:0|1:6 8:3 7
 ";
 
 #[test]
@@ -265,11 +263,9 @@ fn items_come_in_order_also_into_a_list(rt: HostRuntime) -> Result<(), Fail> {
     Ok(())
 }
 
-/// The list is stored by 1 move, and read and released by 2; before that the queue takes a new block. A pop
-/// stores, reads and releases the queue's block, by 3 moves. The first one takes the list's block before that, and
-/// the second one takes the queue's own again, by 1 move each. The sorted list takes the queue's first block by 1, and
-/// is stored, read and released by 3.
-const SORTED: &str = "sort 0|4|ok|0 2 18 4|";
+/// The list is stored and read by 2 moves; before it is released the queue takes a new block. Each of three pops stores
+/// and reads the queue's block, by 2 moves. The sorted list is stored and read by 2.
+const SORTED: &str = "sort 0|4|ok|0 2 10 3|";
 
 #[test]
 fn three_records_are_sorted(rt: HostRuntime) -> Result<(), Fail> {
@@ -277,27 +273,27 @@ fn three_records_are_sorted(rt: HostRuntime) -> Result<(), Fail> {
     Ok(())
 }
 
-/// Of four records on the left and three on the right each list has one block. A block is written,
-/// read and released by one move each. The third frame is that of a release. A side with no record has no block.
+/// Of four records on the left and three on the right each list has one block. A block is written and read by one
+/// move each, and released by none. A side with no record has no block.
 ///
 /// Then lists of 3 and 2 blocks are written by 5 moves: 100 records of the left come first, 100 of the right, 200 of the left and
-/// 100 of the right. Read to their ends, they are read and released by 10 moves. Ended before the first record they are released
-/// by 10 moves. With the first record a block of each list is read, and both are read again to be released. The 227th record is the
-/// last one of the first block on the left, which is released then: 5 + 3, and 4 blocks are left, which take 8. The next call reads the
+/// 100 of the right. Read to their ends, they are read by 5 moves. Ended before the first record each block is read to be released,
+/// by 5 moves. With the first record a block of each list is read, and both are read again to be released. The 227th record is the
+/// last one of the first block on the left, which is released then: 5 + 2, and 4 blocks are left, which take 4. The next call reads the
 /// second block on the left. The 427th record is the last one of the first block on the right: the left list and that block were read
-/// and released by 8 moves, and 1 block is left. The next call reads it.
+/// by 4 moves, and 1 block is left. The next call reads it.
 const WEAVES: &str = "\
-weave 0|2|ok|0 2 6 3|1 0 7,4 1 7,4 2 7,9 3 7|2 0 7,4 1 7,7 2 7|1 0 7,2 0 7 1,4 1 7,4 2 7,4 1 7 1,7 2 7 1,9 3 7,0 0 0 2
-weave 0|1|ok|0 1 3 3|3 0 7,5 1 7||3 0 7,5 1 7,0 0 0 2
-weave 0|1|ok|0 1 3 3||3 0 7,5 1 7|3 0 7 1,5 1 7 1,0 0 0 2
+weave 0|2|ok|0 2 4 2|1 0 7,4 1 7,4 2 7,9 3 7|2 0 7,4 1 7,7 2 7|1 0 7,2 0 7 1,4 1 7,4 2 7,4 1 7 1,7 2 7 1,9 3 7,0 0 0 2
+weave 0|1|ok|0 1 2 2|3 0 7,5 1 7||3 0 7,5 1 7,0 0 0 2
+weave 0|1|ok|0 1 2 2||3 0 7,5 1 7|3 0 7 1,5 1 7 1,0 0 0 2
 weave 0|1|ok|0 0 0 2|||0 0 0 2
-weave 0|8|ok|0 5 15 3|0:100,200:400|100:200,400:500|0:100,100:200 0 0 1,200:400,400:500 0 0 1,0 0 0 2
-weave 0|8|ok|0 5 15 2|0:100,200:400|100:200,400:500|
-weave 0|8|ok|0 5 17 2|0:100,200:400|100:200,400:500|0
-weave 0|8|ok|0 5 16 3|0:100,200:400|100:200,400:500|0:100,100:200 0 0 1,200:227
-weave 0|8|ok|0 5 17 3|0:100,200:400|100:200,400:500|0:100,100:200 0 0 1,200:228
-weave 0|8|ok|0 5 15 3|0:100,200:400|100:200,400:500|0:100,100:200 0 0 1,200:400,400:427 0 0 1
-weave 0|8|ok|0 5 16 3|0:100,200:400|100:200,400:500|0:100,100:200 0 0 1,200:400,400:428 0 0 1
+weave 0|8|ok|0 5 10 2|0:100,200:400|100:200,400:500|0:100,100:200 0 0 1,200:400,400:500 0 0 1,0 0 0 2
+weave 0|8|ok|0 5 10 2|0:100,200:400|100:200,400:500|
+weave 0|8|ok|0 5 12 2|0:100,200:400|100:200,400:500|0
+weave 0|8|ok|0 5 11 2|0:100,200:400|100:200,400:500|0:100,100:200 0 0 1,200:227
+weave 0|8|ok|0 5 12 2|0:100,200:400|100:200,400:500|0:100,100:200 0 0 1,200:228
+weave 0|8|ok|0 5 10 2|0:100,200:400|100:200,400:500|0:100,100:200 0 0 1,200:400,400:427 0 0 1
+weave 0|8|ok|0 5 11 2|0:100,200:400|100:200,400:500|0:100,100:200 0 0 1,200:400,400:428 0 0 1
 ";
 
 #[test]

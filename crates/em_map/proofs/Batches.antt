@@ -24,8 +24,8 @@ use Rattle.em_tree_model.proofs.RowPlaces.{all_keys}
 use Rattle.em_tree_model.proofs.Takes.{nothing_owed}
 use Rattle.em_settle.specs.States.{stored_after}
 use Rattle.em_tree.specs.Calls.{ChangesTrunk, CountsCall, FinishCosts, FinishesTrunk, IsNewTrunk, PushesOp}
-use Rattle.em_tree.specs.Meaning.{IsLater}
-use Rattle.em_tree.specs.Trunk.{given_by, model_of}
+use Rattle.em_trunk.specs.Meaning.{IsLater}
+use Rattle.em_trunk.specs.Trunk.{given_by, model_of}
 use Rattle.em_map.specs.Batch.{BatchCosts, CountsCommand, FinishesBatch, HasCommands, IsBatch, IsNewBatch, TakesTo, trunk_of}
 use Rattle.em_model.specs.MapAnswers.{answer_records}
 use Rattle.em_map.specs.Commands.{map_op, map_ops}

@@ -12,8 +12,8 @@ use Rattle.em_space.specs.Held.{Apart}
 use Rattle.em_space.specs.Rig.{RigState, Touches}
 use Rattle.em_tree_model.specs.Meaning.{nothing, tree_answers, tree_contents}
 use Rattle.em_tree_model.specs.Tree.{Tree}
-use Rattle.em_tree.specs.Trunk.{IsTrunk, given_by, model_of}
-use Rattle.em_tree.proofs.Stays.{TrunkStays, trunk_stays}
+use Rattle.em_trunk.specs.Trunk.{IsTrunk, given_by, model_of}
+use Rattle.em_trunk.proofs.Stays.{TrunkStays, trunk_stays}
 use Rattle.em_map.specs.Batch.{BatchHasFrames, HasCommands, IsBatch, batch_blocks, trunk_of}
 use Rattle.em_map.specs.Commands.{map_ops}
 use Rattle.em_map.specs.Contents.{WaitsUpTo}

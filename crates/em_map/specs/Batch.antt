@@ -14,8 +14,8 @@ use Rattle.em_tree_model.specs.Meaning.{nothing, tree_answers, tree_contents}
 use Rattle.em_tree_cost.specs.Books.{count_push}
 use Rattle.em_tree_cost.specs.Shares.{batch_share}
 use Rattle.em_tree.specs.Calls.{ChangesTrunk, CountsCall, FinishedTrunk, IsNewTrunk, StopsFinishing, StopsTrunk}
-use Rattle.em_tree.specs.Trunk.{IsTrunk, TrunkHasFrames, given_by, model_of, trunk_blocks, trunk_unstored}
-use Rattle.em_tree.specs.declared.trunk.Trunk.{Trunk}
+use Rattle.em_trunk.specs.Trunk.{IsTrunk, TrunkHasFrames, given_by, model_of, trunk_blocks, trunk_unstored}
+use Rattle.em_trunk.specs.declared.trunk.Trunk.{Trunk}
 use Rattle.em_model.specs.MapAnswers.{answer_records}
 use Rattle.em_map.specs.Commands.{map_op, map_ops}
 use Rattle.em_map.specs.Contents.{WaitsUpTo}

@@ -32,7 +32,9 @@ const GET: u64 = 2;
 /// A map from numbers to numbers that answers all its gets at once, in `finish`. Each call is an
 /// operation in a buffer tree. Calls are numbered from 1.
 ///
-/// It holds two frames and can't be dropped. After a fault only `abandon` may be called.
+/// It holds two frames and can't be dropped. After a fault only `abandon` may be called. Over a device that
+/// tells, its blocks after n commands, inside a call too, are within 12 · (q(n) + 1) + m · (2 + lev(q(n)))
+/// and those of the answers that it had given before.
 pub struct Batch {
     tree: Tree<MapSettle>,
     /// Commands so far.
@@ -42,9 +44,11 @@ pub struct Batch {
 impl Batch {
     ghost use Rattle.em_map.specs.Batch.{BatchCosts, BatchHasFrames, CountsCommand, FinishesBatch, IsBatch, IsNewBatch, TakesTo, trunk_of};
     ghost use Rattle.em_map.specs.Commands.{map_op};
-    ghost use Rattle.em_tree.specs.Calls.{LeavesTrunk, StopsNewTrunk};
+    ghost use Rattle.em_tree.specs.Calls.{StopsNewTrunk};
     ghost use Rattle.em_tree.specs.Finishing.{FullIfUsed};
     ghost use Rattle.em_tree.specs.Pushing.{NeedsMore};
+    ghost use Rattle.em_trunk.specs.Room.{FullOverRoom, WithinRoom};
+    ghost use Rattle.em_trunk.specs.Lists.{LeavesTrunk};
 
     /// A batch with no command. At most four blocks are moved.
     pub fn new<D: Device>(rig: &mut Rig<'_, D>) -> Result<Batch, EmFault>
@@ -74,6 +78,10 @@ impl Batch {
             self.old self.new }
         ensures needs { IfErr result (λ fault. IfFull fault (λ _. NeedsMore (seen D.state rig.old)
             (trunk_of self.old))) }
+        ensures room { IsTrue (seen D.state rig.old).device.told → WithinRoom (self.old.calls + 1)
+            (seen D.state rig.old) (seen D.state rig.new) (trunk_of self.old) }
+        ensures over { IfErr result (λ fault. IsTrue (seen D.state rig.old).device.told
+            → FullOverRoom (self.old.calls + 1) (seen D.state rig.old) (trunk_of self.old) fault) }
     {
         self.push(rig, key, PUT, value)
     }
@@ -90,6 +98,10 @@ impl Batch {
             self.old self.new }
         ensures needs { IfErr result (λ fault. IfFull fault (λ _. NeedsMore (seen D.state rig.old)
             (trunk_of self.old))) }
+        ensures room { IsTrue (seen D.state rig.old).device.told → WithinRoom (self.old.calls + 1)
+            (seen D.state rig.old) (seen D.state rig.new) (trunk_of self.old) }
+        ensures over { IfErr result (λ fault. IsTrue (seen D.state rig.old).device.told
+            → FullOverRoom (self.old.calls + 1) (seen D.state rig.old) (trunk_of self.old) fault) }
     {
         self.push(rig, key, DEL, 0)
     }
@@ -106,6 +118,10 @@ impl Batch {
             self.old self.new }
         ensures needs { IfErr result (λ fault. IfFull fault (λ _. NeedsMore (seen D.state rig.old)
             (trunk_of self.old))) }
+        ensures room { IsTrue (seen D.state rig.old).device.told → WithinRoom (self.old.calls + 1)
+            (seen D.state rig.old) (seen D.state rig.new) (trunk_of self.old) }
+        ensures over { IfErr result (λ fault. IsTrue (seen D.state rig.old).device.told
+            → FullOverRoom (self.old.calls + 1) (seen D.state rig.old) (trunk_of self.old) fault) }
     {
         self.push(rig, key, GET, 0)
     }
@@ -126,6 +142,10 @@ impl Batch {
         ensures finishes { FinishesBatch (seen D.state rig.old) (seen D.state rig.new) self result }
         ensures full { FullIfUsed (trunk_of self) result }
         ensures costs { BatchCosts (seen D.state rig.old) (seen D.state rig.new) self }
+        ensures room { IsTrue (seen D.state rig.old).device.told → WithinRoom self.calls
+            (seen D.state rig.old) (seen D.state rig.new) (trunk_of self) }
+        ensures over { IfErr result (λ fault. IsTrue (seen D.state rig.old).device.told
+            → FullOverRoom self.calls (seen D.state rig.old) (trunk_of self) fault) }
     {
         let Batch { tree, calls: _ } = self;
         tree.finish(rig)
@@ -161,6 +181,10 @@ impl Batch {
             self.old self.new }
         ensures needs { IfErr result (λ fault. IfFull fault (λ _. NeedsMore (seen D.state rig.old)
             (trunk_of self.old))) }
+        ensures room { IsTrue (seen D.state rig.old).device.told → WithinRoom (self.old.calls + 1)
+            (seen D.state rig.old) (seen D.state rig.new) (trunk_of self.old) }
+        ensures over { IfErr result (λ fault. IsTrue (seen D.state rig.old).device.told
+            → FullOverRoom (self.old.calls + 1) (seen D.state rig.old) (trunk_of self.old) fault) }
     {
         self.calls += 1;
         self.tree.push(

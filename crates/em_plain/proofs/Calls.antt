@@ -128,6 +128,18 @@ pushed_served s t q v x spent (Ok y) a k =
     }
 pushed_served s t q v x spent (Err e) a k = tt
 
+-- The least item was taken out.
+pub taken_served : (s t : RigState) (q : ScanQueue) (v : Writer) (item : Option Record) (spent : ℕ)
+    → TakesLeast s t q.writer v item
+    → Served (counts_of q) (counts_of (settled (called q v spent))) s t
+taken_served s t q v item spent k = record {
+  since = refl;
+  frames = refl;
+  areas = refl;
+  used = k.used;
+  pays = k.pays;
+}
+
 settled_most : (n k : ℕ) → (if n == 0 then 0 else k) ≤ k
 settled_most n k =
     cond_both (n == 0) 0 k (λ (x : ℕ). x ≤ k) (λ e. omega arith) (λ e. omega arith)

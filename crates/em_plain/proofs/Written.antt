@@ -115,6 +115,7 @@ session_less g = record {
 unmoved_none : (s : RigState) → Unmoved s s
 unmoved_none s = record {
   device = refl;
+  spare = refl;
   same = record { head = refl; used = refl; most = refl };
   moves = refl;
 }

@@ -221,7 +221,7 @@ impl Queue for ScanQueue {
 
     ghost rising_room = { tt };
 
-    ghost fits = { λ q s h. tt };
+    ghost fits = { λ q s h told. tt };
 
     /// Adds an item. `Full` comes exactly if a block is needed and all are in use (`full_exactly`).
     fn push<D: Device>(&mut self, rig: &mut Rig<'_, D>, item: Record) -> Result<(), EmFault>

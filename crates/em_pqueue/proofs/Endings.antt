@@ -1,9 +1,9 @@
 -- A queue is ended: its area goes back, its tree is finished, and the empty list of answers is discarded.
-use Rattle.std.specs.Prelude.{◌≡◌, ℕ, ◌+◌, ◌-◌, ◌≤◌, List, [], length, None, Some, IsTrue, Result}
+use Rattle.std.specs.Prelude.{IsTrue, List, None, Result, Some, ℕ, [], length, ◌+◌, ◌-◌, ◌<◌, ◌≡◌, ◌≤◌}
 use Rattle.std.specs.List.Sorted.{IsPermutation}
 use Rattle.std.proofs.Common.{arith, sym, ap, subst, ◌∙◌}
 use Rattle.std.proofs.lemmas.List.Sorted.{length_permutation}
-use Rattle.em_record.specs.Shape.{ShapeNumbers}
+use Rattle.em_record.specs.Shape.{IsShape, ShapeNumbers}
 use Rattle.em_record.specs.declared.record.Record.{Record}
 use Rattle.em_frames.specs.Pool.{PoolCounts, given_area, singles_of}
 use Rattle.em_settle.specs.Bag.{bag_key_of, bag_step_of}
@@ -20,18 +20,23 @@ use Rattle.em_chain.specs.Row.{Frees}
 use Rattle.em_chain.specs.declared.chain.Chain.{Chain}
 use Rattle.em_chain.proofs.Readers.{length_items, none_left}
 use Rattle.em_chain.proofs.Views.{view_of}
-use Rattle.em_tree_cost.specs.Shares.{queue_share, tree_share}
+use Rattle.em_tree_cost.specs.Shares.{queue_share, tree_room, tree_share}
 use Rattle.em_tree_cost.proofs.ExtQueue.{queue_within}
 use Rattle.em_tree_model.specs.Meaning.{tree_answers}
 use Rattle.em_tree_model.specs.Tree.{stored_in, waiting_in}
-use Rattle.em_tree.specs.Calls.{FinishCosts, FinishedTrunk, LeavesTrunk, StopsFinishing}
-use Rattle.em_tree.specs.Trunk.{TrunkHasFrames, given_by, model_of, trunk_blocks, trunk_unstored}
-use Rattle.em_tree.specs.Trunk as trunks
-use Rattle.em_tree.specs.declared.trunk.Trunk.{Trunk}
-use Rattle.em_tree.proofs.Stays.{TrunkStays, trunk_stays}
+use Rattle.em_tree.specs.Calls.{FinishCosts, FinishedTrunk, StopsFinishing}
+use Rattle.em_trunk.specs.Trunk.{TrunkHasFrames, given_by, model_of, trunk_blocks, trunk_unstored}
+use Rattle.em_trunk.specs.Trunk as trunks
+use Rattle.em_trunk.specs.declared.trunk.Trunk.{Trunk}
+use Rattle.em_trunk.proofs.Stays.{TrunkStays, trunk_stays}
 use Rattle.em_pqueue.specs.ExtQueue.{AnyItem, IsExtQueue, counts_of, half_of, queue_blocks, trunk_of}
 use Rattle.em_pqueue.specs.declared.queue.ExtQueue.{ExtQueue}
 use Rattle.em_pqueue.proofs.Items.{bag_answers_none}
+use Rattle.em_pqueue.specs.Room.{QueueHolds, QueueOver}
+use Rattle.em_trunk.specs.Room.{FullOverRoom, WithinRoom}
+use Rattle.em_trunk.specs.Lists.{LeavesTrunk}
+use Rattle.em_pqueue.proofs.Rooms.{holds_within, over_within}
+use Rattle.em_space.proofs.Ledgers.{full_by}
 
 -- The area went back.
 pub record GaveArea (s a : RigState) : Type 0 where
@@ -122,6 +127,45 @@ module _ (s a : RigState) (q : ExtQueue) (i : IsExtQueue s q) (g : GaveArea s a)
       (touches_wider (queue_blocks s q) (trunk_blocks a (trunk_of q)) a t h
       (λ told k u o. off_as (sym g.touches.told ∙ told) k o))
 
+  -- The blocks of the queue at each moment are those of the tree,
+  module _ (told : IsTrue s.device.told) where
+    given_none : given_by a (trunk_of q) ≡ []
+    given_none = (tree_left.reads told).given ∙ (i.stands.parts told).given
+
+    tree_k : q.tree.trunk.longest ≤ q.longest
+    tree_k =
+        let n = i.stands.shown in
+        let k = i.stands.fits.tree_k_most in
+        let b : i.stands.numbers.k ≡ q.longest = n.longest in
+        let d : i.stands.numbers.tree_k ≡ q.tree.trunk.longest = n.tree_longest in
+        omega (arith, k, b, d)
+
+    shape_left : IsShape a.pool.shape
+    shape_left = g.sound.shape
+
+    pub left_holds : {t : RigState} → WithinRoom q.tree.trunk.longest a t (trunk_of q)
+        → QueueHolds q.longest (queue_blocks s q) s t
+    left_holds h =
+        let m = (holds_within tree_left.is shape_left (g.touches.told ∙ told) given_none tree_k h).most in
+        let e = ap length (tree_left.reads told).blocks in
+        let b = ap (λ (x : RigState). x.most) g.is in
+        let p = ap (λ (x : ShapeNumbers). tree_room x q.longest) g.touches.shape in
+        record { most = omega (arith, m, e, b, p, used_is) }
+
+    -- also those that it is full over.
+    pub left_over : {f : EmFault} → FullOverRoom q.tree.trunk.longest a (trunk_of q) f
+        → QueueOver q.longest (queue_blocks s q) s f
+    left_over {f} h =
+        let m = (over_within tree_left.is shape_left (g.touches.told ∙ told) given_none tree_k h).full in
+        let e = ap length (tree_left.reads told).blocks in
+        let p = ap (λ (x : ShapeNumbers). tree_room x q.longest) g.touches.shape in
+        record {
+          full = full_by f
+              (a.blocks + length (trunk_blocks a (trunk_of q)) < a.used + tree_room a.pool.shape q.longest)
+              (s.blocks + length (queue_blocks s q) < s.used + tree_room s.pool.shape q.longest)
+              (λ z. omega (arith, z, e, p, used_is, g.touches.blocks)) m;
+        }
+
   pub record Gone (u : RigState) : Type 0 where
     pub sound : Sound u
     pub touches : Touches (queue_blocks s q) s u
@@ -132,15 +176,15 @@ module _ (s a : RigState) (q : ExtQueue) (i : IsExtQueue s q) (g : GaveArea s a)
     pub peak : a.pool.peak ≤ u.pool.peak
     pub spent : IsTrue s.device.told → q.tree.trunk.spent + u.moves
         ≤ s.moves + queue_share s.pool.shape q.calls q.longest
+    pub room : IsTrue s.device.told → QueueHolds q.longest (queue_blocks s q) s u
 
   pub ends_by : (u : RigState) → Gone u
-      → Ends (Some queue_share) None (queue_blocks s q) (counts_of q) s u
+      → Ends (Some queue_share) (Some tree_room) (queue_blocks s q) (counts_of q) s u
   ends_by u h =
       let p = pool_is in
       let free = ap (λ (x : PoolCounts). x.free) p in
       let areas = ap (λ (x : PoolCounts). x.free_areas) p in
       let peak = ap (λ (x : PoolCounts). x.peak) p in
-      let n = h.sound.numbers in
       record {
         sound = h.sound;
         touches = h.touches;
@@ -152,7 +196,7 @@ module _ (s a : RigState) (q : ExtQueue) (i : IsExtQueue s q) (g : GaveArea s a)
           peak = omega (arith, h.peak, peak);
         };
         spent = h.spent;
-        most = omega (arith, i.counts.most, n.most_high, h.touches.blocks);
+        most = λ told. (let b = i.counts.blocks told in let r = (h.room told).most in omega (arith, b, r));
       }
 
   -- the moves of the tree, the last settling included, are within the queue's share
@@ -182,8 +226,9 @@ module _ (s a : RigState) (q : ExtQueue) (i : IsExtQueue s q) (g : GaveArea s a)
   -- The tree wasn't finished.
   module _ (t : RigState) (f : EmFault) (h : StopsFinishing a t (trunk_of q) f)
       (c : FinishCosts a t (trunk_of q)) where
-    pub unfinished : Ends (Some queue_share) None (queue_blocks s q) (counts_of q) s t
-    unfinished = ends_by t (record {
+    pub unfinished : (IsTrue s.device.told → QueueHolds q.longest (queue_blocks s q) s t)
+        → Ends (Some queue_share) (Some tree_room) (queue_blocks s q) (counts_of q) s t
+    unfinished room = ends_by t (record {
       sound = h.sound;
       touches = touches_tree t h.touches;
       shape = h.frames.shape;
@@ -192,6 +237,7 @@ module _ (s a : RigState) (q : ExtQueue) (i : IsExtQueue s q) (g : GaveArea s a)
       areas = h.frames.free_areas;
       peak = h.frames.peak;
       spent = λ told. (let z = share_left t c told in omega (arith, z, c.later, moves_is));
+      room = room;
     })
 
     pub unfinished_pays : Pays (trunk_unstored (trunk_of q)) s.pool.shape.frames s t
@@ -229,8 +275,9 @@ module _ (s a : RigState) (q : ExtQueue) (i : IsExtQueue s q) (g : GaveArea s a)
         let e = length_items t c h.chain there in
         none_left t c (view_of t c h.chain) there (omega (arith, p, e))
 
-    pub ended : Ends (Some queue_share) None (queue_blocks s q) (counts_of q) s u
-    ended = ends_by u (record {
+    pub ended : (IsTrue s.device.told → QueueHolds q.longest (queue_blocks s q) s u)
+        → Ends (Some queue_share) (Some tree_room) (queue_blocks s q) (counts_of q) s u
+    ended room = ends_by u (record {
       sound = gone.sound;
       touches = touches_trans (queue_blocks s q) (chain_blocks t c) s t u
           (touches_tree t h.session.touches) gone.touches (λ told k x o. h.session.within.off (g.touches.told ∙ told) k
@@ -245,6 +292,7 @@ module _ (s a : RigState) (q : ExtQueue) (i : IsExtQueue s q) (g : GaveArea s a)
           let n = none_answered told in
           let m = frees.moves in
           omega (arith, z, n, m, costs.later, moves_is);
+      room = room;
     })
 
     pub left_used : IsTrue s.device.told → u.used ≡ t.used → u.used + q.blocks ≡ s.used

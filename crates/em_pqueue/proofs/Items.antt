@@ -19,7 +19,7 @@ use Rattle.em_tree_model.specs.Ranges.{AllIn, IsTree, least_record}
 use Rattle.em_tree_model.specs.Tree.{Tree, stored_at, stored_in, waiting_at, waiting_in}
 use Rattle.em_tree_model.proofs.Paths.{contents_by_path}
 use Rattle.em_tree_model.proofs.Takes.{stored_rises}
-use Rattle.em_tree.proofs.Beginnings.{least_below}
+use Rattle.em_trunk.proofs.Beginnings.{least_below}
 use Rattle.em_pqueue.specs.Items.{tree_items}
 use Rattle.em_pqueue.proofs.Rising.{EachBelow, at_first, at_second, lacks_at, rises_both}
 

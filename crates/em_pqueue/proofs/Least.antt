@@ -7,9 +7,9 @@ use Rattle.em_frames.specs.Pool.{load_of}
 use Rattle.em_space.specs.Rig.{RigState}
 use Rattle.em_tree_cost.specs.ExtQueue.{ExtQueueCounts, ExtQueueFits, after_call, after_heap_pop, after_last_item}
 use Rattle.em_tree_cost.proofs.ExtQueue.{queue_heap_pop, queue_last_item}
-use Rattle.em_tree.specs.Trunk.{given_by, model_of}
-use Rattle.em_tree.specs.Trunk as trunks
-use Rattle.em_tree.specs.declared.trunk.Trunk.{Trunk}
+use Rattle.em_trunk.specs.Trunk.{given_by, model_of}
+use Rattle.em_trunk.specs.Trunk as trunks
+use Rattle.em_trunk.specs.declared.trunk.Trunk.{Trunk}
 use Rattle.em_pqueue.specs.ExtQueue.{IsBagTree, Shows, Stands, half_of, items_in_tree, trunk_of}
 use Rattle.em_pqueue.specs.Items.{tree_items}
 use Rattle.em_pqueue.specs.Parts.{AreParts}

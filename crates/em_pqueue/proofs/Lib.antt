@@ -3,6 +3,7 @@ pub mod Endings
 pub mod Items
 pub mod Least
 pub mod Makes
+pub mod Notes
 pub mod Overs
 pub mod Parts
 pub mod PopCalls
@@ -11,6 +12,7 @@ pub mod Pushed
 pub mod Puts
 pub mod Refills
 pub mod Rising
+pub mod Rooms
 pub mod Serves
 pub mod Shares
 pub mod Spills

@@ -17,13 +17,14 @@ use Rattle.em_tree_cost.specs.ExtQueue.{no_calls}
 use Rattle.em_tree_cost.proofs.ExtQueue.{queue_new}
 use Rattle.em_tree_model.specs.Tree.{waiting_in}
 use Rattle.em_tree.specs.Calls.{IsNewTrunk}
-use Rattle.em_tree.specs.Trunk.{TrunkHasFrames, given_by, model_of, trunk_blocks}
-use Rattle.em_tree.specs.Trunk as trunks
-use Rattle.em_tree.proofs.Stays.{TrunkStays, trunk_stays}
+use Rattle.em_trunk.specs.Trunk.{TrunkHasFrames, given_by, model_of, trunk_blocks}
+use Rattle.em_trunk.specs.Trunk as trunks
+use Rattle.em_trunk.proofs.Stays.{TrunkStays, trunk_stays}
 use Rattle.em_pqueue.specs.Calls.{IsNewQueue}
 use Rattle.em_pqueue.specs.ExtQueue.{AnyItem, IsExtQueue, half_of, items_in_tree, queue_blocks, trunk_of}
 use Rattle.em_pqueue.specs.Items.{tree_items}
 use Rattle.em_pqueue.specs.declared.queue.ExtQueue.{ExtQueue}
+use Rattle.em_tree_cost.specs.Shares.{tree_room}
 
 -- An area was lent.
 pub record LendsArea (m t : RigState) (area : List Record) : Type 0 where
@@ -31,6 +32,10 @@ pub record LendsArea (m t : RigState) (area : List Record) : Type 0 where
   pub touches : Touches [] m t
   pub len : length area ≡ load_of m.pool.shape
   pub is : t ≡ record m { pool = lent_area m.pool }
+
+-- each room has a few blocks
+least_room : (shape : ShapeNumbers) (k n : ℕ) → n ≤ 12 → n ≤ tree_room shape k
+least_room shape k n h = omega (arith, h)
 
 -- The queue over a new tree and this area.
 pub record IsOver (s m : RigState) (area : List Record) (q : ExtQueue) : Type 0 where
@@ -41,7 +46,7 @@ pub record IsOver (s m : RigState) (area : List Record) (q : ExtQueue) : Type 0 
   pub longest : q.longest ≡ 0
   pub since : q.since ≡ 0
   pub blocks : q.blocks ≡ m.used - s.used
-  pub most : q.most ≡ m.blocks + q.blocks
+  pub most : q.most ≡ q.blocks
 
 module _ (s m t : RigState) (area : List Record) (q : ExtQueue) (old : Sound s) (free : CanServe s.pool)
     (new : IsNewTrunk bag_key_of AnyItem AnyItem s m (trunk_of q)) (lends : LendsArea m t area)
@@ -131,7 +136,10 @@ module _ (s m t : RigState) (area : List Record) (q : ExtQueue) (old : Sound s) 
           let e = ap length (stays.reads (new.session.touches.told ∙ back told)).blocks in
           omega (arith, l, e, over.blocks, new.used);
       few = omega (arith, over.blocks, new.used);
-      most = omega (arith, over.most, lends.touches.blocks);
+      most = omega (arith, over.most);
+      fits = λ told.
+          let few : q.most ≤ 12 = omega (arith, over.most, over.blocks, new.used) in
+          least_room t.pool.shape q.longest q.most few;
     };
     len = (let h = ap (λ h. h.len) over.heap in omega (arith, over.len, over.in_tree, h));
     few = omega (arith, over.len);
@@ -163,6 +171,10 @@ module _ (s m t : RigState) (area : List Record) (q : ExtQueue) (old : Sound s) 
           peak = omega (arith, peak_is, new.frames.peak);
         };
         used = omega (arith, used_is, new.used, over.blocks);
+        most =
+            let b = ap (λ (x : RigState). x.most) lends.is in
+            let m = new.most in
+            omega (arith, b, m, over.most, over.blocks, new.used);
         pays = pays_then new.pays (pays_kept 0 (omega (arith, used_is)) (omega (arith, moves_is)))
             lends.touches.moves;
         spent = omega (arith, moves_is, new.spent);

@@ -1,5 +1,5 @@
 -- Pushes into the tree of a queue, one after another.
-use Rattle.std.specs.Prelude.{◌≡◌, ℕ, ◌+◌, List, [], ◌∷◌, ◌++◌, length, Option, option_to_list, IsTrue}
+use Rattle.std.specs.Prelude.{IsTrue, List, Option, ℕ, [], length, max, option_to_list, ◌++◌, ◌+◌, ◌∷◌, ◌≡◌, ◌≤◌}
 use Rattle.std.specs.List.Sorted.{IsPermutation}
 use Rattle.std.proofs.Common.{arith, sym, ap, subst, ◌∙◌, refl}
 use Rattle.std.proofs.lemmas.List.{length-append}
@@ -17,15 +17,17 @@ use Rattle.em_tree_cost.specs.Books.{TreeCounts, count_push}
 use Rattle.em_tree_model.specs.Meaning.{tree_answers, tree_contents}
 use Rattle.em_tree_model.specs.Tree.{Tree, stored_in, waiting_in}
 use Rattle.em_tree.specs.Calls.{ChangesTrunk, CountsCall, StopsTrunk}
-use Rattle.em_tree.specs.Meaning.{IsLater}
-use Rattle.em_tree.specs.Trunk.{given_by, model_of}
-use Rattle.em_tree.specs.Trunk as trunks
+use Rattle.em_trunk.specs.Meaning.{IsLater}
+use Rattle.em_trunk.specs.Trunk.{given_by, model_of}
+use Rattle.em_trunk.specs.Trunk as trunks
 use Rattle.em_pqueue.specs.ExtQueue.{AnyItem, IsBagTree, items_in_tree, trunk_of}
 use Rattle.em_pqueue.specs.Steps.{PushedDown, PushesMore, SameCalls, StopsPushing}
 use Rattle.em_pqueue.specs.declared.queue.ExtQueue.{ExtQueue}
 use Rattle.em_pqueue.proofs.Items.{bag_answers_none, items_pushed, none_under}
 use Rattle.em_pqueue.proofs.Rising.{none_in}
 use Rattle.em_pqueue.proofs.Working.{stops_after, works_none, works_then}
+use Rattle.em_pqueue.proofs.Rooms.{holds_none, holds_then, holds_within, over_then, over_within}
+use Rattle.em_trunk.specs.Room.{FullOverRoom, WithinRoom}
 
 -- A record whose words a and b the tree doesn't have may be pushed.
 pub later_of : (s : RigState) (q : ExtQueue) (item : Record) → IsBagTree s (trunk_of q)
@@ -81,9 +83,10 @@ pub pushed_one : (s t : RigState) (q w : ExtQueue) (item : Record) → IsBagTree
     → (IsTrue s.device.told → Lacks item (items_in_tree s q))
     → ChangesTrunk bag_key_of bag_step_of AnyItem AnyItem (item ∷ []) s t (trunk_of q) (trunk_of w)
     → CountsCall (count_push 0) s t (trunk_of q) (trunk_of w)
-    → w ≡ record q { tree = w.tree; in_tree = q.in_tree + 1 }
-    → PushedDown (item ∷ []) s t q w
-pushed_one s t q w item i lacks h c e = record {
+    → w ≡ record q { tree = w.tree; in_tree = q.in_tree + 1 } → Sound s
+    → (IsTrue s.device.told → WithinRoom (max q.tree.trunk.longest (q.tree.trunk.since + 1)) s t
+    (trunk_of q)) → PushedDown (item ∷ []) s t q w
+pushed_one s t q w item i lacks h c e sound room = record {
   tree = h.is;
   works = record {
     session = h.session;
@@ -99,6 +102,9 @@ pushed_one s t q w item i lacks h c e = record {
       (lacks told) (h.meaning told).contents;
   given = λ told none. given_after (given_by s (trunk_of q)) (model_of s (trunk_of q))
       (given_by t (trunk_of w)) (model_of t (trunk_of w)) none (h.meaning told).answers;
+  room = λ told none k m. holds_within i sound.shape told none
+      (let l : w.tree.trunk.longest ≡ max q.tree.trunk.longest (q.tree.trunk.since + 1) = (one_more q w c).longest in
+      omega (arith, l, m)) (room told);
   rest = e;
 }
   where
@@ -130,6 +136,7 @@ pushed_none s q sound i = record {
   };
   items = λ told. refl;
   given = λ told none. none;
+  room = λ told none k m. holds_none refl;
   rest = (let e : q.in_tree + length {A = Record} [] ≡ q.in_tree = omega arith in
       ap (λ (n : ℕ). record q { in_tree = n }) (sym e));
 }
@@ -158,6 +165,14 @@ rest_then q w z m n k e a b =
     b ∙ (ap (λ (x : ExtQueue). record x { tree = z.tree; in_tree = w.in_tree + n }) a
     ∙ ap (λ (p : ℕ). record q { tree = z.tree; in_tree = p }) j)
 
+-- a bound of a later k
+later_most : (q w z : ExtQueue) {n : ℕ}
+    → PushesMore n (trunks.counts_of (trunk_of w)) (trunks.counts_of (trunk_of z))
+    → (k : ℕ) → z.tree.trunk.longest ≤ k → w.tree.trunk.longest ≤ k
+later_most q w z {n} c k m =
+    let l : z.tree.trunk.longest ≡ max w.tree.trunk.longest (w.tree.trunk.since + n) = c.longest in
+    omega (arith, l, m)
+
 -- One more.
 pub pushed_then : {s t u : RigState} (q w z : ExtQueue) (xs : List Record) (x : Record)
     → PushedDown xs s t q w → PushedDown (x ∷ []) t u w z → PushedDown (xs ++ x ∷ []) s u q z
@@ -169,6 +184,11 @@ pushed_then {s} {t} {u} q w z xs x h g = record {
       ∙ (ap (with_record x) (h.items told)
       ∙ sym (records_append (items_in_tree s q) xs (x ∷ [])));
   given = λ told none. g.given (h.works.session.touches.told ∙ told) (h.given told none);
+  room = λ told none k m.
+      let goes = h.works.session.touches in
+      let few : w.tree.trunk.longest ≤ k = later_most q w z g.counts k m in
+      holds_then goes.shape (h.works.loses told) (h.room told none k few)
+      (g.room (goes.told ∙ told) (h.given told none) k m);
   rest = rest_then q w z (length xs) 1 (length (xs ++ x ∷ [])) (length_push xs x) h.rest g.rest;
 }
 
@@ -176,8 +196,11 @@ pushed_then {s} {t} {u} q w z xs x h g = record {
 pub push_refused : (s t : RigState) (q w : ExtQueue) (f : EmFault)
     → StopsTrunk s t (trunk_of q) (trunk_of w) f
     → CountsCall (count_push 0) s t (trunk_of q) (trunk_of w)
-    → w ≡ record q { tree = w.tree } → StopsPushing [] s t q w f
-push_refused s t q w f h c e = record {
+    → w ≡ record q { tree = w.tree } → Sound s → IsBagTree s (trunk_of q)
+    → (IsTrue s.device.told → WithinRoom (max q.tree.trunk.longest (q.tree.trunk.since + 1)) s t
+    (trunk_of q)) → (IsTrue s.device.told → FullOverRoom (max q.tree.trunk.longest (q.tree.trunk.since + 1)) s
+    (trunk_of q) f) → StopsPushing [] s t q w f
+push_refused s t q w f h c e sound i room over = record {
   goes = h.goes;
   frames = h.frames;
   pays = h.pays;
@@ -185,6 +208,12 @@ push_refused s t q w f h c e = record {
   cause = h.cause;
   counts = one_more q w c;
   share = c.share;
+  room = λ told none k m. holds_within i sound.shape told none
+      (let l : w.tree.trunk.longest ≡ max q.tree.trunk.longest (q.tree.trunk.since + 1) = (one_more q w c).longest in
+      omega (arith, l, m)) (room told);
+  over = λ told none k m. over_within i sound.shape told none
+      (let l : w.tree.trunk.longest ≡ max q.tree.trunk.longest (q.tree.trunk.since + 1) = (one_more q w c).longest in
+      omega (arith, l, m)) (over told);
   rest = (let z : q.in_tree + length {A = Record} [] ≡ q.in_tree = omega arith in
       e ∙ ap (λ (n : ℕ). record q { tree = w.tree; in_tree = n }) (sym z));
 }
@@ -204,5 +233,13 @@ refused_after {s} {t} {u} {f} q w z xs h g =
       cause = a.cause;
       counts = counts_then (length xs) 1 (length xs + 1) refl m n;
       share = λ told. rw (← h.works.session.touches.shape) (g.share (h.works.session.touches.told ∙ told));
+      room = λ told none k m.
+          let goes = h.works.session.touches in
+          holds_then goes.shape (h.works.loses told) (h.room told none k (later_most q w z n k m))
+          (g.room (goes.told ∙ told) (h.given told none) k m);
+      over = λ told none k m.
+          let goes = h.works.session.touches in
+          over_then goes.shape (h.works.loses told) goes.blocks
+          (g.over (goes.told ∙ told) (h.given told none) k m);
       rest = rest_then q w z (length xs) 0 (length xs) (omega arith) h.rest g.rest;
     }

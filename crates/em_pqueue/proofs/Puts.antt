@@ -1,5 +1,5 @@
 -- An item is put into the part that it belongs to.
-use Rattle.std.specs.Prelude.{◌≡◌, ◌+◌, ◌<◌, ◌≤◌, ◌^◌, true, false, [], ◌∷◌, ◌++◌, length, IsTrue, Result, Ok, Err}
+use Rattle.std.specs.Prelude.{Err, IsTrue, Ok, Result, ℕ, [], false, length, max, true, ◌++◌, ◌+◌, ◌<◌, ◌^◌, ◌∷◌, ◌≡◌, ◌≤◌}
 use Rattle.std.proofs.Common.{arith, sym, ap, subst, ◌∙◌, refl, ⊎_elim}
 use Rattle.std.proofs.lemmas.Bool.{cases_Bool}
 use Rattle.em_record.specs.Order.{Lacks, is_below, with_record}
@@ -13,14 +13,16 @@ use Rattle.em_space.specs.Rig.{RigState, Sound}
 use Rattle.em_space.specs.declared.fault.EmFault.{EmFault}
 use Rattle.em_tree_cost.specs.ExtQueue.{ExtQueueFits, after_call, after_heap_push, after_tree_push}
 use Rattle.em_tree_cost.proofs.ExtQueue.{pushes_most, queue_heap_push, queue_tree_push}
-use Rattle.em_tree.specs.Trunk as trunks
-use Rattle.em_pqueue.specs.ExtQueue.{GoesDown, PartsStand, Stands, half_of, items_in_tree, queue_items, trunk_of}
+use Rattle.em_trunk.specs.Trunk as trunks
+use Rattle.em_pqueue.specs.ExtQueue.{GoesDown, PartsStand, Stands, half_of, items_in_tree, queue_blocks, queue_items, trunk_of}
 use Rattle.em_pqueue.specs.Parts.{AreParts}
-use Rattle.em_pqueue.specs.Steps.{MovesItems, PushedDown, PushesDown, PutsItem, PutsTo, SameCalls, Stops, StopsPushing, Works}
+use Rattle.em_pqueue.specs.Steps.{MovesItems, PushedDown, PushesDown, PushesMore, PutsItem, PutsTo, SameCalls, Stops, StopsPushing, Works}
 use Rattle.em_pqueue.specs.declared.queue.ExtQueue.{ExtQueue}
 use Rattle.em_pqueue.proofs.Parts.{PartsWith, heap_push, tree_push}
 use Rattle.em_pqueue.proofs.Shares.{frames_after, share_by}
 use Rattle.em_pqueue.proofs.Working.{stops_then, works_none, works_then}
+use Rattle.em_pqueue.proofs.Rooms.{holds_none, holds_then}
+use Rattle.em_pqueue.specs.Room.{QueueHolds}
 
 -- Fewer operations went into the tree than calls came.
 pub pushed_few : (s : RigState) (q : ExtQueue) → Stands after_call s q → q.calls ≤ 2 ^ 100
@@ -41,6 +43,19 @@ module _ (s : RigState) (q : ExtQueue) (item : Record) (st : Stands after_call s
     fits : ExtQueueFits (load_of s.pool.shape) (half_of s.pool.shape) (after_tree_push st.numbers)
     fits = queue_tree_push (load_of s.pool.shape) (half_of s.pool.shape) st.numbers st.fits
         (omega (arith, down.0, st.shown.in_tree))
+
+    -- its k is at most that of the queue
+    longest_most : PushesMore 1 (trunks.counts_of (trunk_of q)) (trunks.counts_of (trunk_of w))
+        → w.tree.trunk.longest ≤ q.longest
+    longest_most c =
+        let m = st.shown in
+        let l : w.tree.trunk.longest ≡ max q.tree.trunk.longest (q.tree.trunk.since + 1) = c.longest in
+        let k : max st.numbers.tree_k (st.numbers.tree_since + 1) ≤ max st.numbers.k (st.numbers.since + 1) =
+        fits.tree_k_most in
+        let a : max st.numbers.k (st.numbers.since + 1) ≡ q.longest = m.longest in
+        let b : st.numbers.tree_k ≡ q.tree.trunk.longest = m.tree_longest in
+        let d : st.numbers.tree_since ≡ q.tree.trunk.since = m.tree_since in
+        omega (arith, l, k, a, b, d)
 
     pushed_stands : PushedDown (item ∷ []) s t q w → Stands (λ n. n) t w
     pushed_stands p =
@@ -109,6 +124,7 @@ module _ (s : RigState) (q : ExtQueue) (item : Record) (st : Stands after_call s
               ∙ (tree_push item q.bound q.heap.items (items_in_tree s q) old.are (lacks told) some
               down.1).items);
           len = omega (arith, hl, it);
+          room = λ told. p.room told (st.parts told).given q.longest (longest_most p.counts);
         }
 
     put_down_stops : (f : EmFault) → StopsPushing [] s t q w f → Stops s t q w f
@@ -136,6 +152,8 @@ module _ (s : RigState) (q : ExtQueue) (item : Record) (st : Stands after_call s
           spent = p.spent;
           same = same;
           cause = p.cause;
+          room = λ told. p.room told (st.parts told).given q.longest (longest_most c);
+          over = λ told. p.over told (st.parts told).given q.longest (longest_most c);
         }
 
     -- It put the item, or was refused.
@@ -202,6 +220,7 @@ module _ (s : RigState) (q : ExtQueue) (item : Record) (st : Stands after_call s
         works = works_of (works_none s q sound (λ told. (st.tree.running.stands told).holds));
         items = λ told. ap (λ l. l ++ tree0) hi ∙ (more told).items;
         len = omega (arith, hl);
+        room = λ told. holds_none refl;
       }
     where
       works_of : Works s s q q → Works s s q (record q { heap = h })
@@ -223,5 +242,22 @@ put_after s t u q w z item (Ok x) h g = record {
   items = λ told. g.items (h.works.session.touches.told ∙ told)
       ∙ ap (with_record item) (h.items told);
   len = omega (arith, h.len, g.len);
+  room = λ told.
+      let goes = h.works.session.touches in
+      let H : ℕ → Type 0 = λ k. QueueHolds k (queue_blocks t w) t u in
+      holds_then goes.shape (h.works.loses told) (h.room told)
+      (subst H h.works.same.longest (g.room (goes.told ∙ told)));
 }
-put_after s t u q w z item (Err f) h g = stops_then q w z h.works g
+put_after s t u q w z item (Err f) h g = stops_then q w z h.works h.room g
+
+-- The rig's greatest number of blocks didn't fall,
+pub puts_later : (s t : RigState) (q w : ExtQueue) (item : Record) (r : Result (Unit {0}) EmFault)
+    → PutsTo item s t q w r → s.most ≤ t.most
+puts_later s t q w item (Ok x) h = h.works.session.touches.most
+puts_later s t q w item (Err f) h = h.goes.touches.most
+
+-- and its numbers are sound; the queue's count of blocks is as it was.
+pub puts_kept : (s t : RigState) (q w : ExtQueue) (item : Record) (r : Result (Unit {0}) EmFault)
+    → PutsTo item s t q w r → Sound t × (w.blocks ≡ q.blocks)
+puts_kept s t q w item (Ok x) h = (h.works.session.sound, h.works.same.blocks)
+puts_kept s t q w item (Err f) h = (h.goes.sound, h.same.blocks)

@@ -1,5 +1,5 @@
 -- An empty heap is filled from the tree.
-use Rattle.std.specs.Prelude.{◌≡◌, ◌⊎◌, ℕ, zero, suc, ◌+◌, ◌-◌, ◌*◌, ◌^◌, ◌<◌, ◌≤◌, List, [], ◌∷◌, ◌++◌, length, get_or, take, IsTrue, Result, Ok, Err}
+use Rattle.std.specs.Prelude.{Err, IsTrue, List, Ok, Result, ℕ, [], get_or, length, max, suc, take, zero, ◌*◌, ◌++◌, ◌+◌, ◌-◌, ◌<◌, ◌^◌, ◌∷◌, ◌≡◌, ◌≤◌, ◌⊎◌}
 use Rattle.std.proofs.Common.{arith, sym, ap, subst, ◌∙◌, refl, inl, inr, ⊎_elim, get_or-take, length-take-le, take-suc}
 use Rattle.std.proofs.lemmas.List.{length-append}
 use Rattle.std.proofs.Math.Nat.{mul-le-mul_left}
@@ -23,11 +23,11 @@ use Rattle.em_tree_cost.specs.Books.{TreeCounts, count_drain}
 use Rattle.em_tree_cost.specs.ExtQueue.{ExtQueueCounts, ExtQueueFits, after_call, after_last_refill, after_refill}
 use Rattle.em_tree_cost.proofs.ExtQueue.{pushes_most, queue_last_refill, queue_refill}
 use Rattle.em_tree.specs.Calls.{CountsCall, StopsTrunk}
-use Rattle.em_tree_load.specs.Paid.{LosesNone}
+use Rattle.em_tree_walk.specs.Paid.{LosesNone}
 use Rattle.em_tree.specs.Taking.{LeavesNothing, LeavesSome, TookFirst}
-use Rattle.em_tree.specs.Trunk.{given_by, model_of, trunk_blocks, trunk_unstored}
-use Rattle.em_tree.specs.Trunk as trunks
-use Rattle.em_tree.specs.declared.trunk.Trunk.{Trunk}
+use Rattle.em_trunk.specs.Trunk.{given_by, model_of, trunk_blocks, trunk_unstored}
+use Rattle.em_trunk.specs.Trunk as trunks
+use Rattle.em_trunk.specs.declared.trunk.Trunk.{Trunk}
 use Rattle.em_pqueue.specs.ExtQueue.{AnyItem, IsBagTree, PartsStand, Shows, Stands, half_of, items_in_tree, queue_blocks, trunk_of}
 use Rattle.em_pqueue.specs.Items.{tree_items}
 use Rattle.em_pqueue.specs.Parts.{AreParts}
@@ -40,6 +40,8 @@ use Rattle.em_pqueue.proofs.Rising.{none_in}
 use Rattle.em_pqueue.proofs.Shares.{frames_after, share_by}
 use Rattle.em_pqueue.proofs.Spills.{load_some}
 use Rattle.em_pqueue.proofs.Working.{same_calls_then, works_none}
+use Rattle.em_pqueue.proofs.Rooms.{holds_none, holds_within, over_within}
+use Rattle.em_trunk.specs.Room.{FullOverRoom, WithinRoom}
 
 -- Nothing was to be done.
 pub refill_none : (s : RigState) (q : ExtQueue) → Sound s → Stands after_call s q
@@ -50,9 +52,19 @@ refill_none s q sound st none = (
     works = works_none s q sound (λ told. (st.tree.running.stands told).holds);
     items = λ told. refl;
     len = refl;
+    room = λ told. holds_none refl;
   },
   none,
 )
+
+-- its tree's k is at most its own
+tree_most : (s : RigState) (q : ExtQueue) → Stands after_call s q → q.tree.trunk.longest ≤ q.longest
+tree_most s q st =
+    let n = st.shown in
+    let k = st.fits.tree_k_most in
+    let a : max st.numbers.k (st.numbers.since + 1) ≡ q.longest = n.longest in
+    let b : st.numbers.tree_k ≡ q.tree.trunk.longest = n.tree_longest in
+    omega (arith, k, a, b)
 
 -- A tree wasn't reset more often than calls came.
 pub resets_few : (s : RigState) (q : ExtQueue) → Stands after_call s q → q.calls ≤ 2 ^ 100
@@ -92,7 +104,7 @@ pub record TookInto (q w : ExtQueue) (area : List Record) : Type 0 where
   pub heap : w.heap ≡ empty_over area
   pub long : length area ≡ q.heap.capacity
 
-less_or : (m n : ℕ) → m ≤ n → (m < n) ⊎ (m ≡ n)
+pub less_or : (m n : ℕ) → m ≤ n → (m < n) ⊎ (m ≡ n)
 less_or zero zero h = inr refl
 less_or zero (suc n) h = inl (omega arith)
 less_or (suc m) zero h = absurd (omega (arith, h))
@@ -129,8 +141,10 @@ module _ (s t : RigState) (q w : ExtQueue) (area : List Record) (st : Stands aft
 
   -- The call of the tree was refused.
   pub take_stops : (f : EmFault) → StopsTrunk s t (trunk_of q) (trunk_of w) f
-      → CountsCall (λ c. c) s t (trunk_of q) (trunk_of w) → Stops s t q w f
-  take_stops f h c =
+      → CountsCall (λ c. c) s t (trunk_of q) (trunk_of w)
+      → (IsTrue s.device.told → WithinRoom q.tree.trunk.longest s t (trunk_of q))
+      → (IsTrue s.device.told → FullOverRoom q.tree.trunk.longest s (trunk_of q) f) → Stops s t q w f
+  take_stops f h c room over =
       let n = st.shown in
       let e = c.counts in
       record {
@@ -148,12 +162,15 @@ module _ (s t : RigState) (q w : ExtQueue) (area : List Record) (st : Stands aft
         spent = c.spent;
         same = same_in;
         cause = h.cause;
+        room = λ told. holds_within st.tree st.shape told (st.parts told).given (tree_most s q st) (room told);
+        over = λ told. over_within st.tree st.shape told (st.parts told).given (tree_most s q st) (over told);
       }
 
   module _ (n : ℕ)
       (took : TookFirst bag_key_of bag_step_of AnyItem AnyItem area n s t (trunk_of q) (trunk_of w))
       (counts : CountsCall (λ c. c) s t (trunk_of q) (trunk_of w)
-      ⊎ CountsCall (count_drain 0) s t (trunk_of q) (trunk_of w)) where
+      ⊎ CountsCall (count_drain 0) s t (trunk_of q) (trunk_of w))
+      (room : IsTrue s.device.told → WithinRoom q.tree.trunk.longest s t (trunk_of q)) where
     abbrev before : TreeCounts
     before = trunks.counts_of (trunk_of q)
 
@@ -289,6 +306,8 @@ module _ (s t : RigState) (q w : ExtQueue) (area : List Record) (st : Stands aft
             untold_by t.device.told (λ told. never_told z f m (sym goes.touches.told ∙ told)),
             took.is.running.numbers.root_below,
           );
+          room = λ told. absurd (never_told z f m told);
+          over = λ told. absurd (never_told z f m told);
         })
 
     module _ (z : ExtQueue) (over : TakenOver n w z) where
@@ -465,6 +484,7 @@ module _ (s t : RigState) (q w : ExtQueue) (area : List Record) (st : Stands aft
                   ∙ (ap (λ v. take n area ++ tree_items (model_of t v)) tree_is
                   ∙ (sym (taken_items told) ∙ ap (λ l. l ++ items_in_tree s q) (sym items0)));
               len = omega (arith, heap_len_is, left_is, out.empty);
+              room = λ told. holds_within st.tree st.shape told (st.parts told).given (tree_most s q st) (room told);
             },
             λ e. absurd (omega (arith, e, heap_len_is, over.some)),
           )
@@ -474,3 +494,15 @@ module _ (s t : RigState) (q w : ExtQueue) (area : List Record) (st : Stands aft
         → RefillsTo s t q z r
     refill_by z (Ok x) over = refill_ok z over
     refill_by z (Err f) m = refill_stops z f m
+
+-- The rig's greatest number of blocks didn't fall,
+pub refills_later : (s t : RigState) (q w : ExtQueue) (r : Result (Unit {0}) EmFault)
+    → RefillsTo s t q w r → s.most ≤ t.most
+refills_later s t q w (Ok x) h = h.0.works.session.touches.most
+refills_later s t q w (Err f) h = h.goes.touches.most
+
+-- and its numbers are sound; the queue's count of blocks is as it was.
+pub refills_kept : (s t : RigState) (q w : ExtQueue) (r : Result (Unit {0}) EmFault)
+    → RefillsTo s t q w r → Sound t × (w.blocks ≡ q.blocks)
+refills_kept s t q w (Ok x) h = (h.0.works.session.sound, h.0.works.same.blocks)
+refills_kept s t q w (Err f) h = (h.goes.sound, h.same.blocks)

@@ -11,7 +11,7 @@ use Rattle.em_tree_cost.specs.ExtQueue.{ExtQueueCounts, ExtQueueFits, after_call
 use Rattle.em_tree_cost.specs.Shares.{floors_of, queue_share, tree_share}
 use Rattle.em_tree_cost.proofs.Rising.{div_ceil_rises, floors_rise, queue_share_rises}
 use Rattle.em_tree.specs.Calls.{KeepsShare}
-use Rattle.em_tree.specs.Trunk.{TrunkHasFrames}
+use Rattle.em_trunk.specs.Trunk.{TrunkHasFrames}
 use Rattle.em_pqueue.specs.ExtQueue.{ExtQueueHasFrames, Stands, half_of, queue_blocks, trunk_of}
 use Rattle.em_pqueue.specs.QueueLaws.{share_of}
 use Rattle.em_pqueue.specs.Steps.{SameCalls}

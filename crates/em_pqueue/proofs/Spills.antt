@@ -1,5 +1,5 @@
 -- A full heap gives its upper half to the tree.
-use Rattle.std.specs.Prelude.{◌≡◌, ℕ, ◌+◌, ◌-◌, ◌*◌, ◌/◌, ◌≤◌, List, [], ◌∷◌, ◌++◌, length, get_or, take, drop, IsTrue, Result, Ok, Err}
+use Rattle.std.specs.Prelude.{Err, IsTrue, List, Ok, Result, ℕ, [], drop, get_or, length, max, take, ◌*◌, ◌++◌, ◌+◌, ◌-◌, ◌/◌, ◌∷◌, ◌≡◌, ◌≤◌}
 use Rattle.std.proofs.Common.{arith, sym, ap, subst, ◌∙◌, append_assoc, length-take-le}
 use Rattle.std.proofs.lemmas.List.{length-append}
 use Rattle.std.proofs.Math.Nat.{mul-le-mul_right}
@@ -14,10 +14,10 @@ use Rattle.em_space.specs.declared.fault.EmFault.{EmFault}
 use Rattle.em_tree_cost.specs.ExtQueue.{ExtQueueFits, after_call, after_spill}
 use Rattle.em_tree_cost.proofs.ExtQueue.{pushes_most, queue_spill}
 use Rattle.em_tree_cost.proofs.Levels.{size_is}
-use Rattle.em_tree.specs.Trunk as trunks
+use Rattle.em_trunk.specs.Trunk as trunks
 use Rattle.em_pqueue.specs.ExtQueue.{PartsStand, Shows, Stands, half_of, items_in_tree, trunk_of}
 use Rattle.em_pqueue.specs.Parts.{AreParts}
-use Rattle.em_pqueue.specs.Steps.{PushedDown, PushesAll, SameCalls, SpillsTo, Stops, StopsAmong, Works}
+use Rattle.em_pqueue.specs.Steps.{PushedDown, PushesAll, PushesMore, SameCalls, SpillsTo, Stops, StopsAmong, Works}
 use Rattle.em_pqueue.specs.declared.queue.ExtQueue.{ExtQueue}
 use Rattle.em_pqueue.proofs.Parts.{cons_of, pushed_in_order, spilled}
 use Rattle.em_pqueue.proofs.Rising.{rises_last}
@@ -73,6 +73,20 @@ module _ (s : RigState) (q : ExtQueue) (h : HeapState) (count : ℕ) (u : Record
       (after_spill (half_of s.pool.shape) st.numbers)
   fits = queue_spill (load_of s.pool.shape) (half_of s.pool.shape) st.numbers st.fits
       (omega (arith, st.shown.heap, full, st.area)) (omega arith) (omega (arith, some, half_is))
+
+  -- its k is at most that of the queue
+  longest_most : (w : ExtQueue) (n : ℕ)
+      → PushesMore n (trunks.counts_of (trunk_of q)) (trunks.counts_of (trunk_of w)) → n ≤ count
+      → w.tree.trunk.longest ≤ q.longest
+  longest_most w n c few =
+      let m = st.shown in
+      let l : w.tree.trunk.longest ≡ max q.tree.trunk.longest (q.tree.trunk.since + n) = c.longest in
+      let k : max st.numbers.tree_k (st.numbers.tree_since + half_of s.pool.shape) ≤ st.numbers.k =
+      fits.tree_k_most in
+      let a : max st.numbers.k (st.numbers.since + 1) ≡ q.longest = m.longest in
+      let b : st.numbers.tree_k ≡ q.tree.trunk.longest = m.tree_longest in
+      let d : st.numbers.tree_since ≡ q.tree.trunk.since = m.tree_since in
+      omega (arith, l, k, a, b, d, half_is, few)
 
   -- no more operations go into the tree than calls came
   pub few : (trunks.counts_of (trunk_of q)).n + count ≤ st.numbers.n
@@ -198,6 +212,8 @@ module _ (s : RigState) (q : ExtQueue) (h : HeapState) (count : ℕ) (u : Record
                 ∙ (sym (append_assoc h.items (take count h.behind) (items_in_tree s q))
                 ∙ ap (λ l. l ++ items_in_tree s q) (sym up.items)));
             len = omega (arith, hl, up.len, in_tree_is, up.count_is);
+            room = λ told. p.room told (st.parts told).given q.longest (longest_most w (length (take count h.behind)) p.counts
+                (omega (arith, up.long)));
           },
           omega (arith, hl, hc, up.len, up.capacity, full, some, up.count_is),
           omega (arith, in_tree_is, some),
@@ -234,6 +250,10 @@ module _ (s : RigState) (q : ExtQueue) (h : HeapState) (count : ℕ) (u : Record
         spent = p.spent;
         same = same;
         cause = p.cause;
+        room = λ told. p.room told (st.parts told).given q.longest
+            (longest_most w (length (take a.done (take count h.behind)) + 1) c long);
+        over = λ told. p.over told (st.parts told).given q.longest
+            (longest_most w (length (take a.done (take count h.behind)) + 1) c long);
       }
 
   -- what the pushes did, by their result

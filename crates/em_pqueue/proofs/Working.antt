@@ -1,5 +1,5 @@
 -- Parts of a call on a queue, one after another.
-use Rattle.std.specs.Prelude.{◌≡◌, IsTrue, IfErr, IsErrAnd, OnErr, Result, Ok, Err}
+use Rattle.std.specs.Prelude.{Err, IfErr, IsErrAnd, IsTrue, Ok, OnErr, Result, ℕ, ◌≡◌}
 use Rattle.std.proofs.Common.{arith, sym, ap, subst, ◌∙◌, refl}
 use Rattle.em_record.specs.Shape.{ShapeNumbers}
 use Rattle.em_space.specs.Held.{Holds}
@@ -16,7 +16,9 @@ use Rattle.em_frames.specs.Pool as pools
 use Rattle.em_pqueue.specs.ExtQueue.{queue_blocks, trunk_of}
 use Rattle.em_pqueue.specs.Steps.{SameCalls, Stops, Works}
 use Rattle.em_pqueue.specs.declared.queue.ExtQueue.{ExtQueue}
-use Rattle.em_tree.specs.Trunk.{trunk_unstored}
+use Rattle.em_trunk.specs.Trunk.{trunk_unstored}
+use Rattle.em_pqueue.proofs.Rooms.{holds_then, over_then}
+use Rattle.em_pqueue.specs.Room.{QueueHolds, QueueOver}
 
 -- a fault that was handed on
 pub of_err : {T : Type 0} (P : Result T EmFault → Type 0) (r : Result T EmFault) (e : EmFault)
@@ -124,9 +126,13 @@ stops_after {s} {t} {u} {f} q w h goes pays cause =
 
 -- A part of a call gave up after one that went well.
 pub stops_then : {s t u : RigState} {f : EmFault} (q w z : ExtQueue) → Works s t q w
-    → Stops t u w z f → Stops s u q z f
-stops_then {s} {t} {u} {f} q w z h g =
+    → (IsTrue s.device.told → QueueHolds q.longest (queue_blocks s q) s t) → Stops t u w z f
+    → Stops s u q z f
+stops_then {s} {t} {u} {f} q w z h room g =
     let a = stops_after q w h g.goes g.pays g.cause in
+    let goes = h.session.touches in
+    let H : ℕ → Type 0 = λ k. QueueHolds k (queue_blocks t w) t u in
+    let O : ℕ → Type 0 = λ k. QueueOver k (queue_blocks t w) t f in
     record {
       goes = a.goes;
       frames = g.frames;
@@ -134,4 +140,8 @@ stops_then {s} {t} {u} {f} q w z h g =
       spent = omega (arith, h.spent, g.spent);
       same = same_calls_then h.same g.same;
       cause = a.cause;
+      room = λ told. holds_then goes.shape (h.loses told) (room told)
+          (subst H h.same.longest (g.room (goes.told ∙ told)));
+      over = λ told. over_then goes.shape (h.loses told) goes.blocks
+          (subst O h.same.longest (g.over (goes.told ∙ told)));
     }

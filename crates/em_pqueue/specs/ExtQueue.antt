@@ -9,10 +9,10 @@ use Rattle.em_frames.specs.Pool.{load_of}
 use Rattle.em_space.specs.Queue.{QueueCounts}
 use Rattle.em_space.specs.Rig.{RigState}
 use Rattle.em_tree_cost.specs.ExtQueue.{ExtQueueCounts, ExtQueueFits}
-use Rattle.em_tree_cost.specs.Shares.{queue_share}
-use Rattle.em_tree.specs.Trunk.{IsTrunk, TrunkHasFrames, given_by, model_of, trunk_blocks, trunk_unstored}
-use Rattle.em_tree.specs.Trunk as trunks
-use Rattle.em_tree.specs.declared.trunk.Trunk.{Trunk}
+use Rattle.em_tree_cost.specs.Shares.{queue_share, tree_room}
+use Rattle.em_trunk.specs.Trunk.{IsTrunk, TrunkHasFrames, given_by, model_of, trunk_blocks, trunk_unstored}
+use Rattle.em_trunk.specs.Trunk as trunks
+use Rattle.em_trunk.specs.declared.trunk.Trunk.{Trunk}
 use Rattle.em_pqueue.specs.Items.{tree_items}
 use Rattle.em_pqueue.specs.Parts.{AreParts}
 use Rattle.em_pqueue.specs.declared.queue.ExtQueue.{ExtQueue}
@@ -64,6 +64,11 @@ pub record ExtQueueHasFrames (s : RigState) (q : ExtQueue) : Type 0 where
   pub share : IsTrue s.device.told
       → q.tree.trunk.spent ≤ queue_share s.pool.shape q.calls q.longest
 
+-- They are out, and at no moment of its calls it held more blocks than its room.
+pub record HoldsFrames (s : RigState) (q : ExtQueue) : Type 0 where
+  pub has : ExtQueueHasFrames s q
+  pub fits : IsTrue s.device.told → q.most ≤ tree_room s.pool.shape q.longest
+
 -- what a spill takes out of a full heap
 abbrev pub half_of : ShapeNumbers → ℕ
 half_of shape = load_of shape / 2
@@ -102,11 +107,12 @@ pub record Stands (counted : ExtQueueCounts → ExtQueueCounts) (s : RigState) (
   pub some : 0 < q.in_tree → 0 < q.tree.trunk.since
   pub parts : IsTrue s.device.told → PartsStand s q
 
--- Its count of blocks, and a number that they never exceed.
+-- Its count of blocks, and the most that they were.
 pub record CountsBlocks (s : RigState) (q : ExtQueue) : Type 0 where
   pub blocks : IsTrue s.device.told → q.blocks ≡ length (queue_blocks s q)
   pub few : q.blocks ≤ 2 ^ 41
-  pub most : s.blocks + q.blocks ≤ q.most
+  pub most : q.blocks ≤ q.most
+  pub fits : IsTrue s.device.told → q.most ≤ tree_room s.pool.shape q.longest
 
 -- What ties a queue to its rig between two calls.
 pub record IsExtQueue (s : RigState) (q : ExtQueue) : Type 0 where

@@ -4,4 +4,5 @@ pub mod ExtQueue
 pub mod Items
 pub mod Parts
 pub mod QueueLaws
+pub mod Room
 pub mod Steps

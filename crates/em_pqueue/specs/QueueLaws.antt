@@ -7,19 +7,19 @@ use Rattle.em_record.specs.Shape.{IsShape, ShapeNumbers}
 use Rattle.em_frames.specs.Pool.{load_of}
 use Rattle.em_settle.specs.Bag.{bag_key_of}
 use Rattle.em_space.specs.Held.{Apart, Holds}
-use Rattle.em_space.specs.Queue.{AreOut, IsRising}
+use Rattle.em_space.specs.Queue.{AreOut, IsRising, IsRisingRoom}
 use Rattle.em_space.specs.Rig.{RigState, Touches}
 use Rattle.em_tree_cost.specs.ExtQueue.{ExtQueueCounts, ExtQueueFits}
-use Rattle.em_tree_cost.specs.Shares.{queue_share, tree_share}
+use Rattle.em_tree_cost.specs.Shares.{queue_share, tree_room, tree_share}
 use Rattle.em_tree_cost.proofs.Books.{books_share}
 use Rattle.em_tree_cost.proofs.ExtQueue.{pushes_most, queue_within}
-use Rattle.em_tree_cost.proofs.Rising.{queue_share_rises}
+use Rattle.em_tree_cost.proofs.Rising.{queue_share_rises, tree_room_rises}
 use Rattle.em_tree_model.specs.Tree.{Tree}
-use Rattle.em_tree.specs.Trunk.{TrunkHasFrames, given_by, model_of}
-use Rattle.em_tree.specs.Trunk as trunks
-use Rattle.em_tree.proofs.Stays.{TrunkReads, TrunkStays, trunk_stays}
+use Rattle.em_trunk.specs.Trunk.{TrunkHasFrames, given_by, model_of}
+use Rattle.em_trunk.specs.Trunk as trunks
+use Rattle.em_trunk.proofs.Stays.{TrunkReads, TrunkStays, trunk_stays}
 use Rattle.em_pqueue.specs.Ascending.{rising_ascends}
-use Rattle.em_pqueue.specs.ExtQueue.{AnyItem, ExtQueueHasFrames, IsExtQueue, PartsStand, Shows, counts_of, half_of, items_in_tree, queue_blocks, queue_items, trunk_of}
+use Rattle.em_pqueue.specs.ExtQueue.{AnyItem, ExtQueueHasFrames, HoldsFrames, IsExtQueue, PartsStand, Shows, counts_of, half_of, items_in_tree, queue_blocks, queue_items, trunk_of}
 use Rattle.em_pqueue.specs.Items.{tree_items}
 use Rattle.em_pqueue.specs.Parts.{AreParts}
 use Rattle.em_pqueue.specs.declared.queue.ExtQueue.{ExtQueue}
@@ -44,11 +44,11 @@ shown_share shape n q h s =
     let D : ℕ → Type 0 = λ x. q.tree.trunk.spent ≤ tree_share shape n.tree_n n.tree_k n.z x in
     subst D h.unsettled (subst C (sym h.resets) (subst B (sym h.tree_longest) (subst A (sym h.pushed) s)))
 
-pub frames_of : (q : ExtQueue) (s : RigState) → IsExtQueue s q → ExtQueueHasFrames s q
+pub frames_of : (q : ExtQueue) (s : RigState) → IsExtQueue s q → HoldsFrames s q
 frames_of q s i =
     let st = i.stands in
     let n = st.shown in
-    record {
+    let has : ExtQueueHasFrames s q = record {
       tree = st.tree.running.frames;
       area = st.area;
       out = st.out;
@@ -58,7 +58,8 @@ frames_of q s i =
       share = λ told. rw (← n.calls, ← n.longest) (share_of s.pool.shape st.numbers q.tree.trunk.spent
           st.shape st.fits (shown_share s.pool.shape st.numbers q n
           (books_share st.shape (st.tree.books told))));
-    }
+    } in
+    record { has = has; fits = i.counts.fits }
 
 pub len_is : (q : ExtQueue) (s : RigState) → IsExtQueue s q → IsTrue s.device.told
     → q.len ≡ length (queue_items s q)
@@ -83,9 +84,9 @@ tree_frames_stay q held s t f h o = record {
   out = o.singles;
 }
 
-pub frames_stay : (q : ExtQueue) (held : List ℕ) (s t : RigState) → ExtQueueHasFrames s q
+kept_frames : (q : ExtQueue) (held : List ℕ) (s t : RigState) → ExtQueueHasFrames s q
     → Touches held s t → AreOut (counts_of q) t.pool → ExtQueueHasFrames t q
-frames_stay q held s t f h o = record {
+kept_frames q held s t f h o = record {
   tree = tree_frames_stay q held s t f.tree h o;
   area = f.area ∙ ap load_of (sym h.shape);
   out = o.areas;
@@ -93,6 +94,13 @@ frames_stay q held s t f h o = record {
   k_most = f.k_most;
   since_most = f.since_most;
   share = λ told. rw (h.shape) (f.share (sym h.told ∙ told));
+}
+
+pub frames_stay : (q : ExtQueue) (held : List ℕ) (s t : RigState) → HoldsFrames s q
+    → Touches held s t → AreOut (counts_of q) t.pool → HoldsFrames t q
+frames_stay q held s t f h o = record {
+  has = kept_frames q held s t f.has h o;
+  fits = λ told. rw (h.shape) (f.fits (sym h.told ∙ told));
 }
 
 -- the parts are read as they were
@@ -133,7 +141,8 @@ stays q held s t i h a o =
         counts = record {
           blocks = λ z. i.counts.blocks (back z) ∙ ap length (sym (w.reads (back z)).blocks);
           few = i.counts.few;
-          most = omega (arith, i.counts.most, h.blocks);
+          most = i.counts.most;
+          fits = λ z. rw (h.shape) (i.counts.fits (back z));
         };
         len = i.len;
         few = i.few;
@@ -153,11 +162,11 @@ none_pushed q s i none =
     st.fits.all in
     omega (arith, p, n.pushed, n.calls, none)
 
-pub out : (q : ExtQueue) (s : RigState) → ExtQueueHasFrames s q → AreOut (counts_of q) s.pool
-out q s f = record { singles = f.tree.out; areas = f.out }
+pub out : (q : ExtQueue) (s : RigState) → HoldsFrames s q → AreOut (counts_of q) s.pool
+out q s f = record { singles = f.has.tree.out; areas = f.has.out }
 
 pub blocks_most : (q : ExtQueue) (s : RigState) → IsExtQueue s q → q.blocks ≤ q.most
-blocks_most q s i = omega (arith, i.counts.most)
+blocks_most q s i = i.counts.most
 
 pub unstored_most : (q : ExtQueue) (s : RigState) → IsExtQueue s q
     → min q.tree.trunk.buffer.blocks 1 + min q.tree.trunk.answers.blocks 1 ≤ 2
@@ -165,3 +174,6 @@ unstored_most q s i = omega arith
 
 pub rising : IsRising queue_share
 rising s m n j k h i = queue_share_rises s m n j k h i
+
+pub rising_room : IsRisingRoom tree_room
+rising_room s j k h = tree_room_rises s j k h

@@ -11,11 +11,12 @@ use Rattle.em_space.specs.declared.fault.EmFault.TheVariants.{Damaged}
 use Rattle.em_tree_cost.specs.Books.{TreeCounts}
 use Rattle.em_tree_cost.specs.ExtQueue.{after_call}
 use Rattle.em_tree.specs.Calls.{KeepsShare}
-use Rattle.em_tree_load.specs.Paid.{LosesNone}
-use Rattle.em_tree.specs.Trunk.{TrunkHasFrames, given_by, trunk_unstored}
-use Rattle.em_tree.specs.Trunk as trunks
+use Rattle.em_tree_walk.specs.Paid.{LosesNone}
+use Rattle.em_trunk.specs.Trunk.{TrunkHasFrames, given_by, trunk_unstored}
+use Rattle.em_trunk.specs.Trunk as trunks
 use Rattle.em_pqueue.specs.ExtQueue.{ExtQueueHasFrames, IsBagTree, Stands, items_in_tree, queue_blocks, queue_items, trunk_of}
 use Rattle.em_pqueue.specs.declared.queue.ExtQueue.{ExtQueue}
+use Rattle.em_pqueue.specs.Room.{QueueHolds, QueueOver}
 
 -- a call was counted
 abbrev pub counted_call : ExtQueue → ExtQueue
@@ -50,6 +51,8 @@ pub record Stops (s t : RigState) (q w : ExtQueue) (fault : EmFault) : Type 0 wh
   pub spent : w.tree.trunk.spent + s.moves ≡ q.tree.trunk.spent + t.moves
   pub same : SameCalls q w
   pub cause : Cause s t fault
+  pub room : IsTrue s.device.told → QueueHolds q.longest (queue_blocks s q) s t
+  pub over : IsTrue s.device.told → QueueOver q.longest (queue_blocks s q) s fault
 
 -- the numbers of a tree after n pushes more
 pub record PushesMore (n : ℕ) (c d : TreeCounts) : Type 0 where
@@ -66,6 +69,8 @@ pub record PushedDown (xs : List Record) (s t : RigState) (q w : ExtQueue) : Typ
   pub counts : PushesMore (length xs) (trunks.counts_of (trunk_of q)) (trunks.counts_of (trunk_of w))
   pub items : IsTrue s.device.told → items_in_tree t w ≡ with_records (items_in_tree s q) xs
   pub given : IsTrue s.device.told → given_by s (trunk_of q) ≡ [] → given_by t (trunk_of w) ≡ []
+  pub room : IsTrue s.device.told → given_by s (trunk_of q) ≡ [] → (k : ℕ) → w.tree.trunk.longest ≤ k
+      → QueueHolds k (queue_blocks s q) s t
   pub rest : w ≡ record q { tree = w.tree; in_tree = q.in_tree + length xs }
 
 -- A push after these was refused. It was counted, and the tree's moves are within its share.
@@ -78,6 +83,10 @@ pub record StopsPushing (xs : List Record) (s t : RigState) (q w : ExtQueue) (fa
   pub cause : Cause s t fault
   pub counts : PushesMore (length xs + 1) (trunks.counts_of (trunk_of q)) (trunks.counts_of (trunk_of w))
   pub share : IsTrue s.device.told → KeepsShare s.pool.shape (trunks.counts_of (trunk_of w))
+  pub room : IsTrue s.device.told → given_by s (trunk_of q) ≡ [] → (k : ℕ) → w.tree.trunk.longest ≤ k
+      → QueueHolds k (queue_blocks s q) s t
+  pub over : IsTrue s.device.told → given_by s (trunk_of q) ≡ [] → (k : ℕ) → w.tree.trunk.longest ≤ k
+      → QueueOver k (queue_blocks s q) s fault
   pub rest : w ≡ record q { tree = w.tree; in_tree = q.in_tree + length xs }
 
 -- what one push into the tree did, by its result
@@ -92,6 +101,7 @@ pub record MovesItems (s t : RigState) (q w : ExtQueue) : Type 0 where
   pub works : Works s t q w
   pub items : IsTrue s.device.told → queue_items t w ≡ queue_items s q
   pub len : w.heap.len + w.in_tree ≡ q.heap.len + q.in_tree
+  pub room : IsTrue s.device.told → QueueHolds q.longest (queue_blocks s q) s t
 
 -- what a spill did, by its result: the heap has room
 abbrev pub SpillsTo : RigState → RigState → ExtQueue → ExtQueue → Result (Unit {0}) EmFault → Type 0
@@ -109,6 +119,7 @@ pub record PutsItem (item : Record) (s t : RigState) (q w : ExtQueue) : Type 0 w
   pub works : Works s t q w
   pub items : IsTrue s.device.told → queue_items t w ≡ with_record item (queue_items s q)
   pub len : w.heap.len + w.in_tree ≡ q.heap.len + q.in_tree + 1
+  pub room : IsTrue s.device.told → QueueHolds q.longest (queue_blocks s q) s t
 
 -- what this did, by its result
 abbrev pub PutsTo : Record → RigState → RigState → ExtQueue → ExtQueue → Result (Unit {0}) EmFault
@@ -116,11 +127,25 @@ abbrev pub PutsTo : Record → RigState → RigState → ExtQueue → ExtQueue �
 PutsTo item s t q w (Ok x) = PutsItem item s t q w
 PutsTo item s t q w (Err fault) = Stops s t q w fault
 
+-- The most blocks that it held were counted, after calls before which `used` were in use, and never more than
+-- `most`.
+pub record Notes (used most : ℕ) (s : RigState) (q w : ExtQueue) : Type 0 where
+  pub within : used ≤ most
+  pub kept : s.most ≡ most → w.most ≡ q.most
+  pub risen : most < s.most → w.most ≡ max q.most (s.most - used + q.blocks)
+  pub rest : w ≡ record q { most = w.most }
+
+-- This was done, and then they were counted.
+pub record Noted (P : ExtQueue → Type 0) (used most : ℕ) (s : RigState) (w : ExtQueue) : Type 0 where
+  pub mid : ExtQueue
+  pub done : P mid
+  pub notes : Notes used most s mid w
+
 -- Its items were counted anew, and its blocks by the blocks in use: `used` were in use when it had as many as it says.
 pub record Recounts (used : ℕ) (s : RigState) (q w : ExtQueue) : Type 0 where
   pub blocks : w.blocks + used ≡ q.blocks + s.used
   pub few : w.blocks ≤ 2 ^ 41
-  pub most : w.most ≡ max q.most (s.blocks + w.blocks)
+  pub most : w.most ≡ max q.most w.blocks
   pub len : w.len ≡ q.heap.len + q.in_tree
   pub rest : w ≡ record q { blocks = w.blocks; most = w.most; len = w.len }
 

@@ -28,8 +28,9 @@ use em_tree::Tree;
 /// The most blocks that a queue may count: more than any device has.
 const MOST_BLOCKS: u64 = 1 << 41;
 
-/// A priority queue over a buffer tree. It holds an area and two frames, and states no bound on its
-/// blocks. Over a device that tells, its moves are within 240 · (q(n) + 1) · (1 + lev(q(k))).
+/// A priority queue over a buffer tree. It holds an area and two frames. Over a device that tells, its moves are
+/// within 240 · (q(n) + 1) · (1 + lev(q(k))), and its blocks, inside a call too, within
+/// 12 · (q(k) + 1) + m · (2 + lev(q(k))).
 pub struct ExtQueue {
     tree: Tree<BagSettle>,
     heap: Heap,
@@ -55,7 +56,7 @@ impl ExtQueue {
     ghost use Rattle.em_pqueue.specs.Calls.{IsNewQueue};
     ghost use Rattle.std.specs.Prelude.{◌++◌, ◌⊎◌, ◌↔◌, length, take};
     ghost use Rattle.em_pqueue.specs.ExtQueue.{GivesDown, GoesDown, IsBagTree, Stands, WantsRefill, items_in_tree, queue_items, trunk_of};
-    ghost use Rattle.em_pqueue.specs.Steps.{PushesAll, PushesDown, PutsTo, RecountsTo, RefillsTo, SpillsTo, TakesItem, TakesOver, counted_call};
+    ghost use Rattle.em_pqueue.specs.Steps.{Noted, Notes, PushesAll, PushesDown, PutsTo, RecountsTo, RefillsTo, SpillsTo, TakesItem, TakesOver, counted_call};
     ghost use Rattle.em_settle.specs.Bag.{bag_key_of};
     ghost use Rattle.em_settle.specs.Rising.{RisesByKey};
     ghost use Rattle.em_tree.specs.Calls.{StopsNewTrunk};
@@ -82,7 +83,7 @@ impl ExtQueue {
             longest: 0,
             since: 0,
             blocks,
-            most: rig.blocks() + blocks,
+            most: blocks,
         })
     }
 
@@ -110,11 +111,25 @@ impl ExtQueue {
         match blocks {
             Some(blocks) if blocks <= MOST_BLOCKS => {
                 self.blocks = blocks;
-                self.most = self.most.max(rig.blocks() + blocks);
+                self.most = self.most.max(blocks);
                 self.len = self.heap.len() as u64 + self.in_tree;
                 Ok(())
             }
             _ => Err(self.tree.damaged()),
+        }
+    }
+
+    /// Counts the most blocks that it held in calls of its tree, before which `used` were in use, and never more
+    /// than `most`.
+    fn note_most<D: Device>(&mut self, rig: &Rig<'_, D>, used: u64, most: u64)
+        requires sound { Sound (seen D.state rig.now) }
+        requires within { used ≤ most }
+        requires later { most ≤ (seen D.state rig.now).most }
+        requires few { self.old.blocks ≤ 2 ^ 41 }
+        ensures { Notes used most (seen D.state rig.now) self.old self.new }
+    {
+        if rig.most() > most {
+            self.most = self.most.max(rig.most() - used + self.blocks);
         }
     }
 
@@ -125,9 +140,31 @@ impl ExtQueue {
         self.in_tree > 0 && item >= self.bound
     }
 
+    /// Puts an item into the part that it belongs to, and counts the most blocks that it held meanwhile.
+    fn put<D: Device>(&mut self, rig: &mut Rig<'_, D>, item: Record) -> Result<(), EmFault>
+        requires sound { Sound (seen D.state rig.old) }
+        requires stands { Stands after_call (seen D.state rig.old) self.old }
+        requires free { CanServe (seen D.state rig.old).pool }
+        requires few { self.old.calls ≤ 2 ^ 100 }
+        requires blocks { self.old.blocks ≤ 2 ^ 41 }
+        requires limit { self.old.heap.len + self.old.in_tree < 2 ^ 56 }
+        requires lacks { IsTrue (seen D.state rig.old).device.told
+            → Lacks item (queue_items (seen D.state rig.old) self.old) }
+        ensures puts { Noted (λ mid. PutsTo item (seen D.state rig.old) (seen D.state rig.new) self.old mid result)
+            (seen D.state rig.old).used (seen D.state rig.old).most (seen D.state rig.new) self.new }
+        ensures needs { OnErr result (GivesDown self.old item) }
+        ensures still { (GivesDown self.old item → ⊥) → seen D.state rig.new ≡ seen D.state rig.old }
+    {
+        let used = rig.used();
+        let most = rig.most();
+        let done = self.put_in(rig, item);
+        self.note_most(rig, used, most);
+        done
+    }
+
     /// Puts an item into the part that it belongs to. A full heap gives its upper half to the tree
     /// first, which may set the bound below the item.
-    fn put<D: Device>(&mut self, rig: &mut Rig<'_, D>, item: Record) -> Result<(), EmFault>
+    fn put_in<D: Device>(&mut self, rig: &mut Rig<'_, D>, item: Record) -> Result<(), EmFault>
         requires sound { Sound (seen D.state rig.old) }
         requires stands { Stands after_call (seen D.state rig.old) self.old }
         requires free { CanServe (seen D.state rig.old).pool }
@@ -220,8 +257,27 @@ impl ExtQueue {
         Ok(())
     }
 
-    /// Fills a heap with no item from the tree, if this has one.
+    /// Fills a heap with no item from the tree, and counts the most blocks that it held meanwhile.
     fn refill<D: Device>(&mut self, rig: &mut Rig<'_, D>) -> Result<(), EmFault>
+        requires sound { Sound (seen D.state rig.old) }
+        requires stands { Stands after_call (seen D.state rig.old) self.old }
+        requires free { CanServe (seen D.state rig.old).pool }
+        requires few { self.old.calls ≤ 2 ^ 100 }
+        requires blocks { self.old.blocks ≤ 2 ^ 41 }
+        ensures refills { Noted (λ mid. RefillsTo (seen D.state rig.old) (seen D.state rig.new) self.old mid result)
+            (seen D.state rig.old).used (seen D.state rig.old).most (seen D.state rig.new) self.new }
+        ensures needs { OnErr result (WantsRefill self.old) }
+        ensures still { (WantsRefill self.old → ⊥) → seen D.state rig.new ≡ seen D.state rig.old }
+    {
+        let used = rig.used();
+        let most = rig.most();
+        let done = self.refill_heap(rig);
+        self.note_most(rig, used, most);
+        done
+    }
+
+    /// Fills a heap with no item from the tree, if this has one.
+    fn refill_heap<D: Device>(&mut self, rig: &mut Rig<'_, D>) -> Result<(), EmFault>
         requires sound { Sound (seen D.state rig.old) }
         requires stands { Stands after_call (seen D.state rig.old) self.old }
         requires free { CanServe (seen D.state rig.old).pool }
@@ -277,9 +333,10 @@ impl Queue for ExtQueue {
     ghost use Rattle.em_space.specs.Held.{Within};
     ghost use Rattle.em_space.specs.Queue.{Ended, Ends, LacksBlocks, Pays, Served, Serves};
     ghost use Rattle.em_space.specs.Rig.{Cause, IfFull};
-    ghost use Rattle.em_pqueue.specs.ExtQueue.{ExtQueueHasFrames, GivesDown, IsExtQueue, WantsRefill, any_blocks, counts_of, queue_blocks, queue_items};
+    ghost use Rattle.em_pqueue.specs.ExtQueue.{GivesDown, HoldsFrames, IsExtQueue, WantsRefill, any_blocks, counts_of, queue_blocks, queue_items};
     ghost use Rattle.em_pqueue.specs.QueueLaws as laws;
-    ghost use Rattle.em_tree_cost.specs.Shares.{queue_share};
+    ghost use Rattle.em_pqueue.specs.Room.{QueueHolds, QueueOver};
+    ghost use Rattle.em_tree_cost.specs.Shares.{queue_share, tree_room};
 
     ghost items = { λ q s. queue_items s q };
 
@@ -287,13 +344,13 @@ impl Queue for ExtQueue {
 
     ghost IsQueue = { λ q s. IsExtQueue s q };
 
-    ghost HasItsFrames = { λ q s. ExtQueueHasFrames s q };
+    ghost HasItsFrames = { λ q s. HoldsFrames s q };
 
     ghost counts = { counts_of };
 
     ghost allowance = { Some queue_share };
 
-    ghost room = { None };
+    ghost room = { Some tree_room };
 
     ghost enough = { any_blocks };
 
@@ -313,11 +370,11 @@ impl Queue for ExtQueue {
 
     ghost out = { laws.out };
 
-    ghost spent_most = { λ q s h. h.spent_most };
+    ghost spent_most = { λ q s h. h.has.spent_most };
 
-    ghost k_most = { λ q s h. h.k_most };
+    ghost k_most = { λ q s h. h.has.k_most };
 
-    ghost since_most = { λ q s h. h.since_most };
+    ghost since_most = { λ q s h. h.has.since_most };
 
     ghost since_none = { λ q s h. h.since_none };
 
@@ -327,11 +384,11 @@ impl Queue for ExtQueue {
 
     ghost rising = { laws.rising };
 
-    ghost spends = { λ q s h. h.share };
+    ghost spends = { λ q s h. h.has.share };
 
-    ghost rising_room = { tt };
+    ghost rising_room = { laws.rising_room };
 
-    ghost fits = { λ q s h. tt };
+    ghost fits = { λ q s h. h.fits };
 
     /// Adds an item. `Full` comes only if all blocks are in use, and the item goes into the tree or the heap
     /// is full (`needs`); else the call changes nothing of the rig, and makes no move (`still`).
@@ -345,7 +402,7 @@ impl Queue for ExtQueue {
             → Lacks item (queue_items (seen D.state rig.old) self.old) }
         ensures serves { Serves (queue_blocks (seen D.state rig.old) self.old)
             (counts_of self.old) (counts_of self.new) (seen D.state rig.old) (seen D.state rig.new) }
-        ensures frames { ExtQueueHasFrames (seen D.state rig.new) self.new }
+        ensures frames { HoldsFrames (seen D.state rig.new) self.new }
         ensures is { OnOk result (IsExtQueue (seen D.state rig.new) self.new) }
         ensures items { OnOk result (IsTrue (seen D.state rig.old).device.told
             → queue_items (seen D.state rig.new) self.new
@@ -359,11 +416,15 @@ impl Queue for ExtQueue {
         ensures owes { OnErr result (Pays (counts_of self.old).unstored
             (seen D.state rig.old).pool.shape.frames
             (seen D.state rig.old) (seen D.state rig.new)) }
-        ensures full { IfErr result (λ fault. IfFull fault (LacksBlocks any_blocks None
+        ensures full { IfErr result (λ fault. IfFull fault (LacksBlocks any_blocks (Some tree_room)
             (counts_of self.old) (counts_of self.new).k (seen D.state rig.old))) }
         ensures needs { IfErr result (λ fault. IfFull fault (λ _. GivesDown self.old item)) }
         ensures still { (GivesDown self.old item → ⊥) → seen D.state rig.new ≡ seen D.state rig.old }
         ensures cause { IfErr result (Cause (seen D.state rig.old) (seen D.state rig.new)) }
+        ensures room { IsTrue (seen D.state rig.old).device.told → QueueHolds (counts_of self.new).k
+            (queue_blocks (seen D.state rig.old) self.old) (seen D.state rig.old) (seen D.state rig.new) }
+        ensures over { IfErr result (λ fault. IsTrue (seen D.state rig.old).device.told → QueueOver (counts_of self.new).k
+            (queue_blocks (seen D.state rig.old) self.old) (seen D.state rig.old) fault) }
     {
         let used = rig.used();
         self.count_call();
@@ -381,7 +442,7 @@ impl Queue for ExtQueue {
         requires few { (counts_of self.old).n < 2 ^ 100 }
         ensures serves { Serves (queue_blocks (seen D.state rig.old) self.old)
             (counts_of self.old) (counts_of self.new) (seen D.state rig.old) (seen D.state rig.new) }
-        ensures frames { ExtQueueHasFrames (seen D.state rig.new) self.new }
+        ensures frames { HoldsFrames (seen D.state rig.new) self.new }
         ensures is { OnOk result (IsExtQueue (seen D.state rig.new) self.new) }
         ensures items { IfOk result (λ item. IsTrue (seen D.state rig.old).device.told
             → queue_items (seen D.state rig.old) self.old
@@ -397,11 +458,15 @@ impl Queue for ExtQueue {
         ensures owes { OnErr result (Pays (counts_of self.old).unstored
             (seen D.state rig.old).pool.shape.frames
             (seen D.state rig.old) (seen D.state rig.new)) }
-        ensures full { IfErr result (λ fault. IfFull fault (LacksBlocks any_blocks None
+        ensures full { IfErr result (λ fault. IfFull fault (LacksBlocks any_blocks (Some tree_room)
             (counts_of self.old) (counts_of self.new).k (seen D.state rig.old))) }
         ensures needs { IfErr result (λ fault. IfFull fault (λ _. WantsRefill self.old)) }
         ensures still { (WantsRefill self.old → ⊥) → seen D.state rig.new ≡ seen D.state rig.old }
         ensures cause { IfErr result (Cause (seen D.state rig.old) (seen D.state rig.new)) }
+        ensures room { IsTrue (seen D.state rig.old).device.told → QueueHolds (counts_of self.new).k
+            (queue_blocks (seen D.state rig.old) self.old) (seen D.state rig.old) (seen D.state rig.new) }
+        ensures over { IfErr result (λ fault. IsTrue (seen D.state rig.old).device.told → QueueOver (counts_of self.new).k
+            (queue_blocks (seen D.state rig.old) self.old) (seen D.state rig.old) fault) }
     {
         let used = rig.used();
         self.count_call();
@@ -438,19 +503,23 @@ impl Queue for ExtQueue {
         requires sound { Sound (seen D.state rig.old) }
         requires is { IsExtQueue (seen D.state rig.old) self }
         requires free { CanServe (seen D.state rig.old).pool }
-        ensures ends { Ends (Some queue_share) None (queue_blocks (seen D.state rig.old) self)
+        ensures ends { Ends (Some queue_share) (Some tree_room) (queue_blocks (seen D.state rig.old) self)
             (counts_of self) (seen D.state rig.old) (seen D.state rig.new) }
         ensures ended { OnOk result
             (Ended (counts_of self) (seen D.state rig.old) (seen D.state rig.new)) }
         ensures owes { OnErr result (Pays (counts_of self).unstored
             (seen D.state rig.old).pool.shape.frames
             (seen D.state rig.old) (seen D.state rig.new)) }
-        ensures full { IfErr result (λ fault. IfFull fault (LacksBlocks any_blocks None
+        ensures full { IfErr result (λ fault. IfFull fault (LacksBlocks any_blocks (Some tree_room)
             (counts_of self) (counts_of self).k (seen D.state rig.old))) }
         ensures needs { IfErr result (λ fault. IfFull fault (λ _. self.tree.trunk.pushed ≡ 0 → ⊥)) }
         ensures unused { IsTrue (seen D.state rig.old).device.told → self.tree.trunk.pushed ≡ 0
             → (seen D.state rig.new).moves ≤ (seen D.state rig.old).moves + 4 }
         ensures cause { IfErr result (Cause (seen D.state rig.old) (seen D.state rig.new)) }
+        ensures room { IsTrue (seen D.state rig.old).device.told → QueueHolds (counts_of self).k
+            (queue_blocks (seen D.state rig.old) self) (seen D.state rig.old) (seen D.state rig.new) }
+        ensures over { IfErr result (λ fault. IsTrue (seen D.state rig.old).device.told → QueueOver (counts_of self).k
+            (queue_blocks (seen D.state rig.old) self) (seen D.state rig.old) fault) }
     {
         let ExtQueue {
             tree,

@@ -2,3 +2,4 @@ pub mod Beside
 pub mod Popped
 mod PoppedRows
 pub mod Queued
+pub mod Room

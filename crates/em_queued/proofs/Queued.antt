@@ -3,18 +3,20 @@ use Rattle.std.proofs.Common.{◌≡◌, ℕ, ◌+◌, ◌==◌, ◌≤◌, Bool
 use Rattle.em_record.specs.Shape.{ShapeNumbers, fan_of}
 use Rattle.em_frames.specs.Pool.{PoolCounts, SameFrames, singles_of}
 use Rattle.em_space.specs.Held.{Apart, Holds, Within}
-use Rattle.em_space.specs.Ledger.{Account, both, Runs, Stops}
-use Rattle.em_space.specs.Queue.{AreOut, CanServe, Pays, QueueCounts, Served, Serves, Shares}
-use Rattle.em_space.specs.Rig.{RigState, Sound, Touches, Cause}
+use Rattle.em_space.specs.Ledger.{Account, both, Halts, Runs, Stops}
+use Rattle.em_space.specs.Queue.{AreOut, CanServe, LacksBlocks, Pays, QueueCounts, Served, Serves, Shares}
+use Rattle.em_space.specs.Rig.{RigState, Sound, Touches, Goes, Cause, BlockCause, IfFull}
 use Rattle.em_space.specs.declared.fault.EmFault.{EmFault}
 use Rattle.em_space.proofs.Apart.{off_left}
 use Rattle.em_space.proofs.Lists.{distinct_apart}
 use Rattle.em_space.proofs.Paying.{pays_more, pays_then}
 use Rattle.em_space.proofs.Queues.{out_same, shares_same, shares_then}
 use Rattle.em_space.proofs.Runs.{runs_as, runs_first, runs_none, runs_of, runs_second, runs_then, runs_wider}
-use Rattle.em_space.proofs.Steps.{cause_after, touches_wider}
+use Rattle.em_space.proofs.Steps.{block_cause, cause_after, touches_wider}
 use Rattle.em_space.proofs.Within.{goes_wider, touches_within, within_right}
 use Rattle.em_queued.specs.Queued.{queue_account, Called, CallsOn, RunsBeside, StopsBeside}
+use Rattle.em_queued.specs.Room.{FitsRoom, FullBeside, StatedRoom}
+use Rattle.em_queued.proofs.Room.{full_others, full_queue, full_then, full_unneeded, full_wider}
 
 -- No call came,
 pub called_none : (c : QueueCounts) → Called 0 c c
@@ -181,11 +183,12 @@ pub beside_as : {i p : ℕ} {held ks : List ℕ} {a b : Account} {c d : QueueCou
 beside_as js h e = record { runs = runs_as js h.runs e; calls_on = h.calls_on }
 
 -- A call of a queue was refused.
-pub queue_stops : {ks : List ℕ} {c d : QueueCounts} {s t : RigState} {fault : EmFault}
-    (ys : List ℕ) (x : Account) → Serves ks c d s t
-    → Pays c.unstored s.pool.shape.frames s t → Cause s t fault
-    → StopsBeside 1 x.blocks x.paid x.unstored (ks ++ ys) x c d s t fault
-queue_stops {ks} {c} {d} {s} {t} {fault} ys x v p e = record {
+pub queue_stops : {room : StatedRoom} {ks : List ℕ} {c d : QueueCounts} {s t : RigState}
+    {fault : EmFault} (enough : ShapeNumbers → QueueCounts → ℕ) (ys : List ℕ) (x : Account)
+    → Serves ks c d s t → Pays c.unstored s.pool.shape.frames s t → Cause s t fault
+    → IfFull fault (LacksBlocks enough room c d.k s)
+    → StopsBeside room 1 x.blocks x.paid x.unstored (ks ++ ys) x c d s t fault
+queue_stops {ks = ks} {c} {d} {s} {t} {fault} enough ys x v p e lacks = record {
   sound = v.sound;
   touches = touches_wider (ks ++ ys) ks s t v.touches (λ z k u o. off_left k ks ys o);
   frames = v.frames;
@@ -194,13 +197,16 @@ queue_stops {ks} {c} {d} {s} {t} {fault} ys x v p e = record {
   moves = omega (arith, v.spent);
   pays = pays_more p (omega arith);
   cause = e;
+  full = full_queue enough x.blocks fault lacks;
 }
 
--- A call on another value was refused.
-pub others_stop : {p l u : ℕ} {ks : List ℕ} {a : Account} {s t : RigState} {fault : EmFault}
-    (qs : List ℕ) (c : QueueCounts) → Stops p l u ks a s t fault → c.blocks ≤ c.most
-    → c.unstored ≤ s.pool.shape.frames → StopsBeside 0 p l u (qs ++ ks) a c c s t fault
-others_stop {p} {l} {u} {ks} {a} {s} {t} {fault} qs c h m n = record {
+-- A call on another value was refused,
+others_by : {room : StatedRoom} {p l u : ℕ} {ks : List ℕ} {a : Account} {s t : RigState}
+    {fault : EmFault} (qs : List ℕ) (c : QueueCounts) → Stops p l u ks a s t fault
+    → c.blocks ≤ c.most → c.unstored ≤ s.pool.shape.frames
+    → FullBeside room a.blocks p c c.k s fault
+    → StopsBeside room 0 p l u (qs ++ ks) a c c s t fault
+others_by {p = p} {l} {u} {ks} {a} {s} {t} {fault} qs c h m n full = record {
   sound = h.goes.sound;
   touches = (goes_wider (qs ++ ks) ks s t (within_right s qs ks) h.goes).touches;
   frames = shares_same c s.pool t.pool h.goes.frames;
@@ -209,14 +215,31 @@ others_stop {p} {l} {u} {ks} {a} {s} {t} {fault} qs c h m n = record {
   moves = omega (arith, h.halts.moves);
   pays = pays_more h.halts.pays (omega (arith, n));
   cause = h.cause;
+  full = full;
 }
 
+pub others_stop : {room : StatedRoom} {p l u : ℕ} {ks : List ℕ} {a : Account} {s t : RigState}
+    {fault : EmFault} (qs : List ℕ) (c : QueueCounts) → Stops p l u ks a s t fault
+    → c.blocks ≤ c.most → c.unstored ≤ s.pool.shape.frames → FitsRoom room c s
+    → StopsBeside room 0 p l u (qs ++ ks) a c c s t fault
+others_stop {fault = fault} qs c h m n fits =
+    others_by qs c h m n (full_others c fault m fits h.halts h.cause)
+
+-- or one that needs no block.
+pub others_never : {room : StatedRoom} {p l u : ℕ} {ks : List ℕ} {a : Account} {s t : RigState}
+    {fault : EmFault} (qs : List ℕ) (c : QueueCounts) → Goes ks s t → Halts p l u a s t fault
+    → BlockCause s t fault → c.blocks ≤ c.most → c.unstored ≤ s.pool.shape.frames
+    → StopsBeside room 0 p l u (qs ++ ks) a c c s t fault
+others_never {p = p} {a = a} {s} {t} {fault} qs c g h e m n =
+    others_by qs c (record { goes = g; halts = h; cause = block_cause s t fault e }) m n
+    (full_unneeded s t fault e)
+
 -- The last call was refused.
-pub stops_then : {i j p q l u : ℕ} {held ks : List ℕ} {a b : Account} {c d e : QueueCounts}
-    {s t v : RigState} {fault : EmFault} → RunsBeside i p held ks a b c d s t
-    → StopsBeside j q l u ks b d e t v fault
-    → StopsBeside (i + j) (max p q) l u held a c e s v fault
-stops_then {i} {j} {p} {q} {l} {u} {held} {ks} {a} {b} {c} {d} {e} {s} {t} {v} {fault} h g =
+pub stops_then : {room : StatedRoom} {i j p q l u : ℕ} {held ks : List ℕ} {a b : Account}
+    {c d e : QueueCounts} {s t v : RigState} {fault : EmFault} → RunsBeside i p held ks a b c d s t
+    → StopsBeside room j q l u ks b d e t v fault
+    → StopsBeside room (i + j) (max p q) l u held a c e s v fault
+stops_then {i = i} {j} {p} {q} {l} {u} {held} {ks} {a} {b} {c} {d} {e} {s} {t} {v} {fault} h g =
     let x = h.runs.spends in
     let first = h.runs.session.touches in
     let shape : t.pool.shape.frames ≡ s.pool.shape.frames =
@@ -231,13 +254,14 @@ stops_then {i} {j} {p} {q} {l} {u} {held} {ks} {a} {b} {c} {d} {e} {s} {t} {v} {
       moves = omega (arith, x.moves, g.moves);
       pays = pays_then x.pays (pays_more g.pays (omega (arith, shape))) g.touches.moves;
       cause = cause_after held s t v fault first g.cause;
+      full = full_then h (omega arith) g.full;
     }
 
 -- fewer calls, blocks and moves than said
-pub stops_wider : {i j p q l m u w : ℕ} {held : List ℕ} {a : Account} {c d : QueueCounts}
-    {s t : RigState} {fault : EmFault} → i ≤ j → p ≤ q → l ≤ m → u ≤ w
-    → StopsBeside i p l u held a c d s t fault → StopsBeside j q m w held a c d s t fault
-stops_wider {i} {j} {p} {q} {l} {m} {u} {w} {held} {a} {c} {d} {s} {t} {fault} x y z n h = record {
+pub stops_wider : {room : StatedRoom} {i j p q l m u w : ℕ} {held : List ℕ} {a : Account}
+    {c d : QueueCounts} {s t : RigState} {fault : EmFault} → i ≤ j → p ≤ q → l ≤ m → u ≤ w
+    → StopsBeside room i p l u held a c d s t fault → StopsBeside room j q m w held a c d s t fault
+stops_wider {i = i} {j} {p} {q} {l} {m} {u} {w} {held} {a} {c} {d} {s} {t} {fault} x y z n h = record {
   sound = h.sound;
   touches = h.touches;
   frames = h.frames;
@@ -246,6 +270,7 @@ stops_wider {i} {j} {p} {q} {l} {m} {u} {w} {held} {a} {c} {d} {s} {t} {fault} x
   moves = omega (arith, z, h.moves);
   pays = pays_more h.pays (omega (arith, n));
   cause = h.cause;
+  full = full_wider (omega (arith, y)) h.full;
 }
 
 -- After calls that weren't refused as many frames are free for the next one,

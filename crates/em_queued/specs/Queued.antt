@@ -4,6 +4,7 @@ use Rattle.em_space.specs.Ledger.{Account, both, Runs}
 use Rattle.em_space.specs.Queue.{Pays, QueueCounts, Shares}
 use Rattle.em_space.specs.Rig.{RigState, Sound, Touches, Cause}
 use Rattle.em_space.specs.declared.fault.EmFault.{EmFault}
+use Rattle.em_queued.specs.Room.{FullBeside, StatedRoom}
 
 -- the account of a queue: its blocks are paid by the moves of its calls
 abbrev pub queue_account : QueueCounts → Account
@@ -35,11 +36,11 @@ pub record RunsBeside (calls peak : ℕ) (held ks : List ℕ) (a b : Account) (c
       first now
   pub calls_on : CallsOn calls c d
 
--- Such calls, of which the last one was refused, with at most this many moves beyond those of the
--- queue and those that the others owed. At most as many blocks as there are frames, and this many
--- more, aren't stored.
-pub record StopsBeside (calls peak limit unstored : ℕ) (held : List ℕ) (a : Account)
-    (c d : QueueCounts) (first now : RigState) (fault : EmFault) : Type 0 where
+-- Such calls of a queue that states this room, or none, of which the last one was refused, with at most
+-- this many moves beyond those of the queue and those that the others owed. At most as many blocks as there
+-- are frames, and this many more, aren't stored.
+pub record StopsBeside (room : StatedRoom) (calls peak limit unstored : ℕ) (held : List ℕ)
+    (a : Account) (c d : QueueCounts) (first now : RigState) (fault : EmFault) : Type 0 where
   pub sound : Sound now
   pub touches : Touches held first now
   pub frames : Shares c d first.pool now.pool
@@ -49,3 +50,4 @@ pub record StopsBeside (calls peak limit unstored : ℕ) (held : List ℕ) (a : 
   pub moves : now.moves + (c.spent + a.paid) ≤ first.moves + (a.owed + d.spent) + limit
   pub pays : Pays (c.unstored + a.unstored) (first.pool.shape.frames + unstored) first now
   pub cause : Cause first now fault
+  pub full : FullBeside room a.blocks peak c d.k first fault

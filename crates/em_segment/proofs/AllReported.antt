@@ -33,11 +33,11 @@ use Rattle.em_segment_model.specs.Bounds.{holds, pays}
 use Rattle.em_segment_model.specs.Points.{pairs_due}
 use Rattle.em_segment_model.specs.Sizes.{fan_root, strip_levels}
 use Rattle.em_segment_model.specs.Spans.{ends_of}
-use Rattle.em_segment.specs.Accounts.{beside_pairs, stored}
+use Rattle.em_segment_parts.specs.Accounts.{beside_pairs, stored}
 use Rattle.em_segment.specs.Answers.{Answered, CanAnswer, StopsAnswering, WithinCall, call_blocks, due}
-use Rattle.em_segment.specs.Chains.{IsPackedChain}
+use Rattle.em_segment_parts.specs.Chains.{IsPackedChain}
 use Rattle.em_segment.specs.Finishes.{CanReportAll, ReportsAll, ReportsAllTo, StopsReportingAll}
-use Rattle.em_segment.specs.Reports.{unstored_most}
+use Rattle.em_segment_parts.specs.Reports.{unstored_most}
 use Rattle.em_segment.proofs.Closing.{closed_session, packed_stays}
 use Rattle.em_segment.proofs.StabCalls.{pairs_begin}
 

@@ -17,13 +17,13 @@ use Rattle.em_segment_model.specs.Points.{interval_in, pairs_below}
 use Rattle.em_segment_model.specs.Spans.{ends_below}
 use Rattle.em_segment.specs.Answers.{CanAnswer, call_blocks, due, weight}
 use Rattle.em_segment.specs.Belows.{AreBelow, AreCalls, AreSorted, CanAnswerBelow, below_due, below_weight, pieces_of, points_of, strips_blocks, strips_held}
-use Rattle.em_segment.specs.Chains.{chains_count, chains_lists}
-use Rattle.em_segment.specs.Reports.{Reports, StopsReporting}
+use Rattle.em_segment_parts.specs.Chains.{chains_count, chains_lists}
+use Rattle.em_segment_parts.specs.Reports.{Reports, StopsReporting}
 use Rattle.em_segment.specs.declared.node.Below.{Below}
 use Rattle.em_segment.proofs.BelowLists.{IsCallOf, StripsStay, blocks_last, calls_last, calls_length, count_last, due_last, held_last, lists_last, sorted_last, strips_filled, strips_stay, weight_last}
-use Rattle.em_segment.proofs.Parting.{reports_beside, reports_as, stops_beside, stops_as}
-use Rattle.em_segment.proofs.Parts.{reports_pairs}
-use Rattle.em_segment.proofs.Regrouping.{SameTally, holds_first, holds_same, tally, tally_append, tally_beside, tally_is, tally_last}
+use Rattle.em_segment_parts.proofs.Parting.{reports_beside, reports_as, stops_beside, stops_as}
+use Rattle.em_segment_parts.proofs.Parts.{reports_pairs}
+use Rattle.em_segment_parts.proofs.Regrouping.{SameTally, holds_first, holds_same, tally, tally_append, tally_beside, tally_is, tally_last}
 
 -- A strip was taken off the end.
 pub record TakesLast (b d : Below) (p q : Chain) : Type 0 where

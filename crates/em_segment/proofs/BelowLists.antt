@@ -15,10 +15,10 @@ use Rattle.em_segment_model.specs.Points.{interval_in, pairs_below, pairs_due}
 use Rattle.em_segment_model.specs.Spans.{ends_below, ends_of}
 use Rattle.em_segment.specs.Answers.{call_blocks}
 use Rattle.em_segment.specs.Belows.{AreCalls, AreSorted, strips_blocks, strips_held}
-use Rattle.em_segment.specs.Chains.{IsPackedChain, chains_blocks, chains_count, chains_held, chains_in, chains_lists}
-use Rattle.em_segment.specs.declared.list.Listed.{Listed}
+use Rattle.em_segment_parts.specs.Chains.{IsPackedChain, chains_blocks, chains_count, chains_held, chains_in, chains_lists}
+use Rattle.em_segment_parts.specs.declared.list.Listed.{Listed}
 use Rattle.em_segment.proofs.CallSizes.{chain_filled, weight_least}
-use Rattle.em_segment.proofs.Regrouping.{SameTally, tally_append}
+use Rattle.em_segment_parts.proofs.Regrouping.{SameTally, tally_append}
 
 pub chains_last : (ls : List Listed) (c : Chain)
     → chains_in (ls ++ record { chain = c } ∷ []) ≡ chains_in ls ++ c ∷ []

@@ -21,16 +21,16 @@ use Rattle.em_segment_model.proofs.Levels.{levels_rise}
 use Rattle.em_segment_model.proofs.Room.{child_holds, holds_rise}
 use Rattle.em_segment.specs.Answers.{Answered, AnswersTo, StopsAnswering, due, weight}
 use Rattle.em_segment.specs.Belows.{AnswersBelow, AnswersBelowTo, AnswersLast, AnswersLastTo, CanAnswerBelow, StopsBelow, StopsLast, below_due, below_weight, pieces_of, points_of, strips_blocks, strips_held}
-use Rattle.em_segment.specs.Chains.{chains_count, chains_in}
-use Rattle.em_segment.specs.Reports.{Reports}
+use Rattle.em_segment_parts.specs.Chains.{chains_count, chains_in}
+use Rattle.em_segment_parts.specs.Reports.{Reports}
 use Rattle.em_segment.specs.declared.node.Below.{Below}
-use Rattle.em_segment.proofs.Alikes.{alike_length, alike_same}
+use Rattle.em_segment_parts.proofs.Alikes.{alike_length, alike_same}
 use Rattle.em_segment.proofs.BelowAnswers.{TakesLast, last_count, last_due, last_length, last_reports, last_some, last_stops, last_weight, others_can, others_due, others_filled, others_weight}
 use Rattle.em_segment.proofs.BelowLists.{chains_last, strips_filled}
 use Rattle.em_segment.proofs.CallSizes.{max_within}
-use Rattle.em_segment.proofs.Parting.{reports_none, reports_as}
-use Rattle.em_segment.proofs.Parts.{reports_stop, reports_then}
-use Rattle.em_segment.proofs.Regrouping.{tally_is}
+use Rattle.em_segment_parts.proofs.Parting.{reports_none, reports_as}
+use Rattle.em_segment_parts.proofs.Parts.{reports_stop, reports_then}
+use Rattle.em_segment_parts.proofs.Regrouping.{tally_is}
 
 -- as much room as the calls of some strips may take
 abbrev pub below_room : ℕ → RigState → Below → ℕ

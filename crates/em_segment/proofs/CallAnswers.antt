@@ -28,14 +28,14 @@ use Rattle.em_segment_model.proofs.Room.{holds_rise, level_holds}
 use Rattle.em_segment_model.proofs.Roots.{shape_sized}
 use Rattle.em_segment.specs.Answers.{Answered, AnswersTo, CanAnswer, DiscardsTo, IsCall, StopsAnswering, WithinCall, call_blocks, due, weight}
 use Rattle.em_segment.specs.Belows.{AnswersBelow, AnswersBelowTo, AnswersNode, AreCalls, CanAnswerBelow, StopsBelow, WithinBelow, below_due, below_weight, pieces_of, points_of}
-use Rattle.em_segment.specs.Chains.{chains_count, chains_lists}
+use Rattle.em_segment_parts.specs.Chains.{chains_count, chains_lists}
 use Rattle.em_segment.specs.declared.node.Below.{Below}
-use Rattle.em_segment.proofs.Alikes.{alike_length, alike_same}
+use Rattle.em_segment_parts.proofs.Alikes.{alike_length, alike_same}
 use Rattle.em_segment.proofs.CallSizes.{call_within, max_within}
-use Rattle.em_segment.proofs.Gets.{nil_of}
-use Rattle.em_segment.proofs.Parts.{reports_pairs, reports_stop, reports_then, shift_reports, shift_stops}
-use Rattle.em_segment.proofs.Regrouping.{holds_first}
-use Rattle.em_segment.proofs.StripLoads.{load_some}
+use Rattle.em_segment_parts.proofs.Gets.{nil_of}
+use Rattle.em_segment_parts.proofs.Parts.{reports_pairs, reports_stop, reports_then, shift_reports, shift_stops}
+use Rattle.em_segment_parts.proofs.Regrouping.{holds_first}
+use Rattle.em_segment_parts.proofs.StripLoads.{load_some}
 
 -- no piece, no pair
 pub none_at : (ps : List Asked) → all_pairs ps [] ≡ []

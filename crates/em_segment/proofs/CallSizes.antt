@@ -14,7 +14,7 @@ use Rattle.em_segment_model.specs.Sizes.{fan_root, strip_levels}
 use Rattle.em_segment_model.proofs.Cost.{leaf_pays}
 use Rattle.em_segment_model.proofs.Room.{leaf_holds}
 use Rattle.em_segment.specs.Answers.{IsCall, WithinCall, due, weight}
-use Rattle.em_segment.specs.Chains.{IsPackedChain}
+use Rattle.em_segment_parts.specs.Chains.{IsPackedChain}
 
 -- A packed chain has a block more than its records fill, at most.
 pub chain_filled : {s : RigState} {c : Chain} → Sound s → IsPackedChain s c → IsTrue s.device.told

@@ -23,12 +23,12 @@ use Rattle.em_chain.specs.declared.chain.Chain.{Chain}
 use Rattle.em_chain.specs.declared.writer.Writer.{Writer}
 use Rattle.em_chain.proofs.Laws.{chain_stays, writer_stays}
 use Rattle.em_chain.proofs.Writings.{cause_still}
-use Rattle.em_segment.specs.Chains.{IsPackedChain}
+use Rattle.em_segment_parts.specs.Chains.{IsPackedChain}
 use Rattle.em_segment.specs.Finishes.{ClosesBoth, ClosesTo, StopsClosing}
-use Rattle.em_segment.specs.Pairs.{IsPairs}
+use Rattle.em_segment_parts.specs.Pairs.{IsPairs}
 use Rattle.em_segment.specs.Stabs.{IsStab, StabHasFrames, stab_blocks}
 use Rattle.em_segment.specs.declared.stab.Stab.{Stab}
-use Rattle.em_segment.proofs.Regrouping.{session_same, tally_swap}
+use Rattle.em_segment_parts.proofs.Regrouping.{session_same, tally_swap}
 
 -- A list that was finished.
 pub closed_list : {s t : RigState} {w : Writer} {c : Chain} → t.device.told ≡ s.device.told

@@ -9,9 +9,9 @@ use Rattle.em_chain.specs.Row.{Frees}
 use Rattle.em_chain.specs.declared.chain.Chain.{Chain}
 use Rattle.em_chain.proofs.Laws.{chain_stays}
 use Rattle.em_segment.specs.Answers.{DiscardsTo, call_blocks}
-use Rattle.em_segment.specs.Reports.{Shifts, StopsShifting}
-use Rattle.em_segment.proofs.Dropping.{discard_stops, discards}
-use Rattle.em_segment.proofs.Parts.{shift_left, shift_left_stops, shifting_wider, shifts_stop, shifts_then, shifts_wider}
+use Rattle.em_segment_parts.specs.Reports.{Shifts, StopsShifting}
+use Rattle.em_segment_parts.proofs.Dropping.{discard_stops, discards}
+use Rattle.em_segment_parts.proofs.Parts.{shift_left, shift_left_stops, shifting_wider, shifts_stop, shifts_then, shifts_wider}
 
 -- The pieces stay while the points are released.
 pub pieces_stay : {s t : RigState} (points pieces : Chain) → IsChain s pieces

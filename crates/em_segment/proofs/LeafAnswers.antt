@@ -17,16 +17,16 @@ use Rattle.em_chain.proofs.Laws.{chain_stays}
 use Rattle.em_segment_model.specs.Alike.{Alike}
 use Rattle.em_segment_model.specs.Loads.{leaf_list}
 use Rattle.em_segment_model.proofs.Leaf.{leaf_reported}
-use Rattle.em_segment.specs.Accounts.{stored}
+use Rattle.em_segment_parts.specs.Accounts.{stored}
 use Rattle.em_segment.specs.Answers.{Answered, AnswersTo, IsCall, StopsAnswering, call_blocks, due}
 use Rattle.em_segment.specs.Leaves.{CanReportPieces, ReportsPieces, ReportsPiecesTo, StopsReportingPieces}
-use Rattle.em_segment.specs.Loads.{TakesLoad}
-use Rattle.em_segment.specs.Reports.{Reports}
-use Rattle.em_segment.proofs.Alikes.{alike_length}
+use Rattle.em_segment_parts.specs.Loads.{TakesLoad}
+use Rattle.em_segment_parts.specs.Reports.{Reports}
+use Rattle.em_segment_parts.proofs.Alikes.{alike_length}
 use Rattle.em_segment.proofs.CallSizes.{call_within}
-use Rattle.em_segment.proofs.Parting.{reports_beside, reports_as, stops_beside, stops_as}
-use Rattle.em_segment.proofs.Parts.{reports_pairs, reports_stop, reports_then, shift_reports, shift_stops}
-use Rattle.em_segment.proofs.Regrouping.{holds_first, holds_same, tally_is, tally_last}
+use Rattle.em_segment_parts.proofs.Parting.{reports_beside, reports_as, stops_beside, stops_as}
+use Rattle.em_segment_parts.proofs.Parts.{reports_pairs, reports_stop, reports_then, shift_reports, shift_stops}
+use Rattle.em_segment_parts.proofs.Regrouping.{holds_first, holds_same, tally_is, tally_last}
 
 module _ {s : RigState} {points pieces : Chain} {w : Writer} (call : IsCall s points pieces w) where
   -- the points' blocks and the pairs'

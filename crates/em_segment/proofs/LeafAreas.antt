@@ -21,9 +21,9 @@ use Rattle.em_chain.proofs.Sessions.{wrote_stays, wrote_then}
 use Rattle.em_segment_model.specs.Alike.{Alike}
 use Rattle.em_segment_model.specs.Points.{interval_in}
 use Rattle.em_segment.specs.Answers.{Answered, AnswersTo, IsCall, StopsAnswering, WithinCall, call_blocks, due, weight}
-use Rattle.em_segment.specs.Chains.{IsPackedChain}
-use Rattle.em_segment.specs.Reports.{unstored_most}
-use Rattle.em_segment.proofs.Areas.{GivesArea, LendsArea, area_pairs, area_runs, area_stops, area_writer}
+use Rattle.em_segment_parts.specs.Chains.{IsPackedChain}
+use Rattle.em_segment_parts.specs.Reports.{unstored_most}
+use Rattle.em_segment_parts.proofs.Areas.{GivesArea, LendsArea, area_pairs, area_runs, area_stops, area_writer}
 
 chain_there : {s a : RigState} {c : Chain} → IsPackedChain s c → Touches [] s a → ChainStays s a c
 chain_there {s} {a} {c} i g = chain_stays [] s a c g (λ z. apart_none (chain_blocks s c)) i.is

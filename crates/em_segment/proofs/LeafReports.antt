@@ -30,9 +30,9 @@ use Rattle.em_chain.proofs.Sessions.{wrote_stays, wrote_then}
 use Rattle.em_chain.proofs.Writings.{cause_still, halts_between, writer_lent}
 use Rattle.em_segment_model.specs.Loads.{leaf_list}
 use Rattle.em_segment.specs.Leaves.{CanReportPieces, ReportsPieces, ReportsPiecesTo, StopsPieces, StopsReportingPieces, TakesBeside, TakesPieces, TakesPiecesTo}
-use Rattle.em_segment.specs.Pairs.{IsPairs}
-use Rattle.em_segment.proofs.Gets.{nil_of}
-use Rattle.em_segment.proofs.Regrouping.{SameTally, off_same, session_same, tally_swap}
+use Rattle.em_segment_parts.specs.Pairs.{IsPairs}
+use Rattle.em_segment_parts.proofs.Gets.{nil_of}
+use Rattle.em_segment_parts.proofs.Regrouping.{SameTally, off_same, session_same, tally_swap}
 
 module _ {s a : RigState} {c : Chain} {w : Writer} {r : Reader} (can : CanReportPieces s c w)
     (l : LendsFrame s a) (m : Unmoved s a) (o : Opens s a c true r) where

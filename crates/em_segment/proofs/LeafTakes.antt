@@ -20,8 +20,8 @@ use Rattle.em_chain.proofs.Pairs as session
 use Rattle.em_queued.specs.Popped.{grown_blocks}
 use Rattle.em_segment_model.specs.Loads.{leaf_list, leaf_pairs}
 use Rattle.em_segment.specs.Leaves.{StopsPieces, TakesBeside, TakesPieces, TakesPiecesTo}
-use Rattle.em_segment.specs.Pairs.{IsPairs, StopsPairs, WritesPairs, WritesTo}
-use Rattle.em_segment.proofs.Writing.{grown_least}
+use Rattle.em_segment_parts.specs.Pairs.{IsPairs, StopsPairs, WritesPairs, WritesTo}
+use Rattle.em_segment_parts.proofs.Writing.{grown_least}
 
 takes_pair : {s : RigState} {r : Reader} {w : Writer} → TakesBeside s r w → IsPair s r w
 takes_pair b = record {

@@ -12,10 +12,10 @@ use Rattle.em_space.specs.declared.fault.EmFault.{EmFault}
 use Rattle.em_chain.specs.declared.writer.Writer.{Writer}
 use Rattle.em_segment_model.specs.Loads.{leaf_pairs}
 use Rattle.em_segment.specs.Leaves.{StandsFrom, later_pair}
-use Rattle.em_segment.specs.Pairs.{IsPairs, StopsPairs, WritesPairs, WritesTo}
-use Rattle.em_segment.proofs.Late.{is_less}
+use Rattle.em_segment_parts.specs.Pairs.{IsPairs, StopsPairs, WritesPairs, WritesTo}
+use Rattle.em_segment_parts.proofs.Late.{is_less}
 use Rattle.em_segment.proofs.LeafPairs.{range_begins, range_ends, range_next, range_within}
-use Rattle.em_segment.proofs.Writing.{pairs_none, pairs_then, pairs_wider, stops_more, stops_then}
+use Rattle.em_segment_parts.proofs.Writing.{pairs_none, pairs_then, pairs_wider, stops_more, stops_then}
 
 not_less : (a b : ℕ) → b ≤ a → nat_lt a b ≡ false
 not_less a b h = grind (arith, nat_tests)

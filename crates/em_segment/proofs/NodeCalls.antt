@@ -17,20 +17,20 @@ use Rattle.em_segment_model.specs.Slabs.{slabs_from}
 use Rattle.em_segment_model.specs.Spans.{value_span}
 use Rattle.em_segment.specs.Answers.{IsCall, StopsAnswering}
 use Rattle.em_segment.specs.Belows.{AnswersNodeTo}
-use Rattle.em_segment.specs.Chains.{chains_blocks, chains_in, chains_lists}
-use Rattle.em_segment.specs.Deals.{down_in, lists_blocks, slabs_in}
-use Rattle.em_segment.specs.Splits.{Splits, strips_in}
-use Rattle.em_segment.specs.Strips.{CanReportStrips, ReportsStrips, StopsStrips}
-use Rattle.em_segment.specs.declared.dealing.Lists.{Lists}
-use Rattle.em_segment.specs.declared.list.Listed.{Listed}
+use Rattle.em_segment_parts.specs.Chains.{chains_blocks, chains_in, chains_lists}
+use Rattle.em_segment_parts.specs.Deals.{down_in, lists_blocks, slabs_in}
+use Rattle.em_segment_parts.specs.Splits.{Splits, strips_in}
+use Rattle.em_segment_parts.specs.Strips.{CanReportStrips, ReportsStrips, StopsStrips}
+use Rattle.em_segment_parts.specs.declared.dealing.Lists.{Lists}
+use Rattle.em_segment_parts.specs.declared.list.Listed.{Listed}
 use Rattle.em_segment.specs.declared.node.Below.{Below}
-use Rattle.em_segment.specs.declared.splitting.Strips.{Strips}
-use Rattle.em_segment.proofs.Chains.{chains_length}
+use Rattle.em_segment_parts.specs.declared.splitting.Strips.{Strips}
+use Rattle.em_segment_parts.proofs.Chains.{chains_length}
 use Rattle.em_segment.proofs.NodeBounds.{strips_reached}
 use Rattle.em_segment.proofs.NodeParts.{strips_reportable}
 use Rattle.em_segment.proofs.NodeStops.{NodeSoFar}
-use Rattle.em_segment.proofs.Parts.{reports_holds}
-use Rattle.em_segment.proofs.Regrouping.{holds_first, holds_second}
+use Rattle.em_segment_parts.proofs.Parts.{reports_holds}
+use Rattle.em_segment_parts.proofs.Regrouping.{holds_first, holds_second}
 
 -- A writer has its frame still, if as many are free.
 pub frame_kept : (s t : RigState) (w : Writer) → SameFrames s.pool t.pool → WriterHasFrame s w

@@ -23,21 +23,21 @@ use Rattle.em_segment_model.specs.declared.strip.Span.{Span}
 use Rattle.em_segment_model.proofs.Nodes.{down_in_order}
 use Rattle.em_segment.specs.Answers.{IsCall, call_blocks}
 use Rattle.em_segment.specs.Belows.{AnswersNode, AreCalls, AreSorted, strips_blocks, strips_held}
-use Rattle.em_segment.specs.Chains.{AreChains, chains_blocks, chains_held, chains_in, chains_lists}
-use Rattle.em_segment.specs.Deals.{down_in, lists_held, lists_of, slabs_in}
-use Rattle.em_segment.specs.Reports.{Reports, Shifts}
-use Rattle.em_segment.specs.Splits.{AreCut}
-use Rattle.em_segment.specs.Strips.{ReportsStrips}
-use Rattle.em_segment.specs.declared.dealing.Lists.{Lists}
-use Rattle.em_segment.specs.declared.list.Listed.{Listed}
+use Rattle.em_segment_parts.specs.Chains.{AreChains, chains_blocks, chains_held, chains_in, chains_lists}
+use Rattle.em_segment_parts.specs.Deals.{down_in, lists_held, lists_of, slabs_in}
+use Rattle.em_segment_parts.specs.Reports.{Reports, Shifts}
+use Rattle.em_segment_parts.specs.Splits.{AreCut}
+use Rattle.em_segment_parts.specs.Strips.{ReportsStrips}
+use Rattle.em_segment_parts.specs.declared.dealing.Lists.{Lists}
+use Rattle.em_segment_parts.specs.declared.list.Listed.{Listed}
 use Rattle.em_segment.proofs.BelowLists.{strips_held_is, strips_regrouped}
 use Rattle.em_segment.proofs.NodeBounds.{node_room}
 use Rattle.em_segment.proofs.NodeEnds.{stands_numbers, whole_moves}
 use Rattle.em_segment.proofs.NodeParts.{down_left, drop_part, strips_left, strips_stay_on}
 use Rattle.em_segment.proofs.NodeStands.{stands_here}
 use Rattle.em_segment.proofs.NodeStops.{NodeSoFar}
-use Rattle.em_segment.proofs.Parting.{reports_as}
-use Rattle.em_segment.proofs.Parts.{reports_holds, reports_then}
+use Rattle.em_segment_parts.proofs.Parting.{reports_as}
+use Rattle.em_segment_parts.proofs.Parts.{reports_holds, reports_then}
 
 -- The strips may be called,
 calls_of : (most : ℕ) (s : RigState) (ps qs : List Chain) → length qs ≡ length ps → AreChains s ps

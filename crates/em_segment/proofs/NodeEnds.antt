@@ -15,18 +15,18 @@ use Rattle.em_segment_model.proofs.Nodes.{node_down, pieces_weigh}
 use Rattle.em_segment_model.proofs.Roots.{shape_sized}
 use Rattle.em_chain.proofs.Readers.{length_items}
 use Rattle.em_segment.specs.Answers.{IsCall, StopsAnswering, due, weight}
-use Rattle.em_segment.specs.Chains.{chains_blocks, chains_held, chains_lists}
-use Rattle.em_segment.specs.Deals.{down_in, lists_blocks, lists_held, lists_of, slabs_in}
-use Rattle.em_segment.specs.Reports.{StopsShifting}
-use Rattle.em_segment.specs.Strips.{ReportsStrips, StopsStrips}
-use Rattle.em_segment.specs.declared.dealing.Lists.{Lists}
-use Rattle.em_segment.proofs.Alikes.{alike_length}
+use Rattle.em_segment_parts.specs.Chains.{chains_blocks, chains_held, chains_lists}
+use Rattle.em_segment_parts.specs.Deals.{down_in, lists_blocks, lists_held, lists_of, slabs_in}
+use Rattle.em_segment_parts.specs.Reports.{StopsShifting}
+use Rattle.em_segment_parts.specs.Strips.{ReportsStrips, StopsStrips}
+use Rattle.em_segment_parts.specs.declared.dealing.Lists.{Lists}
+use Rattle.em_segment_parts.proofs.Alikes.{alike_length}
 use Rattle.em_segment.proofs.CallSizes.{chain_filled}
 use Rattle.em_segment.proofs.NodeBounds.{NodeNumbers, node_room, node_within}
 use Rattle.em_segment.proofs.NodeSizes.{lists_most}
 use Rattle.em_segment.proofs.NodeStands.{NodeStands, same_weight, down_of, stands_ascends, stands_due, stands_full, stands_some, stands_strips}
 use Rattle.em_segment.proofs.NodeStops.{NodeSoFar}
-use Rattle.em_segment.proofs.Parts.{reports_stop, shift_right_stops, shift_stops, writes_stops}
+use Rattle.em_segment_parts.proofs.Parts.{reports_stop, shift_right_stops, shift_stops, writes_stops}
 
 -- What a node's chains are, in numbers.
 module _ {most : ℕ} {s u : RigState} {points pieces : Chain} {w : Writer} {strips : List Chain}

@@ -19,19 +19,19 @@ use Rattle.em_segment_model.specs.Slabs.{Slab, slabs_from}
 use Rattle.em_segment_model.specs.declared.strip.Span.{Span}
 use Rattle.em_segment_model.proofs.Nodes.{listed_in_order}
 use Rattle.em_segment.specs.Answers.{IsCall, call_blocks}
-use Rattle.em_segment.specs.Chains.{AreChains, ChainsStay, IsPackedChain, chains_blocks, chains_held, chains_lists}
-use Rattle.em_segment.specs.Deals.{Deals, dealing_moves, down_in, lists_blocks, lists_held, slabs_in}
-use Rattle.em_segment.specs.Pairs.{IsPairs, WritesPairs}
-use Rattle.em_segment.specs.Reports.{Reports, Shifts}
-use Rattle.em_segment.specs.Splits.{Splits, strips_in}
-use Rattle.em_segment.specs.Strips.{AreNumbered, CanReportStrips}
-use Rattle.em_segment.specs.declared.dealing.Lists.{Lists}
-use Rattle.em_segment.specs.declared.splitting.Strips.{Strips}
+use Rattle.em_segment_parts.specs.Chains.{AreChains, ChainsStay, IsPackedChain, chains_blocks, chains_held, chains_lists}
+use Rattle.em_segment_parts.specs.Deals.{Deals, dealing_moves, down_in, lists_blocks, lists_held, slabs_in}
+use Rattle.em_segment_parts.specs.Pairs.{IsPairs, WritesPairs}
+use Rattle.em_segment_parts.specs.Reports.{Reports, Shifts}
+use Rattle.em_segment_parts.specs.Splits.{Splits, strips_in}
+use Rattle.em_segment_parts.specs.Strips.{AreNumbered, CanReportStrips}
+use Rattle.em_segment_parts.specs.declared.dealing.Lists.{Lists}
+use Rattle.em_segment_parts.specs.declared.splitting.Strips.{Strips}
 use Rattle.em_segment.proofs.BelowLists.{packed_stays}
-use Rattle.em_segment.proofs.Chains.{chains_stay}
+use Rattle.em_segment_parts.proofs.Chains.{chains_stay}
 use Rattle.em_segment.proofs.Discards.{pieces_stay}
-use Rattle.em_segment.proofs.Parts.{shift_left, shift_reports, shift_right, writes_reports}
-use Rattle.em_segment.proofs.Regrouping.{holds_first, holds_second}
+use Rattle.em_segment_parts.proofs.Parts.{shift_left, shift_reports, shift_right, writes_reports}
+use Rattle.em_segment_parts.proofs.Regrouping.{holds_first, holds_second}
 
 -- Of two lists that are held neither has a block of the other.
 pub held_apart : {s : RigState} (xs ys : List ℕ) → IsTrue s.device.told → Holds s (xs ++ ys)

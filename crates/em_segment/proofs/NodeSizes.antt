@@ -22,12 +22,12 @@ use Rattle.em_segment_model.proofs.Cost.{ListBlocks, StripBlocks}
 use Rattle.em_segment_model.proofs.Dealing.{sent_few}
 use Rattle.em_segment_model.proofs.Nodes.{node_down, node_lists, pieces_weigh}
 use Rattle.em_segment_model.proofs.Places.{slabs_from-length}
-use Rattle.em_segment.specs.Chains.{AreChains, IsPackedChain, chains_count, chains_held, chains_lists}
-use Rattle.em_segment.specs.Deals.{lists_of, sent_all, sent_places}
-use Rattle.em_segment.specs.Splits.{AreCut}
+use Rattle.em_segment_parts.specs.Chains.{AreChains, IsPackedChain, chains_count, chains_held, chains_lists}
+use Rattle.em_segment_parts.specs.Deals.{lists_of, sent_all, sent_places}
+use Rattle.em_segment_parts.specs.Splits.{AreCut}
 use Rattle.em_segment.proofs.CallSizes.{chain_filled}
-use Rattle.em_segment.proofs.Fronts.{ceiling_below}
-use Rattle.em_segment.proofs.Sending as sending
+use Rattle.em_segment_parts.proofs.Fronts.{ceiling_below}
+use Rattle.em_segment_parts.proofs.Sending as sending
 
 -- Each of several chains has less than a block more than its records fill.
 pub chains_fill : (s : RigState) (cs : List Chain) → Sound s → IsTrue s.device.told → AreChains s cs

@@ -18,14 +18,14 @@ use Rattle.em_segment_model.specs.declared.strip.Span.{Span}
 use Rattle.em_segment_model.proofs.Cost.{StripBlocks}
 use Rattle.em_segment_model.proofs.Nodes.{node_law}
 use Rattle.em_segment.specs.Answers.{IsCall, due, weight}
-use Rattle.em_segment.specs.Chains.{AreChains, ChainsStay, chains_count, chains_held, chains_lists}
-use Rattle.em_segment.specs.Deals.{Deals, down_in, lists_held, lists_of, slabs_in}
-use Rattle.em_segment.specs.Splits.{AreCut, Splits, strips_in}
-use Rattle.em_segment.specs.Strips.{strips_due}
-use Rattle.em_segment.specs.declared.dealing.Lists.{Lists}
-use Rattle.em_segment.specs.declared.splitting.Strips.{Strips}
-use Rattle.em_segment.proofs.Alikes.{alike_length, alike_same}
-use Rattle.em_segment.proofs.Chains.{chains_length}
+use Rattle.em_segment_parts.specs.Chains.{AreChains, ChainsStay, chains_count, chains_held, chains_lists}
+use Rattle.em_segment_parts.specs.Deals.{Deals, down_in, lists_held, lists_of, slabs_in}
+use Rattle.em_segment_parts.specs.Splits.{AreCut, Splits, strips_in}
+use Rattle.em_segment_parts.specs.Strips.{strips_due}
+use Rattle.em_segment_parts.specs.declared.dealing.Lists.{Lists}
+use Rattle.em_segment_parts.specs.declared.splitting.Strips.{Strips}
+use Rattle.em_segment_parts.proofs.Alikes.{alike_length, alike_same}
+use Rattle.em_segment_parts.proofs.Chains.{chains_length}
 use Rattle.em_segment.proofs.NodeSizes.{cut_some, lists_full, strip_blocks}
 
 -- Strips and lists of a node: what they are, and what they hold if the device tells.

@@ -22,21 +22,21 @@ use Rattle.em_segment_model.proofs.Cost.{deal_pays, split_pays}
 use Rattle.em_segment_model.proofs.Nodes.{pieces_weigh}
 use Rattle.em_segment_model.proofs.Roots.{shape_sized}
 use Rattle.em_segment.specs.Answers.{IsCall, StopsAnswering, call_blocks, due, weight}
-use Rattle.em_segment.specs.Chains.{chains_blocks, chains_held, chains_lists}
-use Rattle.em_segment.specs.Deals.{Deals, StopsDeals, lists_blocks, lists_held, lists_of, sent_all, slabs_in}
-use Rattle.em_segment.specs.Pairs.{IsPairs}
-use Rattle.em_segment.specs.Reports.{Reports, StopsShifting}
-use Rattle.em_segment.specs.Splits.{Splits, strips_in}
-use Rattle.em_segment.specs.Strips.{ReportsStrips}
-use Rattle.em_segment.specs.declared.dealing.Lists.{Lists}
-use Rattle.em_segment.specs.declared.splitting.Strips.{Strips}
+use Rattle.em_segment_parts.specs.Chains.{chains_blocks, chains_held, chains_lists}
+use Rattle.em_segment_parts.specs.Deals.{Deals, StopsDeals, lists_blocks, lists_held, lists_of, sent_all, slabs_in}
+use Rattle.em_segment_parts.specs.Pairs.{IsPairs}
+use Rattle.em_segment_parts.specs.Reports.{Reports, StopsShifting}
+use Rattle.em_segment_parts.specs.Splits.{Splits, strips_in}
+use Rattle.em_segment_parts.specs.Strips.{ReportsStrips}
+use Rattle.em_segment_parts.specs.declared.dealing.Lists.{Lists}
+use Rattle.em_segment_parts.specs.declared.splitting.Strips.{Strips}
 use Rattle.em_segment.proofs.CallSizes.{chain_filled}
-use Rattle.em_segment.proofs.Chains.{chains_length}
+use Rattle.em_segment_parts.proofs.Chains.{chains_length}
 use Rattle.em_segment.proofs.NodeBounds.{NodeNumbers, node_room, node_within, split_numbers, split_room}
 use Rattle.em_segment.proofs.NodeParts.{deal_part, down_stay_on, pieces_kept, report_part, slabs_stay_on, split_part, strips_kept, strips_stay_on}
 use Rattle.em_segment.proofs.NodeSizes.{cut_some, list_blocks, strip_blocks}
 use Rattle.em_segment.proofs.NodeStands.{NodeStands, down_of, stands_dealt, stands_on}
-use Rattle.em_segment.proofs.Parts.{reports_holds, reports_pairs, reports_stop, reports_then, shift_left_stops, shift_right_stops, shift_stops}
+use Rattle.em_segment_parts.proofs.Parts.{reports_holds, reports_pairs, reports_stop, reports_then, shift_left_stops, shift_right_stops, shift_stops}
 
 -- It gave up while it split its points.
 pub node_unsplit : {s t : RigState} {points pieces : Chain} {w : Writer} {fault : EmFault}

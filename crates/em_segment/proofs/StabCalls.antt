@@ -34,7 +34,7 @@ use Rattle.em_tree_cost.proofs.Ceilings.{blocks_ceil}
 use Rattle.em_segment_model.specs.Commands.{asked_from}
 use Rattle.em_segment_model.specs.Points.{asked_record, interval_record}
 use Rattle.em_segment_model.proofs.Calls.{interval_appends, interval_asks, stab_adds, stab_appends}
-use Rattle.em_segment.specs.Pairs.{IsPairs}
+use Rattle.em_segment_parts.specs.Pairs.{IsPairs}
 use Rattle.em_segment.specs.Stabs.{FullOverRoom, HasCommands, IsNewStab, IsStab, LeavesStab, StabHasFrames, TakeCosts, TakesTo, stab_account, stab_len}
 use Rattle.em_segment.specs.declared.stab.Stab.{Stab}
 
@@ -89,6 +89,7 @@ new_stab {s} {m} {t} {w} {v} l x b k y d =
       touches = touches_then [] s m t l.touches k.touches;
       unmoved = record {
         device = y.device ∙ x.device;
+        spare = y.spare ∙ x.spare;
         same = record {
           head = y.same.head ∙ x.same.head;
           used = y.same.used ∙ x.same.used;
@@ -125,6 +126,7 @@ left_stab {s} {m} {t} l x k y = record {
     pool = t.pool;
     blocks = (k.touches.blocks ∙ l.touches.blocks) i;
     head = (y.same.head ∙ x.same.head) i;
+    spare = (y.spare ∙ x.spare) i;
     used = (y.same.used ∙ x.same.used) i;
     most = (y.same.most ∙ x.same.most) i;
     moves = (y.moves ∙ x.moves) i;

@@ -12,9 +12,9 @@ use Rattle.em_space.specs.declared.queue.Queue.{Ghosts as QueueGhosts}
 use Rattle.em_space.proofs.Lists.{distinct_apart}
 use Rattle.em_chain.specs.Chain.{chain_blocks, chain_items}
 use Rattle.em_chain.specs.declared.chain.Chain.{Chain}
-use Rattle.em_sorting.specs.Room.{FullBeside}
+use Rattle.em_queued.specs.Room.{FullBeside}
 use Rattle.em_sorting.specs.Sorts.{IsSorted}
-use Rattle.em_sorting.proofs.Room.{full_wider}
+use Rattle.em_queued.proofs.Room.{full_wider}
 use Rattle.em_tree_cost.specs.Shares.{stab_room}
 use Rattle.em_segment.specs.Finishes.{AnswersStabs, CanFinish, StabsCost, StopsStabs}
 use Rattle.em_segment.specs.Stabs.{HasCommands, stab_account, stab_size}
@@ -104,6 +104,6 @@ halts_costs q x y cs h w = record {
 pub halts_full : {Q : Type 0} (q : QueueGhosts Q) (x y : Q) {s t : RigState} {v : Stab}
     (cs : List Command) {p m n l : ℕ} {fault : EmFault} → StabHalts q x y s t v p m n l fault
     → StabWithin s v cs p m n l
-    → FullBeside q (stab_account v).blocks (stab_room s.pool.shape (stab_size v cs)) (q.counts x)
-    (q.counts y) s fault
-halts_full q x y cs h w = full_wider q w.peak_most h.full
+    → FullBeside q.room (stab_account v).blocks (stab_room s.pool.shape (stab_size v cs)) (q.counts x)
+    (q.counts y).k s fault
+halts_full q x y cs h w = full_wider (let z = w.peak_most in omega (arith, z)) h.full

@@ -24,7 +24,8 @@ use Rattle.em_chain.specs.declared.chain.Chain.{Chain}
 use Rattle.em_chain.proofs.Counts.{packed_blocks}
 use Rattle.em_chain.proofs.Laws.{chain_stays}
 use Rattle.em_chain.proofs.Readers.{length_items}
-use Rattle.em_sorting.specs.Room.{FullBeside}
+use Rattle.em_queued.specs.Room.{FullBeside}
+use Rattle.em_queued.proofs.Room.{full_from, full_queue}
 use Rattle.em_tree_cost.specs.Shares.{queue_share, stab_room, stab_share}
 use Rattle.em_tree_cost.proofs.Services.{stab_within}
 use Rattle.em_segment.specs.Finishes.{AnswersStabs, AsksNothing, FinishedStab, FullIfSmall, GivesAll, StabCosts, StabsCost, StopsFinish, StopsStabs, own_share}
@@ -178,7 +179,7 @@ pub end_costs : {Q : Type 0} (q : QueueGhosts Q) (x y : Q) {s t u : RigState} {v
 end_costs q x y {s} {t} {u} {v} {e} cs idle c h frames fits rises calls a few d z =
     let shape = a.session.touches.shape in
     let size = stab_size v cs in
-    let m = d.most in
+    let m = d.most z in
     let top = most_at_end q.room t.pool.shape (q.counts y) fits in
     let same : ending_most q.room t.pool.shape (q.counts y)
     ≡ ending_most q.room s.pool.shape (q.counts y) =
@@ -271,37 +272,24 @@ small_by (Some f) k used m i p size calls j v r a b h = λ none.
 pub stops_small : {Q : Type 0} (q : QueueGhosts Q) (x y : Q) {s t : RigState} {v : Stab}
     (cs : List Command) (fault : EmFault) → StabsCost q x y s t v cs → (q.counts x).k ≤ (q.counts x).n
     → IfSome q.room IsRisingRoom
-    → FullBeside q (stab_account v).blocks (stab_room s.pool.shape (stab_size v cs)) (q.counts x)
-    (q.counts y) s fault → FullIfSmall q x s v cs (Err fault)
-stops_small q x y cs DeviceFault c k rises full = tt
-stops_small q x y {s} {t} {v} cs (Full used) c k rises full =
+    → FullBeside q.room (stab_account v).blocks (stab_room s.pool.shape (stab_size v cs)) (q.counts x)
+    (q.counts y).k s fault → IsTrue s.device.told → FullIfSmall q x s v cs (Err fault)
+stops_small q x y cs DeviceFault c k rises full told = tt
+stops_small q x y {s} {t} {v} cs (Full used) c k rises full told =
     let size = stab_size v cs in
     small_by q.room (q.counts y).k used ((q.counts x).blocks + (stab_account v).blocks) s.used
     (stab_room s.pool.shape size) size (q.counts x).n (q.counts x).k s.pool.shape rises
-    (omega (arith, c.most_calls)) k full.is
-stops_small q x y cs (Damaged block) c k rises full = tt
+    (omega (arith, c.most_calls)) k (full.is told)
+stops_small q x y cs (Damaged block) c k rises full told = tt
 
 -- the same where the queue's end was refused
-lacks_by : (o : Option (ShapeNumbers → ℕ → ℕ)) (k used m n i j p : ℕ) (v w : ShapeNumbers) → w ≡ v
-    → n + i ≤ m + j + p → IfSome o (λ f. used + m < i + f w k) → IfSome o (λ f. used + n < j + (f v k + p))
-lacks_by None k used m n i j p v w e l h = tt
-lacks_by (Some f) k used m n i j p v w e l h =
-    let same = ap (λ (z : ShapeNumbers). f z k) e in omega (arith, same, l, h)
-
 pub end_small : {Q : Type 0} (q : QueueGhosts Q) (x y : Q) {s t : RigState} {v : Stab} {e : Chain}
     (cs : List Command) (fault : EmFault) → StabsCost q x y s t v cs → AnswersStabs q x y s t v e
     → e.blocks ≤ stab_room s.pool.shape (stab_size v cs) → (q.counts x).k ≤ (q.counts x).n
     → IfSome q.room IsRisingRoom
-    → IfFull fault (LacksBlocks q.enough q.room (q.counts y) (q.counts y).k t)
+    → IfFull fault (LacksBlocks q.enough q.room (q.counts y) (q.counts y).k t) → IsTrue s.device.told
     → FullIfSmall q x s v cs (Err fault)
-end_small q x y cs DeviceFault c a few k rises full = tt
-end_small q x y {s} {t} {v} {e} cs (Full used) c a few k rises full =
-    let size = stab_size v cs in
-    let beside : FullBeside q (stab_account v).blocks (stab_room s.pool.shape size) (q.counts x)
-    (q.counts y) s (Full used) = record {
-      is = lacks_by q.room (q.counts y).k used (q.counts y).blocks
-          ((q.counts x).blocks + (stab_account v).blocks) t.used s.used (stab_room s.pool.shape size)
-          s.pool.shape t.pool.shape a.session.touches.shape (omega (arith, a.used, few)) full.small;
-    } in
-    stops_small q x y cs (Full used) c k rises beside
-end_small q x y cs (Damaged block) c a few k rises full = tt
+end_small q x y {e = e} cs fault c a few k rises full told =
+    let used = a.used in
+    stops_small q x y cs fault c k rises (full_from a.session.touches.shape a.session.touches.told
+    (omega (arith, used, few)) (full_queue q.enough e.blocks fault full)) told

@@ -10,7 +10,7 @@ use Rattle.em_space.proofs.Lists.{apart_left, apart_right}
 use Rattle.em_chain.specs.Writer.{WriterStays, writer_blocks}
 use Rattle.em_chain.specs.declared.writer.Writer.{Writer}
 use Rattle.em_chain.proofs.Laws.{writer_stays}
-use Rattle.em_segment.specs.Pairs.{IsPairs}
+use Rattle.em_segment_parts.specs.Pairs.{IsPairs}
 use Rattle.em_segment.specs.Stabs.{HasCommands, IsStab, StabHasFrames, stab_blocks}
 use Rattle.em_segment.specs.declared.stab.Stab.{Stab}
 use Rattle.em_segment.proofs.StabCalls.{pairs_stay}

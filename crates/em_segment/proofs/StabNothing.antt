@@ -21,20 +21,20 @@ use Rattle.em_chain.specs.Writer.{writer_items}
 use Rattle.em_chain.specs.declared.chain.Chain.{Chain}
 use Rattle.em_queued.specs.Queued.{StopsBeside}
 use Rattle.em_queued.proofs.Queued.{beside_as, called_none, others_beside}
-use Rattle.em_sorting.proofs.Room.{full_others}
+use Rattle.em_queued.proofs.Room.{full_others}
 use Rattle.em_segment_model.specs.Alike.{Alike}
 use Rattle.em_segment_model.specs.Commands.{asked_from}
 use Rattle.em_segment_model.specs.Points.{asked_in, asked_record, interval_record, pairs_due}
 use Rattle.em_segment_model.proofs.Finish.{finish_answers}
-use Rattle.em_segment.specs.Accounts.{stored}
+use Rattle.em_segment_parts.specs.Accounts.{stored}
 use Rattle.em_segment.specs.Answers.{DiscardsTo, call_blocks}
 use Rattle.em_segment.specs.Finishes.{AnswersStabs, AsksNothing, CanFinish, ClosesBoth, FindsNothing, FullIfAsked, StopsClosing}
-use Rattle.em_segment.specs.Reports.{Shifts, StopsShifting}
+use Rattle.em_segment_parts.specs.Reports.{Shifts, StopsShifting}
 use Rattle.em_segment.specs.Stabs.{HasCommands, IsStab}
 use Rattle.em_segment.specs.declared.stab.Stab.{Stab}
-use Rattle.em_segment.proofs.Alikes.{alike_same}
+use Rattle.em_segment_parts.proofs.Alikes.{alike_same}
 use Rattle.em_segment.proofs.CallAnswers.{none_at}
-use Rattle.em_segment.proofs.Gets.{nil_of}
+use Rattle.em_segment_parts.proofs.Gets.{nil_of}
 use Rattle.em_segment.proofs.StabCalls.{pairs_length}
 use Rattle.em_segment.proofs.StabEnds.{stands_apart, stands_costs, stands_out, stands_serve}
 use Rattle.em_segment.proofs.StabNumbers.{within_released}
@@ -150,7 +150,7 @@ module _ {Q : Type 0} (q : QueueGhosts Q) (x : Q) {s t : RigState} {v : Stab}
       let out = stands_out q x x can (laws.out x s (laws.frames_of x s i)) before.stands in
       let room = frames_room before.stands.session.sound (laws.unstored_most x s i) out
       (stands_serve q x x can.free before.stands) in
-      let beside : StopsBeside 0 held (2 * held) 1 (q.blocks x t ++ call_blocks t points pieces) (stored held)
+      let beside : StopsBeside q.room 0 held (2 * held) 1 (q.blocks x t ++ call_blocks t points pieces) (stored held)
       (q.counts x) (q.counts x) t u fault = record {
         sound = g.stops.goes.sound;
         touches = (goes_wider (q.blocks x t ++ call_blocks t points pieces) (call_blocks t points pieces) t u
@@ -161,11 +161,12 @@ module _ {Q : Type 0} (q : QueueGhosts Q) (x : Q) {s t : RigState} {v : Stab}
         moves = omega (arith, k.moves);
         pays = pays_more k.pays (omega (arith, room));
         cause = g.stops.cause;
+        full = full_others (q.counts x) fault most (laws.fits x t (laws.frames_of x t before.is)) k
+            g.stops.cause;
       } in
       let end : StabHalts q x x s u v (max held held) (2 * held + 2 + (0 + 2 * held)) (0 + 0) (max 0 0) fault =
       stands_stop q x x x {k = 0} before.stands beside (record { blocks = refl; unstored = refl; paid = refl })
-      (omega arith) (let e = laws.since_none x s i can.empty in omega (arith, e))
-      (full_others q (q.counts x) fault most (laws.fits x t (laws.frames_of x t before.is)) k g.stops.cause) in
+      (omega arith) (let e = laws.since_none x s i can.empty in omega (arith, e)) in
       refuses q x x (Err fault) fault refl end
       (λ z cs has. within_released cs h is (omega (arith, pb, qb)) (omega (arith, pb, qb)) refl refl)
 

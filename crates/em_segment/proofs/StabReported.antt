@@ -1,5 +1,5 @@
 -- The pairs of an interval list are found beside the queue, and put in order.
-use Rattle.std.proofs.Common.{◌≡◌, ℕ, ◌+◌, ◌*◌, ◌≤◌, ◌^◌, max, List, [], ◌++◌, length, map, IfSome, IsTrue, ap, refl, sym, ◌∙◌, arith}
+use Rattle.std.proofs.Common.{IfSome, IsTrue, List, ℕ, [], ap, arith, length, map, max, refl, sym, ◌*◌, ◌++◌, ◌+◌, ◌^◌, ◌∙◌, ◌≡◌, ◌≤◌}
 use Rattle.std.proofs.lemmas.List.{length-map}
 use Rattle.em_record.specs.Order.{in_order}
 use Rattle.em_record.specs.Shape.{fan_of}
@@ -24,15 +24,14 @@ use Rattle.em_chain.specs.declared.chain.Chain.{Chain}
 use Rattle.em_queued.specs.Queued.{StopsBeside}
 use Rattle.em_queued.proofs.Queued.{beside_as, called_none, others_beside}
 use Rattle.em_sorting.specs.Accounts.{stored_account}
-use Rattle.em_sorting.specs.Room.{FullBeside}
 use Rattle.em_sorting.specs.Sorts.{CanSort, IsSorted, sorting_moves}
-use Rattle.em_sorting.proofs.Room.{full_others}
+use Rattle.em_queued.proofs.Room.{full_others}
 use Rattle.em_segment_model.specs.Alike.{Alike}
 use Rattle.em_segment_model.specs.Commands.{asked_from}
 use Rattle.em_segment_model.specs.Points.{asked_record, interval_in, interval_record, pairs_due}
 use Rattle.em_segment_model.proofs.Distinct.{pairs_lack}
 use Rattle.em_segment_model.proofs.Finish.{due_answers, finish_answers, intervals_in_order}
-use Rattle.em_segment.specs.Accounts.{stored}
+use Rattle.em_segment_parts.specs.Accounts.{stored}
 use Rattle.em_segment.specs.Answers.{call_blocks, due}
 use Rattle.em_segment.specs.Finishes.{CanFinish, CanReportAll, ReportsAll, StopsReportingAll}
 use Rattle.em_segment.specs.Stabs.{HasCommands, IsStab}
@@ -119,7 +118,8 @@ pub pairs_refused : {Q : Type 0} (q : QueueGhosts Q) (x y : Q) {s u n : RigState
     → StabStands q x y s u v p m i l (call_blocks u d pieces) (d.blocks + pieces.blocks)
     → (r : StopsReportingAll u n d pieces fault) → (q.counts y).blocks ≤ (q.counts y).most
     → (q.counts y).unstored ≤ (q.counts y).frames → AreOut (q.counts y) u.pool → CanServe u.pool
-    → IfSome q.room (λ f. (q.counts y).most ≤ f u.pool.shape (q.counts y).k) → (q.counts y).since ≡ 0
+    → (IsTrue u.device.told → IfSome q.room (λ f. (q.counts y).most ≤ f u.pool.shape (q.counts y).k))
+    → (q.counts y).since ≡ 0
     → StabHalts q x y s n v (max p (r.peak + ceiling r.tried (payload_in u)))
     (m + (0 + (2 * ceiling r.tried (payload_in u) + r.extra + 1))) (i + 0) (max l 0) fault
 pairs_refused q x y {s} {u} {n} {v} {d} {pieces} {fault = fault} h r most stores out free fits none =
@@ -128,7 +128,7 @@ pairs_refused q x y {s} {u} {n} {v} {d} {pieces} {fault = fault} h r most stores
     let g = r.stops in
     let k = g.halts in
     let room = frames_room h.session.sound stores out free in
-    let beside : StopsBeside 0 (r.peak + ceiling r.tried (payload_in u))
+    let beside : StopsBeside q.room 0 (r.peak + ceiling r.tried (payload_in u))
     (2 * ceiling r.tried (payload_in u) + r.extra + 1) 1 (qs ++ ks) (stored (d.blocks + pieces.blocks))
     (q.counts y) (q.counts y) u n fault = record {
       sound = g.goes.sound;
@@ -139,9 +139,10 @@ pairs_refused q x y {s} {u} {n} {v} {d} {pieces} {fault = fault} h r most stores
       moves = omega (arith, k.moves);
       pays = pays_more k.pays (omega (arith, room));
       cause = g.cause;
+      full = full_others (q.counts y) fault most fits k g.cause;
     } in
     stands_stop q x y y h beside (record { blocks = refl; unstored = refl; paid = refl }) (omega arith)
-    (omega (arith, none)) (full_others q (q.counts y) fault most fits k g.cause)
+    (omega (arith, none))
 
 -- The pairs may be put in order.
 pub pairs_can : {Q : Type 0} (q : QueueGhosts Q) (x y : Q) {s u n : RigState} {v : Stab}
@@ -181,15 +182,14 @@ pairs_sorted q x y w h g none = stands_then q x y w h g.runs
 pub pairs_unsorted : {Q : Type 0} (q : QueueGhosts Q) (x y w : Q) {s n t : RigState} {v : Stab}
     (c : Chain) {p m i l : ℕ} {fault : EmFault}
     → StabStands q x y s n v p m i l (chain_blocks n c) c.blocks
-    → StopsBeside (2 * c.count) (c.blocks + ceiling c.count (payload_in n)) 0 1
+    → StopsBeside q.room (2 * c.count) (c.blocks + ceiling c.count (payload_in n)) 0 1
     (q.blocks y n ++ chain_blocks n c) (stored_account c.blocks (sorting_moves n c)) (q.counts y)
     (q.counts w) n t fault
-    → FullBeside q c.blocks (c.blocks + ceiling c.count (payload_in n)) (q.counts y) (q.counts w) n fault
     → (q.counts y).since ≡ 0
     → StabHalts q x w s t v (max p (c.blocks + ceiling c.count (payload_in n)))
     (m + (sorting_moves n c + 0)) (i + 2 * c.count) (max l (2 * c.count)) fault
-pairs_unsorted q x y w c h g full none = stands_stop q x y w h g
-    (record { blocks = refl; unstored = refl; paid = refl }) (omega arith) (omega (arith, none)) full
+pairs_unsorted q x y w c h g none = stands_stop q x y w h g
+    (record { blocks = refl; unstored = refl; paid = refl }) (omega arith) (omega (arith, none))
 
 -- They are the answers.
 pub pairs_answer : {s u n : RigState} (t : RigState) {v : Stab} {d pieces c : Chain} (e : Chain) → HasSorted s u v d pieces

@@ -20,20 +20,19 @@ use Rattle.em_queued.proofs.Queued.{beside_as}
 use Rattle.em_sorting.specs.Accounts.{stored_account}
 use Rattle.em_sorting.specs.Lacking.{AllLack}
 use Rattle.em_sorting.specs.Pushes.{CanServeBeside}
-use Rattle.em_sorting.specs.Room.{FullBeside}
 use Rattle.em_sorting.specs.Sorts.{CanSort, IsSorted, sorting_moves}
 use Rattle.em_sorting.proofs.Pushed.{beside_value, stops_value}
 use Rattle.em_segment_model.specs.Lacking.{AllLack as AllLackOf}
 use Rattle.em_segment_model.proofs.Distinct.{asked_lack}
-use Rattle.em_segment.specs.Accounts.{stored}
+use Rattle.em_segment_parts.specs.Accounts.{stored}
 use Rattle.em_segment.specs.Answers.{call_blocks}
-use Rattle.em_segment.specs.Chains.{IsPackedChain}
+use Rattle.em_segment_parts.specs.Chains.{IsPackedChain}
 use Rattle.em_segment.specs.Finishes.{CanFinish, ClosesBoth}
 use Rattle.em_segment.specs.Stabs.{IsStab}
 use Rattle.em_segment.specs.declared.stab.Stab.{Stab}
 use Rattle.em_segment.proofs.Closing.{packed_stays}
-use Rattle.em_segment.proofs.Regrouping.{holds_first}
-use Rattle.em_segment.proofs.StabStands.{StabHalts, StabStands, full_from, stands_stop, stands_then}
+use Rattle.em_segment_parts.proofs.Regrouping.{holds_first}
+use Rattle.em_segment.proofs.StabStands.{StabHalts, StabStands, stands_stop, stands_then}
 
 -- the same of the other crate's word
 pub lack_same : (ys xs : List Record) → AllLackOf ys xs → AllLack ys xs
@@ -157,29 +156,27 @@ points_sorted q x y {s} {t} {u} {v} {pieces} {points} {d} c h g none =
 pub points_refused : {Q : Type 0} (q : QueueGhosts Q) (x y : Q) {s t u : RigState} {v : Stab}
     (pieces points : Chain) {p m n l : ℕ} {fault : EmFault}
     → StabStands q x x s t v p m n l (call_blocks t points pieces) (points.blocks + pieces.blocks)
-    → StopsBeside (2 * points.count) (points.blocks + ceiling points.count (payload_in t)) 0 1
+    → StopsBeside q.room (2 * points.count) (points.blocks + ceiling points.count (payload_in t)) 0 1
     (q.blocks x t ++ chain_blocks t points) (stored_account points.blocks (sorting_moves t points))
     (q.counts x) (q.counts y) t u fault
-    → FullBeside q points.blocks (points.blocks + ceiling points.count (payload_in t)) (q.counts x)
-    (q.counts y) t fault
     → (q.counts x).since ≡ 0
     → StabHalts q x y s u v
     (max p (points.blocks + ceiling points.count (payload_in t) + pieces.blocks))
     (m + (sorting_moves t points + 0)) (n + 2 * points.count) (max l (2 * points.count)) fault
-points_refused q x y {s} {t} {u} {v} pieces points {fault = fault} h g full none =
+points_refused q x y {s} {t} {u} {v} pieces points {fault = fault} h g none =
     let qs = q.blocks x t in
     let ps = chain_blocks t points in
     let is = chain_blocks t pieces in
-    let beside : StopsBeside (2 * points.count)
+    let beside : StopsBeside q.room (2 * points.count)
     (points.blocks + ceiling points.count (payload_in t) + pieces.blocks) 0 1 ((qs ++ ps) ++ is)
     (stored_account (points.blocks + pieces.blocks) (sorting_moves t points)) (q.counts x) (q.counts y) t u
     fault =
     stops_value is (stored pieces.blocks)
     (record { blocks = refl; unstored = refl; paid = refl; owed = omega arith }) g in
-    let joined : StopsBeside (2 * points.count)
+    let joined : StopsBeside q.room (2 * points.count)
     (points.blocks + ceiling points.count (payload_in t) + pieces.blocks) 0 1
     (qs ++ call_blocks t points pieces)
     (stored_account (points.blocks + pieces.blocks) (sorting_moves t points)) (q.counts x) (q.counts y) t u
     fault = rw (append_assoc qs ps is) at beside in
     stands_stop q x x y h joined (record { blocks = refl; unstored = refl; paid = refl }) (omega arith)
-    (omega (arith, none)) (full_from q fault refl (omega arith) full)
+    (omega (arith, none))

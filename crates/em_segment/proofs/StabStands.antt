@@ -1,12 +1,11 @@
 -- The state between two steps of the end of an interval list, and where it gave up.
-use Rattle.std.proofs.Common.{◌≡◌, ℕ, ◌+◌, ◌*◌, ◌≤◌, ◌<◌, max, List, ◌++◌, Option, Some, None, IfSome, IsTrue, ap, refl, ◌∙◌, arith}
+use Rattle.std.proofs.Common.{IfSome, IsTrue, List, ℕ, ap, arith, max, refl, ◌*◌, ◌++◌, ◌+◌, ◌∙◌, ◌≡◌, ◌≤◌}
 use Rattle.em_record.specs.Shape.{ShapeNumbers, fan_of}
 use Rattle.em_frames.specs.Pool.{GivenFrames}
 use Rattle.em_space.specs.Ledger.{Account, Session}
 use Rattle.em_space.specs.Queue.{AreOut, CanServe, Pays, QueueCounts}
 use Rattle.em_space.specs.Rig.{Cause, RigState, Sound, Touches}
 use Rattle.em_space.specs.declared.fault.EmFault.{EmFault}
-use Rattle.em_space.specs.declared.fault.EmFault.TheVariants.{DeviceFault, Full, Damaged}
 use Rattle.em_space.specs.declared.queue.Queue.{Ghosts as QueueGhosts}
 use Rattle.em_space.proofs.Apart.{off_right}
 use Rattle.em_space.proofs.Paying.{pays_more, pays_then}
@@ -15,8 +14,8 @@ use Rattle.em_space.proofs.Steps.{cause_after, touches_wider}
 use Rattle.em_space.proofs.Within.{touches_within}
 use Rattle.em_chain.specs.declared.chain.Chain.{Chain}
 use Rattle.em_queued.specs.Queued.{RunsBeside, StopsBeside}
-use Rattle.em_sorting.specs.Room.{FullBeside}
-use Rattle.em_sorting.proofs.Room.{full_others}
+use Rattle.em_queued.specs.Room.{FullBeside}
+use Rattle.em_queued.proofs.Room.{full_from, full_others}
 use Rattle.em_tree_cost.proofs.Levels.{fan_wide, frames_wide}
 use Rattle.em_segment.specs.Answers.{call_blocks}
 use Rattle.em_segment.specs.Finishes.{CanFinish, ClosesBoth, SharesMore, StopsClosing}
@@ -54,25 +53,7 @@ pub record StabHalts {Q : Type 0} (q : QueueGhosts Q) (x y : Q) (s t : RigState)
   pub moves : t.moves + (q.counts x).spent + (stab_account v).paid ≤ s.moves + (q.counts y).spent + moved
   pub pays : Pays ((q.counts x).unstored + (stab_account v).unstored) (s.pool.shape.frames + 1) s t
   pub cause : Cause s t fault
-  pub full : FullBeside q (stab_account v).blocks peak (q.counts x) (q.counts y) s fault
-
--- a bound of a full device carried to an earlier state
-room_from : (o : Option (ShapeNumbers → ℕ → ℕ)) (k used m n i j p r : ℕ) (v w : ShapeNumbers) → w ≡ v
-    → n + i + p ≤ m + j + r → IfSome o (λ f. used + m < i + (f w k + p))
-    → IfSome o (λ f. used + n < j + (f v k + r))
-room_from None k used m n i j p r v w e l h = tt
-room_from (Some f) k used m n i j p r v w e l h =
-    let same = ap (λ (z : ShapeNumbers). f z k) e in omega (arith, same, l, h)
-
-pub full_from : {Q : Type 0} (q : QueueGhosts Q) {x m r w : ℕ} {c d e : QueueCounts} {s t : RigState}
-    (fault : EmFault) → t.pool.shape ≡ s.pool.shape → c.blocks + m + t.used + r ≤ d.blocks + x + s.used + w
-    → FullBeside q x r d e t fault → FullBeside q m w c e s fault
-full_from q DeviceFault shape l g = record { is = tt }
-full_from q {x} {m} {r} {w} {c} {d} {e} {s} {t} (Full used) shape l g = record {
-  is = room_from q.room e.k used (d.blocks + x) (c.blocks + m) t.used s.used r w s.pool.shape t.pool.shape
-      shape l g.is;
-}
-full_from q (Damaged block) shape l g = record { is = tt }
+  pub full : FullBeside q.room (stab_account v).blocks peak (q.counts x) (q.counts y).k s fault
 
 -- The queue's blocks that aren't stored and those of the recursion are no more than the frames.
 pub frames_room : {c : QueueCounts} {s : RigState} → Sound s → c.unstored ≤ c.frames → AreOut c s.pool
@@ -115,7 +96,8 @@ stands_closed q x {s} {t} {v} {pieces} {points} h can l c same =
 pub halts_closed : {Q : Type 0} (q : QueueGhosts Q) (x : Q) {s t : RigState} {v : Stab} {fault : EmFault}
     → Sound s → CanFinish q x s v → (q.counts x).blocks ≤ (q.counts x).most
     → (q.counts x).unstored ≤ (q.counts x).frames → AreOut (q.counts x) s.pool
-    → IfSome q.room (λ f. (q.counts x).most ≤ f s.pool.shape (q.counts x).k) → StopsClosing s t v fault
+    → (IsTrue s.device.told → IfSome q.room (λ f. (q.counts x).most ≤ f s.pool.shape (q.counts x).k))
+    → StopsClosing s t v fault
     → StabHalts q x x s t v (stab_account v).blocks ((stab_account v).paid + 2) 0 0 fault
 halts_closed q x {s} {t} {v} {fault} h can l m o fits c =
     let k = c.halts in
@@ -137,7 +119,7 @@ halts_closed q x {s} {t} {v} {fault} h can l m o fits c =
       moves = omega (arith, k.moves);
       pays = pays_more k.pays (omega (arith, room));
       cause = c.cause;
-      full = full_others q (q.counts x) fault l fits k c.cause;
+      full = full_others (q.counts x) fault l fits k c.cause;
     }
 
 -- What the accounts of lists are that stand beside the queue: all their blocks are stored.
@@ -180,10 +162,10 @@ stands_then q x y w {s} {t} {u} {a = a} {e} h g is stored few =
 pub stands_stop : {Q : Type 0} (q : QueueGhosts Q) (x y w : Q) {s t u : RigState} {v : Stab}
     {p m n l r i j k o b : ℕ} {js : List ℕ} {a : Account} {fault : EmFault}
     → StabStands q x y s t v p m n l js b
-    → StopsBeside i r j o (q.blocks y t ++ js) a (q.counts y) (q.counts w) t u fault → IsLists b a
-    → o ≤ 1 → (q.counts y).since + i ≤ k → FullBeside q b r (q.counts y) (q.counts w) t fault
+    → StopsBeside q.room i r j o (q.blocks y t ++ js) a (q.counts y) (q.counts w) t u fault → IsLists b a
+    → o ≤ 1 → (q.counts y).since + i ≤ k
     → StabHalts q x w s u v (max p r) (m + (a.owed + j)) (n + i) (max l k) fault
-stands_stop q x y w {s} {t} {u} {v} {p = p} {r = r} {b = b} {js} {a} {fault} h g is one few full =
+stands_stop q x y w {s} {t} {u} {v} {p = p} {r = r} {b = b} {js} {a} {fault} h g is one few =
     let first = h.session.touches in
     let shape : t.pool.shape.frames ≡ s.pool.shape.frames =
     ap (λ (z : ShapeNumbers). z.frames) first.shape in
@@ -207,5 +189,5 @@ stands_stop q x y w {s} {t} {u} {v} {p = p} {r = r} {b = b} {js} {a} {fault} h g
       moves = omega (arith, h.moves, g.moves, is.paid);
       pays = pays_then h.pays last g.touches.moves;
       cause = cause_after (q.blocks x s ++ stab_blocks s v) s t u fault first g.cause;
-      full = full_from q fault first.shape (omega (arith, used)) full;
+      full = full_from first.shape first.told (omega (arith, used, is.blocks)) g.full;
     }

@@ -14,8 +14,8 @@ use Rattle.em_chain.specs.Chain.{chain_blocks, payload_in}
 use Rattle.em_chain.specs.Counts.{ceiling}
 use Rattle.em_chain.specs.declared.chain.Chain.{Chain}
 use Rattle.em_queued.specs.Queued.{StopsBeside}
+use Rattle.em_queued.specs.Room.{FullBeside}
 use Rattle.em_sorting.specs.Accounts.{stored_account}
-use Rattle.em_sorting.specs.Room.{FullBeside}
 use Rattle.em_sorting.specs.Sorts.{IsSorted, SortsTo, sorting_moves}
 use Rattle.em_tree_cost.specs.Shares.{stab_room}
 use Rattle.em_segment.specs.Answers.{call_blocks}
@@ -43,7 +43,7 @@ pub record StabLaws {Q : Type 0} (q : QueueGhosts Q) : Type 0 where
   pub blocks_most : (x : Q) (s : RigState) → q.IsQueue x s → (q.counts x).blocks ≤ (q.counts x).most
   pub unstored_most : (x : Q) (s : RigState) → q.IsQueue x s
       → (q.counts x).unstored ≤ (q.counts x).frames
-  pub fits : (x : Q) (s : RigState) → q.HasItsFrames x s
+  pub fits : (x : Q) (s : RigState) → q.HasItsFrames x s → IsTrue s.device.told
       → IfSome q.room (λ f. (q.counts x).most ≤ f s.pool.shape (q.counts x).k)
 
 -- the queue's frames are out once the two of the list are back
@@ -153,8 +153,8 @@ pub record Refuses {Q : Type 0} (q : QueueGhosts Q) (x y : Q) (s t : RigState) (
   pub costs : IsTrue s.device.told → (cs : List Command) → HasCommands s v cs
       → StabsCost q x y s t v cs
   pub full : IsTrue s.device.told → (cs : List Command) → HasCommands s v cs
-      → IfErr result (FullBeside q (stab_account v).blocks (stab_room s.pool.shape (stab_size v cs))
-      (q.counts x) (q.counts y) s)
+      → IfErr result (FullBeside q.room (stab_account v).blocks (stab_room s.pool.shape (stab_size v cs))
+      (q.counts x) (q.counts y).k s)
 
 pub refuses : {Q : Type 0} (q : QueueGhosts Q) (x y : Q) {s t : RigState} {v : Stab} {p m n l : ℕ}
     (result : Result Chain EmFault) (e : EmFault) → IsErrAnd result (λ f. f ≡ e)
@@ -186,19 +186,18 @@ close_refused q x {s} {t} {v} {fault} result laws h is i can c e =
 pub sort_refused : {Q : Type 0} (q : QueueGhosts Q) (x y : Q) {s t u : RigState} {v : Stab}
     {pieces points : Chain} {fault : EmFault} (result : Result Chain EmFault) → StabLaws q → Sound s
     → IsStab s v → q.IsQueue x s → CanFinish q x s v → ClosesBoth s t v pieces points
-    → StopsBeside (2 * points.count) (points.blocks + ceiling points.count (payload_in t)) 0 1
+    → StopsBeside q.room (2 * points.count) (points.blocks + ceiling points.count (payload_in t)) 0 1
     (q.blocks x t ++ chain_blocks t points) (stored_account points.blocks (sorting_moves t points))
     (q.counts x) (q.counts y) t u fault
-    → FullBeside q points.blocks (points.blocks + ceiling points.count (payload_in t)) (q.counts x)
-    (q.counts y) t fault → IsErrAnd result (λ f. f ≡ fault) → Refuses q x y s u v result
-sort_refused q x y {s} {t} {u} {v} {pieces} {points} {fault} result laws h is i can c g full e =
+    → IsErrAnd result (λ f. f ≡ fault) → Refuses q x y s u v result
+sort_refused q x y {s} {t} {u} {v} {pieces} {points} {fault} result laws h is i can c g e =
     let a = after_close q x laws h i can c in
     let size = sort_size h is c in
     let pb = c.pieces_blocks in
     let qb = c.points_blocks in
     let n = c.points_count in
     refuses q x y result fault e
-    (points_refused q x y pieces points a.stands g full (laws.since_none x s i can.empty))
+    (points_refused q x y pieces points a.stands g (laws.since_none x s i can.empty))
     (λ z cs has. within_lists cs h is (omega (arith, size, pb, qb)) (omega (arith, size, pb, qb))
     (omega (arith, n)) (omega (arith, n)))
 
@@ -223,9 +222,8 @@ pub last_sorted : {Q : Type 0} (q : QueueGhosts Q) (x y w : Q) {s u n : RigState
     {v : Stab} {d pieces c : Chain} (result : Result Chain EmFault) → StabLaws q → Sound s → IsStab s v
     → CanFinish q x s v → AreOut (q.counts x) s.pool → (a : AfterSort q x y s u v d pieces)
     → (r : ReportsAll u n d pieces c) → SortsTo q y w c n t result
-    → IfErr result (FullBeside q c.blocks (c.blocks + ceiling c.count (payload_in n)) (q.counts y)
-    (q.counts w) n) → OnOk result (q.IsQueue w t) → Refuses q x w s t v result
-last_sorted q x y w {s} {u} {n} t {v} {d} {pieces} {c} (Ok e) laws h is can out a r g full j =
+    → OnOk result (q.IsQueue w t) → Refuses q x w s t v result
+last_sorted q x y w {s} {u} {n} t {v} {d} {pieces} {c} (Ok e) laws h is can out a r g j =
     let b = after_report q x y laws can out a r in
     let touches = a.stands.session.touches in
     let last = b.stands.session.touches in
@@ -239,11 +237,11 @@ last_sorted q x y w {s} {u} {n} t {v} {d} {pieces} {c} (Ok e) laws h is can out 
           (last.told ∙ z) z has r a.peak_most a.moved_most a.calls_most a.longest_most);
       full = λ z cs has. tt;
     }
-last_sorted q x y w {s} {u} {n} t {v} {d} {pieces} {c} (Err fault) laws h is can out a r g full j =
+last_sorted q x y w {s} {u} {n} t {v} {d} {pieces} {c} (Err fault) laws h is can out a r g j =
     let b = after_report q x y laws can out a r in
     let touches = a.stands.session.touches in
     let last = b.stands.session.touches in
     refuses q x w (Err fault) fault refl
-    (pairs_unsorted q x y w c b.stands g full (laws.since_none y u a.is a.empty))
+    (pairs_unsorted q x y w c b.stands g (laws.since_none y u a.is a.empty))
     (λ z cs has. within_pairs cs h is a.has touches.shape last.shape b.stands.session.sound
     (touches.told ∙ z) (last.told ∙ z) z has r a.peak_most a.moved_most a.calls_most a.longest_most)

@@ -17,9 +17,9 @@ use Rattle.em_segment_model.specs.Bounds.{holds, pays}
 use Rattle.em_segment_model.specs.Points.{interval_in, pairs_due}
 use Rattle.em_segment_model.specs.Sizes.{fan_root, strip_levels}
 use Rattle.em_segment_model.specs.Spans.{ends_of}
-use Rattle.em_segment.specs.Chains.{IsPackedChain}
-use Rattle.em_segment.specs.Pairs.{IsPairs}
-use Rattle.em_segment.specs.Reports.{Reports, Shifts, StopsReporting, StopsShifting}
+use Rattle.em_segment_parts.specs.Chains.{IsPackedChain}
+use Rattle.em_segment_parts.specs.Pairs.{IsPairs}
+use Rattle.em_segment_parts.specs.Reports.{Reports, Shifts, StopsReporting, StopsShifting}
 
 -- the blocks of a call's points and pieces
 abbrev pub call_blocks : RigState → Chain → Chain → List ℕ

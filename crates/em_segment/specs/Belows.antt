@@ -19,9 +19,9 @@ use Rattle.em_segment_model.specs.Reports.{reported_here}
 use Rattle.em_segment_model.specs.Sizes.{fan_root, strip_levels}
 use Rattle.em_segment_model.specs.Spans.{down_lists, ends_below, value_span}
 use Rattle.em_segment.specs.Answers.{Answered, StopsAnswering, call_blocks, weight}
-use Rattle.em_segment.specs.Chains.{IsPackedChain, chains_count, chains_in, chains_lists}
-use Rattle.em_segment.specs.Pairs.{IsPairs}
-use Rattle.em_segment.specs.Reports.{Reports, StopsReporting}
+use Rattle.em_segment_parts.specs.Chains.{IsPackedChain, chains_count, chains_in, chains_lists}
+use Rattle.em_segment_parts.specs.Pairs.{IsPairs}
+use Rattle.em_segment_parts.specs.Reports.{Reports, StopsReporting}
 use Rattle.em_segment.specs.declared.node.Below.{Below}
 
 -- the points of each strip, and the pieces of each

@@ -22,10 +22,10 @@ use Rattle.em_chain.specs.declared.chain.Chain.{Chain}
 use Rattle.em_tree_cost.specs.Shares.{floors_of, queue_share, stab_room, stab_share}
 use Rattle.em_segment_model.specs.Alike.{Alike}
 use Rattle.em_segment_model.specs.Points.{interval_in}
-use Rattle.em_segment.specs.Accounts.{stored}
+use Rattle.em_segment_parts.specs.Accounts.{stored}
 use Rattle.em_segment.specs.Answers.{WithinCall, call_blocks, due}
-use Rattle.em_segment.specs.Chains.{IsPackedChain}
-use Rattle.em_segment.specs.Reports.{unstored_most}
+use Rattle.em_segment_parts.specs.Chains.{IsPackedChain}
+use Rattle.em_segment_parts.specs.Reports.{unstored_most}
 use Rattle.em_segment.specs.Stabs.{HasCommands, stab_account, stab_blocks, stab_size}
 use Rattle.em_segment.specs.declared.stab.Stab.{Stab}
 
@@ -120,7 +120,7 @@ pub record StabCosts {Q : Type 0} (q : QueueGhosts Q) (x : Q) (s t : RigState) (
       ≤ max (s.most + ((q.counts x).blocks + (stab_account v).blocks))
       (s.used + (ending_most q.room s.pool.shape (q.counts last)
       + stab_room s.pool.shape (stab_size v cs)))
-  -- with the blocks of a queue that is new and states its room: no queue of the workspace states one
+  -- with the blocks of a queue that is new and states its room
   pub room : IfSome q.room (λ f. (q.counts x).n ≡ 0
       → t.most + ((q.counts x).blocks + (stab_account v).blocks)
       ≤ max (s.most + ((q.counts x).blocks + (stab_account v).blocks))

@@ -16,8 +16,8 @@ use Rattle.em_chain.specs.declared.reader.Reader.{Reader}
 use Rattle.em_chain.specs.declared.writer.Writer.{Writer}
 use Rattle.em_queued.specs.Popped.{grown_blocks}
 use Rattle.em_segment_model.specs.Loads.{leaf_list}
-use Rattle.em_segment.specs.Pairs.{IsPairs}
-use Rattle.em_segment.specs.Reports.{Reports, StopsReporting}
+use Rattle.em_segment_parts.specs.Pairs.{IsPairs}
+use Rattle.em_segment_parts.specs.Reports.{Reports, StopsReporting}
 
 -- the pair of a piece and a point that lies in it, if the point was asked after it
 abbrev pub later_pair : Record → Record → List Record

@@ -1,14 +1,5 @@
-pub mod Accounts
 pub mod Answers
 pub mod Belows
-pub mod Chains
-pub mod Deals
 pub mod Finishes
 pub mod Leaves
-pub mod Lists
-pub mod Loads
-pub mod Pairs
-pub mod Reports
-pub mod Splits
 pub mod Stabs
-pub mod Strips

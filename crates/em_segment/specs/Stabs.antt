@@ -14,7 +14,7 @@ use Rattle.em_chain.specs.Writer.{writer_blocks, writer_items}
 use Rattle.em_tree_cost.specs.Shares.{stab_room, stab_share}
 use Rattle.em_segment_model.specs.Commands.{asked_from}
 use Rattle.em_segment_model.specs.Points.{asked_record, interval_record}
-use Rattle.em_segment.specs.Pairs.{IsPairs}
+use Rattle.em_segment_parts.specs.Pairs.{IsPairs}
 use Rattle.em_segment.specs.declared.stab.Stab.{Stab}
 
 -- the blocks that it holds, and its account

@@ -89,7 +89,7 @@ fn answer_last<D: Device>(
     answer(rig, points, pieces, pairs)
 }
 
-/// Releases the blocks of both chains, by two moves for each.
+/// Releases the blocks of both chains, by two moves at most for each.
 pub(crate) fn discard_both<D: Device>(
     rig: &mut Rig<'_, D>,
     points: Chain,

@@ -6,13 +6,12 @@ ghost use Rattle.em_model.specs.declared.command.Command as commands;
 ghost use Rattle.em_space.specs.Held.{Holds};
 ghost use Rattle.em_space.specs.Rig.{Sound};
 ghost use Rattle.em_space.specs.Seen.{seen};
-ghost use Rattle.em_chain.specs.Chain.{IsChain, empty_chain, payload_in};
-ghost use Rattle.em_chain.specs.Counts.{ceiling};
+ghost use Rattle.em_chain.specs.Chain.{IsChain, empty_chain};
 ghost use Rattle.em_tree_cost.specs.Shares.{stab_room};
 ghost use Rattle.em_segment.specs.Answers.{DiscardsTo, call_blocks};
 ghost use Rattle.em_segment.specs.Finishes.{AnswersStabsTo, AsksNothing, CanFinish, CanReportAll, ClosesTo, FindsNothing, ReportsAllTo, StabsCost};
 ghost use Rattle.em_segment.specs.Stabs.{HasCommands, IsStab, stab_account, stab_size};
-ghost use Rattle.em_sorting.specs.Room.{FullBeside};
+ghost use Rattle.em_queued.specs.Room.{FullBeside};
 ghost use Rattle.em_sorting.specs.Sorts.{CanSort, SortsTo};
 
 use crate::answering::{answer, discard_both};
@@ -43,11 +42,11 @@ pub(crate) fn answer_stabs<D: Device, Q: Queue>(
         (record { intervals = intervals; stabs = stabs }) cs }
     ensures full { IsTrue (seen D.state rig.old).device.told → (cs : List commands.Command)
         → HasCommands (seen D.state rig.old) (record { intervals = intervals; stabs = stabs }) cs
-        → IfErr result (FullBeside Q.Queue
+        → IfErr result (FullBeside Q.room
         (stab_account (record { intervals = intervals; stabs = stabs })).blocks
         (stab_room (seen D.state rig.old).pool.shape
         (stab_size (record { intervals = intervals; stabs = stabs }) cs))
-        (Q.counts queue.old) (Q.counts queue.new) (seen D.state rig.old)) }
+        (Q.counts queue.old) (Q.counts queue.new).k (seen D.state rig.old)) }
     ensures nothing { AsksNothing (record { intervals = intervals; stabs = stabs })
         → FindsNothing queue.old queue.new result }
 {
@@ -115,9 +114,6 @@ fn order_points<D: Device, Q: Queue>(
     ensures queue { OnOk result (Q.IsQueue queue.new (seen D.state rig.new)) }
     ensures sorts { SortsTo Q.Queue queue.old queue.new points (seen D.state rig.old)
         (seen D.state rig.new) result }
-    ensures full { IfErr result (FullBeside Q.Queue points.blocks
-        (points.blocks + ceiling points.count (payload_in (seen D.state rig.old)))
-        (Q.counts queue.old) (Q.counts queue.new) (seen D.state rig.old)) }
 {
     sort(rig, queue, points)
 }
@@ -153,9 +149,6 @@ fn order_pairs<D: Device, Q: Queue>(
     ensures queue { OnOk result (Q.IsQueue queue.new (seen D.state rig.new)) }
     ensures sorts { SortsTo Q.Queue queue.old queue.new pairs (seen D.state rig.old)
         (seen D.state rig.new) result }
-    ensures full { IfErr result (FullBeside Q.Queue pairs.blocks
-        (pairs.blocks + ceiling pairs.count (payload_in (seen D.state rig.old)))
-        (Q.counts queue.old) (Q.counts queue.new) (seen D.state rig.old)) }
 {
     sort(rig, queue, pairs)
 }

@@ -15,13 +15,12 @@ ghost use Rattle.em_chain.specs.Writer.{WriterHasFrame};
 ghost use Rattle.em_segment_model.specs.Loads.{leaf_pairs};
 ghost use Rattle.em_segment.specs.Answers.{AnswersTo, CanAnswer, IsCall};
 ghost use Rattle.em_segment.specs.Leaves.{CanReportPieces, ReportsPiecesTo, StandsFrom, TakesBeside, TakesPiecesTo, later_pair};
-ghost use Rattle.em_segment.specs.Pairs.{IsPairs, WritesTo};
+ghost use Rattle.em_segment_parts.specs.Pairs.{IsPairs, WritesTo};
 
-use crate::loading::{put_in_order, take_load};
-use crate::pairing::append_pair;
 use em_chain::{Chain, Reader, Writer};
 use em_frames::{Area, Device};
 use em_record::Record;
+use em_segment_parts::{append_pair, put_in_order, take_load};
 use em_space::{EmFault, Rig};
 
 /// Writes the pairs of some points that fit an area with some pieces, and releases the blocks of both.

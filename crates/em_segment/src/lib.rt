@@ -3,16 +3,9 @@
 #![tactic(auto)]
 
 mod answering;
-mod dealing;
 mod finishing;
 mod leaf;
-mod list;
-mod listing;
-mod loading;
 mod node;
-mod pairing;
-mod reporting;
-mod splitting;
 mod stab;
 
 pub use stab::Stab;

@@ -11,16 +11,13 @@ ghost use Rattle.em_chain.specs.Writer.{WriterHasFrame};
 ghost use Rattle.em_segment_model.specs.Sizes.{fan_root};
 ghost use Rattle.em_segment.specs.Answers.{CanAnswer};
 ghost use Rattle.em_segment.specs.Belows.{AnswersNodeTo};
-ghost use Rattle.em_segment.specs.Chains.{AreChains, chains_blocks, chains_in};
-ghost use Rattle.em_segment.specs.Reports.{DropsTo};
+ghost use Rattle.em_segment_parts.specs.Chains.{AreChains, chains_blocks, chains_in};
+ghost use Rattle.em_segment_parts.specs.Reports.{DropsTo};
 
-use crate::dealing::{Lists, deal_pieces};
-use crate::list::Listed;
-use crate::reporting::report_strips;
-use crate::splitting::{Strips, split};
 use arrayvec::ArrayVec;
 use em_chain::{Chain, Writer, discard};
 use em_frames::Device;
+use em_segment_parts::{Listed, Lists, Strips, deal_pieces, report_strips, split};
 use em_space::{EmFault, Rig};
 
 /// The chains of a node's strips, which wait for their calls: the points of each strip, and the pieces that
@@ -89,7 +86,7 @@ pub(crate) fn answer_node<D: Device>(
     })
 }
 
-/// Releases the blocks of lists, by two moves for each.
+/// Releases the blocks of lists, by two moves at most for each.
 fn drop_slabs<D: Device>(
     rig: &mut Rig<'_, D>,
     mut slabs: ArrayVec<Listed, 136>,

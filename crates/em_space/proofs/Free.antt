@@ -1,11 +1,10 @@
 -- Links of free blocks, and how many there are.
-use Rattle.std.proofs.Common.{◌≡◌, ◌≢◌, ℕ, zero, suc, ◌+◌, ◌-◌, ◌<◌, ◌≤◌, List, [], ◌∷◌, length, get_or, set, refl, sym, ap, ◌∙◌, subst, arith, true, false, Bool, eqb, ◌||◌, ◌⊎◌, inl, inr, ⊎_elim}
+use Rattle.std.proofs.Common.{◌≡◌, ◌≢◌, ℕ, zero, suc, ◌+◌, ◌-◌, ◌<◌, ◌≤◌, List, [], ◌∷◌, length, get_or, set, refl, sym, ap, ◌∙◌, subst, arith, ◌++◌, true, false, Bool, eqb, ◌||◌, ◌⊎◌, inl, inr, ⊎_elim}
 use Rattle.std.proofs.lemmas.List.{get_or-set_other, get_or-set_same, length-set}
 use Rattle.std.proofs.lemmas.Bool.{eqb-true, ne_eqb, false≢true, cases_eq}
-use Rattle.std.proofs.lemmas.Map.Steps.{length-le_from_distinct_below}
 use Rattle.std.specs.List.{IsDistinct, AllByRecursion, list_any}
 use Rattle.em_record.specs.declared.record.Record.{Record}
-use Rattle.em_space.specs.Free.{Off, AreDistinct, AreBelow, header, free_header, link_at, linked_from, AreLinked, free_blocks, IsFreeList, IsTaken}
+use Rattle.em_space.specs.Free.{Off, AreDistinct, AreBelow, header, free_header, link_at, linked_from, AreLinked, free_blocks, IsFreeList, IsTaken, AreTaken}
 use Rattle.em_space.specs.Rig.{IsLaidOut}
 
 -- a write to another block leaves the link of this one
@@ -59,15 +58,6 @@ below-any n [] q h e = absurd (false≢true e)
 below-any n (x ∷ xs) q h e =
     ⊎_elim (λ y. let s : q ≡ x = eqb-true q x y in let l = h.0 in omega arith)
     (λ y. below-any n xs q h.1 y) (or_cases (eqb q x) (list_any (eqb q) xs) e)
-
--- of distinct numbers below n, off which a number below n is, there are fewer than n
-fewer : (n : ℕ) (ks : List ℕ) (k : ℕ) → AreBelow n ks → AreDistinct ks → Off k ks → k < n
-    → length ks < n
-fewer n ks k h d off lt =
-    let l : length (k ∷ ks) ≤ n =
-    length-le_from_distinct_below (k ∷ ks) n (distinct-std (k ∷ ks) (off, d))
-    (λ q e. below-any n (k ∷ ks) q (lt, h) e) in
-    omega arith
 
 -- blocks keep their size after a write of that size
 pub laid_out-set : (bs : List (List Record)) (blocks block k : ℕ) (b : List Record)
@@ -292,10 +282,47 @@ freed-untaken bs most used head k b f h =
     let off = rw (freed-first bs most used head k b f) at h.1 in
     off.0 refl
 
--- where a block is in use, the number in use isn't 0
-pub some-used : (bs : List (List Record)) (most used head k : ℕ)
-    → IsFreeList bs most used head → IsTaken bs most used head k → 0 < used
-some-used bs most used head k h t =
-    let l = fewer most (free_blocks bs most used head) k h.below h.distinct t.1 t.0 in
-    let c = h.count in
-    omega arith
+-- what is taken by one list is taken by another
+pub spare-by : (bs cs : List (List Record)) (most now used then head link : ℕ) (ks : List ℕ)
+    → ((j : ℕ) → IsTaken bs most used head j → IsTaken cs now then link j)
+    → AreTaken bs most used head ks → AreTaken cs now then link ks
+spare-by bs cs most now used then head link [] f h = tt
+spare-by bs cs most now used then head link (k ∷ ks) f h =
+    (f k h.0, spare-by bs cs most now used then head link ks f h.1)
+
+-- and where one block isn't any more, those off it are still
+pub spare-off : (bs cs : List (List Record)) (most now used then head link k : ℕ) (ks : List ℕ)
+    → ((j : ℕ) → j ≢ k → IsTaken bs most used head j → IsTaken cs now then link j)
+    → Off k ks → AreTaken bs most used head ks → AreTaken cs now then link ks
+spare-off bs cs most now used then head link k [] f o h = tt
+spare-off bs cs most now used then head link k (j ∷ js) f o h =
+    (f j (λ e. o.0 (sym e)) h.0, spare-off bs cs most now used then head link k js f o.1 h.1)
+
+pub taken-left : (bs : List (List Record)) (most used head : ℕ) (ks js : List ℕ)
+    → AreTaken bs most used head (ks ++ js) → AreTaken bs most used head ks
+taken-left bs most used head [] js h = tt
+taken-left bs most used head (k ∷ ks) js h = (h.0, taken-left bs most used head ks js h.1)
+
+pub taken-right : (bs : List (List Record)) (most used head : ℕ) (ks js : List ℕ)
+    → AreTaken bs most used head (ks ++ js) → AreTaken bs most used head js
+taken-right bs most used head [] js h = h
+taken-right bs most used head (k ∷ ks) js h = taken-right bs most used head ks js h.1
+
+pub taken-join : (bs : List (List Record)) (most used head : ℕ) (ks js : List ℕ)
+    → AreTaken bs most used head ks → AreTaken bs most used head js
+    → AreTaken bs most used head (ks ++ js)
+taken-join bs most used head [] js a b = b
+taken-join bs most used head (k ∷ ks) js a b = (a.0, taken-join bs most used head ks js a.1 b)
+
+-- a block that isn't taken is off those that are
+pub off-taken : (bs : List (List Record)) (most used head k : ℕ) (ks : List ℕ)
+    → (IsTaken bs most used head k → ⊥) → AreTaken bs most used head ks → Off k ks
+off-taken bs most used head k [] n h = tt
+off-taken bs most used head k (j ∷ js) n h = (
+  (λ e. n (subst (λ (i : ℕ). IsTaken bs most used head i) (sym e) h.0)),
+  off-taken bs most used head k js n h.1,
+)
+
+pub off-none : (k : ℕ) (ks : List ℕ) → length ks ≡ 0 → Off k ks
+off-none k [] e = tt
+off-none k (j ∷ js) e = absurd (omega (arith, e))

@@ -41,7 +41,7 @@ apart_none (k ∷ ks) = (tt, apart_none ks)
 below_by : (s : RigState) (k : ℕ) → Sound s → InUse s k → (b : Bool) → s.device.told ≡ b
     → k < s.blocks
 below_by s k h u true e =
-    let l = (u.told e).0 in let m = h.numbers.most_high in omega arith
+    let l = (u.told e).0.0 in let m = h.numbers.most_high in omega arith
 below_by s k h u false e = u.untold e
 
 -- a block in use is one of the device

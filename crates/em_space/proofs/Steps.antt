@@ -1,9 +1,9 @@
 -- Calls on a rig, one after another.
-use Rattle.std.proofs.Common.{◌≡◌, ℕ, ◌<◌, ◌+◌, ◌-◌, ◌^◌, ◌≤◌, List, [], refl, ap, sym, ◌∙◌, subst, arith, Bool, true, false, IsTrue, IsFalse, inl, inr, ⊎_elim}
+use Rattle.std.proofs.Common.{◌≡◌, ℕ, ◌<◌, ◌+◌, ◌-◌, ◌^◌, ◌≤◌, List, [], length, refl, ap, sym, ◌∙◌, subst, arith, Bool, true, false, IsTrue, IsFalse, inl, inr, ⊎_elim}
 use Rattle.std.proofs.lemmas.Bool.{cases_lt}
 use Rattle.em_frames.specs.Pool.{PoolCounts, SameFrames, singles_of, lent, given}
 use Rattle.em_space.specs.Free.{Off, IsTaken}
-use Rattle.em_space.specs.Rig.{RigState, Sound, InUse, Touches, Goes, Cause, BlockCause, DeviceCause, MovesToRelease, Owes}
+use Rattle.em_space.specs.Rig.{RigState, Sound, InUse, Touches, Goes, Cause, BlockCause, DeviceCause, MovesToRelease, Owes, unlinked}
 use Rattle.em_space.specs.declared.fault.EmFault.{EmFault}
 use Rattle.em_space.specs.declared.fault.EmFault.TheVariants.{DeviceFault, Full, Damaged}
 
@@ -129,15 +129,17 @@ release_moves a b m = ⊎_elim
     (λ (u : a.used < 1).
     let e : b.moves ≡ a.moves = ap (λ (s : RigState). s.moves) (m.none_used (omega (arith, u))) in
     omega (arith, e))
-    (λ (u : 1 ≤ a.used). omega (arith, m.some_used u))
+    (λ (u : 1 ≤ a.used). m.some_used u)
     (cases_lt a.used 1)
 
 -- which blocks are in use may have been said anew, and the pool have lent something or taken it back
-pub touches_again : (s : RigState) (p : PoolCounts) (head used : ℕ) → p.shape ≡ s.pool.shape
-    → ((k : ℕ) → IsTrue s.device.told → IsTaken s.device.contents s.most s.used s.head k
-    → IsTaken s.device.contents s.most used head k)
-    → Touches [] s (record s { pool = p; head = head; used = used })
-touches_again s p head used shape kept = record {
+pub touches_again : (s : RigState) (p : PoolCounts) (head used : ℕ) (spare : List ℕ)
+    → p.shape ≡ s.pool.shape
+    → ((k : ℕ) → IsTrue s.device.told
+    → IsTaken s.device.contents s.most (unlinked s) s.head k × Off k s.spare
+    → IsTaken s.device.contents s.most (used + length spare) head k × Off k spare)
+    → Touches [] s (record s { pool = p; head = head; spare = spare; used = used })
+touches_again s p head used spare shape kept = record {
   name = refl;
   told = refl;
   blocks = refl;
@@ -153,7 +155,7 @@ touches_again s p head used shape kept = record {
 
 pub touches_pool : (s : RigState) (p : PoolCounts) → p.shape ≡ s.pool.shape
     → Touches [] s (record s { pool = p })
-touches_pool s p shape = touches_again s p s.head s.used shape (λ k z u. u)
+touches_pool s p shape = touches_again s p s.head s.used s.spare shape (λ k z u. u)
 
 pub sound_pool : (s : RigState) (p : PoolCounts) → p.shape ≡ s.pool.shape
     → p.free ≤ singles_of p.shape → p.free_areas ≤ 2 → Sound s → Sound (record s { pool = p })
@@ -167,6 +169,8 @@ sound_pool s p shape singles areas h = record {
   numbers = h.numbers;
   told = λ t. rw shape (h.told t);
   free = h.free;
+  spare_below = h.spare_below;
+  spare = h.spare;
 }
 
 -- a call to which a frame was lent, and which gave it back

@@ -46,17 +46,28 @@ AreLinked contents link (k ∷ ks) =
     × (header (get_or contents k []) ≡ free_header (link_at contents k))
     × AreLinked contents (link_at contents k) ks
 
--- the free blocks among the first ones, of which this many are in use
+-- the blocks that are linked among the first ones, of which this many aren't: those in use, and those
+-- whose numbers are kept in memory
 abbrev pub free_blocks : List (List Record) → ℕ → ℕ → ℕ → List ℕ
 free_blocks contents most used head = linked_from (most - used) contents head
 
--- All of the first blocks that aren't in use are linked.
+-- All of the first blocks are linked but for this many.
 pub record IsFreeList (contents : List (List Record)) (most used head : ℕ) : Type 0 where
   pub linked : AreLinked contents head (free_blocks contents most used head)
   pub count : length (free_blocks contents most used head) ≡ most - used
   pub below : AreBelow most (free_blocks contents most used head)
   pub distinct : AreDistinct (free_blocks contents most used head)
 
--- one of the first blocks, and not free
+-- one of the first blocks, and not linked
 abbrev pub IsTaken : List (List Record) → ℕ → ℕ → ℕ → ℕ → Type 0
 IsTaken contents most used head k = (k < most) × Off k (free_blocks contents most used head)
+
+abbrev pub AreTaken : List (List Record) → ℕ → ℕ → ℕ → List ℕ → Type 0
+AreTaken contents most used head [] = Unit {0}
+AreTaken contents most used head (k ∷ ks) =
+    IsTaken contents most used head k × AreTaken contents most used head ks
+
+-- The free blocks whose numbers are kept in memory: none is linked, and none stands there twice.
+pub record AreSpare (contents : List (List Record)) (most used head : ℕ) (ks : List ℕ) : Type 0 where
+  pub taken : AreTaken contents most used head ks
+  pub distinct : AreDistinct ks

@@ -20,6 +20,7 @@ pub record Reads (old new : RigState) : Type 0 where
   pub faults : old.device.faults ≤ new.device.faults
   pub blocks : new.blocks ≡ old.blocks
   pub same : SameBlocks old new
+  pub spare : new.spare ≡ old.spare
   pub moves : new.moves ≡ next_count old.moves
   pub later : old.moves ≤ new.moves
 

@@ -77,13 +77,13 @@ pub record Served (c d : QueueCounts) (old new : RigState) : Type 0 where
   pub used : new.used + c.blocks ≡ old.used + d.blocks
   pub pays : Pays c.unstored d.unstored old new
 
--- Fewer than `enough` of the `used` blocks were free before the call, and the queue's room with the
--- blocks of others is more than all of them. It isn't said that the call needed a block.
+-- Fewer than `enough` of the `used` blocks were free before the call, and if the device tells, the queue's
+-- room with the blocks of others is more than all of them. It isn't said that the call needed a block.
 pub record LacksBlocks (enough : ShapeNumbers → QueueCounts → ℕ)
     (room : Option (ShapeNumbers → ℕ → ℕ)) (c : QueueCounts) (k : ℕ) (old : RigState) (used : ℕ)
     : Type 0 where
   pub few : used < old.used + enough old.pool.shape c
-  pub small : IfSome room (λ f. used + c.blocks < old.used + f old.pool.shape k)
+  pub small : IsTrue old.device.told → IfSome room (λ f. used + c.blocks < old.used + f old.pool.shape k)
 
 -- A queue gave all its frames back, and nothing was moved.
 pub record Leaves (c : QueueCounts) (old new : RigState) : Type 0 where
@@ -99,8 +99,8 @@ ending_most None shape c = c.most
 ending_most (Some f) shape c = f shape c.k
 
 -- What holds after the end of a queue, whether it gave up or not: only its blocks may have changed,
--- its frames are back, its greatest number of blocks was within what it was allowed, and so were its
--- moves, if the device tells.
+-- its frames are back, and its greatest number of blocks and its moves were within what it was allowed, if
+-- the device tells.
 pub record Ends (allowance : Option (ShapeNumbers → ℕ → ℕ → ℕ))
     (room : Option (ShapeNumbers → ℕ → ℕ)) (held : List ℕ) (c : QueueCounts) (old new : RigState)
     : Type 0 where
@@ -109,7 +109,7 @@ pub record Ends (allowance : Option (ShapeNumbers → ℕ → ℕ → ℕ))
   pub frames : Shares c (record c { frames = 0; areas = 0 }) old.pool new.pool
   pub spent : IsTrue old.device.told → IfSome allowance (λ f.
       c.spent + new.moves ≤ old.moves + f old.pool.shape c.n c.k)
-  pub most : new.most + c.blocks
+  pub most : IsTrue old.device.told → new.most + c.blocks
       ≤ max (old.most + c.blocks) (old.used + ending_most room old.pool.shape c)
 
 -- It gave all its blocks back, and each that it stored was moved.

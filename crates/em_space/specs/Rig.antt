@@ -8,33 +8,41 @@ use Rattle.em_frames.specs.Device.{DeviceState, block_at, fresh_contents}
 use Rattle.em_frames.specs.Pool.{PoolCounts, SameFrames, singles_of}
 use Rattle.em_frames.specs.declared.device.BeginFault.{BeginFault}
 use Rattle.em_frames.specs.declared.device.BeginFault.TheVariants as begin
-use Rattle.em_space.specs.Free.{Off, IsFreeList, IsTaken}
+use Rattle.em_space.specs.Free.{Off, AreBelow, AreSpare, IsFreeList, IsTaken}
 use Rattle.em_space.specs.declared.fault.EmFault.{EmFault}
 use Rattle.em_space.specs.declared.fault.EmFault.TheVariants.{DeviceFault, Full, Damaged}
 
 -- The name of the borrowed device, what the device tells, and the pool; the number of blocks, the
--- link to the first block that was freed, how many are in use, the greatest number that were in use
--- at once, and the moves, since the rig was opened.
+-- link to the first block that was freed and written as free, the numbers of those that were freed and
+-- are kept in memory, how many are in use, the greatest number that were in use at once, and the
+-- moves, since the rig was opened.
 pub record RigState : Type 0 where
   pub name : GName
   pub device : DeviceState
   pub pool : PoolCounts
   pub blocks : ℕ
   pub head : ℕ
+  pub spare : List ℕ
   pub used : ℕ
   pub most : ℕ
   pub moves : ℕ
 
 -- The numbers of a rig: a device has 1 to 2 ^ 40 blocks. Of the first blocks, up to the most that
--- were in use at once, some are free exactly if there is a link to one.
-pub record AreNumbers (blocks head used most : ℕ) : Type 0 where
+-- were in use at once, this many free ones are kept in memory, and some more are free exactly if there
+-- is a link to one.
+pub record AreNumbers (blocks head spare used most : ℕ) : Type 0 where
   pub blocks_low : 0 < blocks
   pub blocks_high : blocks ≤ 2 ^ 40
   pub used_most : used ≤ most
   pub most_high : most ≤ blocks
   pub head_high : head ≤ blocks
-  pub none_freed : head ≡ 0 → used ≡ most
-  pub some_freed : 0 < head → used < most
+  pub spare_most : used + spare ≤ most
+  pub none_freed : head ≡ 0 → used + spare ≡ most
+  pub some_freed : 0 < head → used + spare < most
+
+-- the blocks to which no link leads, of those that were ever in use
+abbrev pub unlinked : RigState → ℕ
+unlinked s = s.used + length s.spare
 
 -- this many blocks of this many records are told
 pub record IsLaidOut (contents : List (List Record)) (blocks block : ℕ) : Type 0 where
@@ -49,13 +57,17 @@ pub record Sound (s : RigState) : Type 0 where
   pub shape : IsShape s.pool.shape
   pub singles : s.pool.free ≤ singles_of s.pool.shape
   pub areas : s.pool.free_areas ≤ 2
-  pub numbers : AreNumbers s.blocks s.head s.used s.most
+  pub numbers : AreNumbers s.blocks s.head (length s.spare) s.used s.most
   pub told : IsTrue s.device.told → IsLaidOut s.device.contents s.blocks s.pool.shape.block
-  pub free : IsTrue s.device.told → IsFreeList s.device.contents s.most s.used s.head
+  pub free : IsTrue s.device.told → IsFreeList s.device.contents s.most (unlinked s) s.head
+  pub spare_below : AreBelow s.blocks s.spare
+  pub spare : IsTrue s.device.told
+      → AreSpare s.device.contents s.most (unlinked s) s.head s.spare
 
 -- The block of this number is in use. Of a device that doesn't tell, only the range is known.
 pub record InUse (s : RigState) (k : ℕ) : Type 0 where
-  pub told : IsTrue s.device.told → IsTaken s.device.contents s.most s.used s.head k
+  pub told : IsTrue s.device.told
+      → IsTaken s.device.contents s.most (unlinked s) s.head k × Off k s.spare
   pub untold : IsFalse s.device.told → k < s.blocks
 
 -- the block stays in use with its contents
@@ -80,8 +92,9 @@ pub record Goes (held : List ℕ) (old new : RigState) : Type 0 where
   pub touches : Touches held old new
   pub frames : SameFrames old.pool new.pool
 
--- Why a call gave up: the device's count of faults rose; all blocks are in use; or, over a device
--- that doesn't tell what it holds, a block isn't laid out as it was left.
+-- Why a call gave up: the device's count of faults rose; all blocks are in use, also if a call of the
+-- device failed before; or, over a device that doesn't tell what it holds, a block isn't laid out as
+-- it was left.
 abbrev pub Cause : RigState → RigState → EmFault → Type 0
 Cause old new DeviceFault = Rose old.device.faults new.device.faults
 Cause old new (Full used) = (used ≡ new.blocks) × (new.used ≡ new.blocks)
@@ -130,6 +143,7 @@ pub record Opens (device : DeviceState) (pool : PoolCounts) (blocks : ℕ) (new 
   pub none_used : new.used ≡ 0
   pub none_ever : new.most ≡ 0
   pub none_freed : new.head ≡ 0
+  pub none_spare : new.spare ≡ []
   pub none_moved : new.moves ≡ 0
 
 -- A device wasn't begun, and the pool goes back.
@@ -164,11 +178,13 @@ pub record SameBlocks (old new : RigState) : Type 0 where
   pub used : new.used ≡ old.used
   pub most : new.most ≡ old.most
 
--- A new block comes with no move where none was freed and not used again; else the first of those
--- is read.
+-- A block comes with no move where its number is in memory, or where none is linked; else the first of
+-- those that are is read.
 pub record MovesToAlloc (old new : RigState) : Type 0 where
   pub none_freed : old.head ≡ 0 → new.moves ≡ old.moves
-  pub some_freed : 0 < old.head → new.moves ≡ next_count old.moves
+  pub some_freed : 0 < old.head → new.moves ≤ old.moves + 1
+  pub some_spare : 0 < length old.spare → new.moves ≡ old.moves
+  pub none_spare : length old.spare ≡ 0 → 0 < old.head → new.moves ≡ next_count old.moves
 
 -- One block was moved, or was to be; the blocks in use and the frames are the same.
 pub record Transfers (old new : RigState) : Type 0 where
@@ -178,8 +194,10 @@ pub record Transfers (old new : RigState) : Type 0 where
   pub moves : new.moves ≡ next_count old.moves
   pub pool : new.pool ≡ old.pool
 
--- One move; but none, and nothing else either, where no block is in use, which only a device that
--- doesn't tell what it holds allows.
+-- At most one move, and none where a number has room in memory; but none, and nothing else either,
+-- where no block is in use, which only a device that doesn't tell what it holds allows.
 pub record MovesToRelease (old new : RigState) : Type 0 where
   pub none_used : old.used ≡ 0 → new ≡ old
-  pub some_used : 0 < old.used → new.moves ≡ next_count old.moves
+  pub some_used : 0 < old.used → new.moves ≤ old.moves + 1
+  pub has_room : length old.spare < 512 → new.moves ≡ old.moves
+  pub has_none : 0 < old.used → 512 ≤ length old.spare → new.moves ≡ next_count old.moves

@@ -11,6 +11,7 @@ seen state rig = record {
   pool = rig.pool;
   blocks = rig.blocks;
   head = rig.head;
+  spare = rig.spare.items;
   used = rig.used;
   most = rig.most;
   moves = rig.moves;

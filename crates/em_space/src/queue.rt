@@ -31,7 +31,8 @@ pub trait Queue {
     /// At most this many moves after `n` calls, by the shape, n and k, if there is such a number and the
     /// device tells.
     ghost allowance: { Option (ShapeNumbers → ℕ → ℕ → ℕ) };
-    /// At most this many blocks at once, by the shape and k; where there is such a number.
+    /// At most this many blocks at once, by the shape and k, if there is such a number and the device
+    /// tells.
     ghost room: { Option (ShapeNumbers → ℕ → ℕ) };
     /// With this many free blocks no call answers `Full`.
     ghost enough: { ShapeNumbers → QueueCounts → ℕ };
@@ -177,9 +178,9 @@ pub trait Queue {
         → IfSome allowance (λ f.
         (counts q).spent ≤ f s.pool.shape (counts q).n (counts q).k) };
 
-    /// Its room doesn't fall where k rises, and its blocks never exceed it.
+    /// Its room doesn't fall where k rises, and its blocks never exceed it, if the device tells.
     ghost rising_room: { IfSome room IsRisingRoom };
 
-    ghost fits: { (q : Self) (s : RigState) → HasItsFrames q s → IfSome room (λ f.
-        (counts q).most ≤ f s.pool.shape (counts q).k) };
+    ghost fits: { (q : Self) (s : RigState) → HasItsFrames q s → IsTrue s.device.told
+        → IfSome room (λ f. (counts q).most ≤ f s.pool.shape (counts q).k) };
 }

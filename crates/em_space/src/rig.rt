@@ -1,4 +1,4 @@
-ghost use Rattle.std.specs.Prelude.{◌≡◌, ◌↔◌, ◌<◌, ◌≤◌, ◌+◌, ◌-◌, ◌^◌, length, set, max, [], ◌∷◌, OnOk, OnErr, IfOk, IfErr, IsTrue, IsOk, Err, true, false};
+ghost use Rattle.std.specs.Prelude.{◌≡◌, ◌↔◌, ◌<◌, ◌≤◌, ◌+◌, ◌-◌, ◌^◌, length, set, max, [], ◌∷◌, ◌++◌, OnOk, OnErr, IfOk, IfErr, IsTrue, IsOk, Err, true, false};
 ghost use Rattle.em_record.specs.Count.{Rose, next_count};
 ghost use Rattle.em_frames.specs.Device.{block_at, ChangesOnly};
 ghost use Rattle.em_frames.specs.Pool.{singles_of, load_of, places_in, lent, given, lent_area, given_area, lent_rack, given_rack, IsWhole, SameFrames};
@@ -9,6 +9,7 @@ ghost use Rattle.em_space.specs.Inner.{IsFreeHeader, Reads, WritesLink};
 
 use crate::fault::EmFault;
 use crate::refused::OpenRefused;
+use arrayvec::ArrayVec;
 use em_frames::{Area, Device, Frame, Pool, Rack};
 use em_record::{Record, Shape};
 
@@ -18,7 +19,10 @@ pub struct Rig<'d, D: Device, P = Pool> {
     device: &'d mut D,
     pool: P,
     blocks: u64,
+    /// The link to the first of the freed blocks whose numbers aren't kept.
     head: u64,
+    /// Numbers of freed blocks: 4096 bytes, beside the frames.
+    spare: ArrayVec<u64, 512>,
     used: u64,
     most: u64,
     moves: u64,
@@ -76,6 +80,7 @@ impl<'d, D: Device> Rig<'d, D> {
                 pool,
                 blocks,
                 head: 0,
+                spare: ArrayVec::new(),
                 used: 0,
                 most: 0,
                 moves: 0,
@@ -98,6 +103,7 @@ impl<'d, D: Device> Rig<'d, D> {
             pool,
             blocks: _,
             head: _,
+            spare: _,
             used: _,
             most: _,
             moves: _,
@@ -164,10 +170,11 @@ impl<'d, D: Device> Rig<'d, D> {
         self.pool.free()
     }
 
-    /// A block that isn't in use, which is in use from then on: one that was freed, by one move, or
-    /// if there is none a new one, by no move. Its contents are whatever the device holds there.
+    /// A block that isn't in use, which is in use from then on: one whose number is kept, by no move;
+    /// if there is none, the first linked one, by one move; and if there is none either, a new one, by
+    /// no move. Its contents are whatever the device holds there.
     /// `Full` comes exactly if all blocks are in use, `Damaged` where the header of the first
-    /// freed block, which was read, isn't as it was left. After a fault the blocks in use are as
+    /// linked block, which was read, isn't as it was left. After a fault the blocks in use are as
     /// before.
     pub fn alloc(&mut self) -> Result<u64, EmFault>
         requires sound { Sound (seen D.state self.old) }
@@ -192,15 +199,49 @@ impl<'d, D: Device> Rig<'d, D> {
             (seen D.state self.old).head ≡ block + 1)) }
         ensures owes { Owes 1 (seen D.state self.old) (seen D.state self.new) }
     {
+        if self.spare.len() > 0 {
+            return Ok(self.alloc_spare());
+        }
         if self.head == 0 {
             return self.alloc_new();
         }
         self.alloc_freed()
     }
 
+    /// The block of the last number that is kept.
+    fn alloc_spare(&mut self) -> u64
+        requires sound { Sound (seen D.state self.old) }
+        requires some { 0 < length (seen D.state self.old).spare }
+        ensures goes { Goes [] (seen D.state self.old) (seen D.state self.new) }
+        ensures given { Allocates (seen D.state self.old) (seen D.state self.new) result }
+        ensures room { (seen D.state self.old).used < (seen D.state self.old).blocks }
+        ensures most { (seen D.state self.new).most ≡ (seen D.state self.old).most }
+        ensures kept { (seen D.state self.new).device ≡ (seen D.state self.old).device }
+        ensures moves { (seen D.state self.new).moves ≡ (seen D.state self.old).moves }
+    {
+        let block = self.pop_spare();
+        self.used += 1;
+        block
+    }
+
+    /// Takes the last of the numbers that are kept.
+    fn pop_spare(&mut self) -> u64
+        requires some { 0 < length (seen D.state self.old).spare }
+        ensures spare { (seen D.state self.old).spare
+            ≡ (seen D.state self.new).spare ++ result ∷ [] }
+        ensures rest { seen D.state self.new
+            ≡ record (seen D.state self.old) { spare = (seen D.state self.new).spare } }
+    {
+        let Some(block) = self.spare.pop() else {
+            unreachable!()
+        };
+        block
+    }
+
     /// A block that was never in use.
     fn alloc_new(&mut self) -> Result<u64, EmFault>
         requires sound { Sound (seen D.state self.old) }
+        requires spare { length (seen D.state self.old).spare ≡ 0 }
         requires none { (seen D.state self.old).head ≡ 0 }
         ensures goes { Goes [] (seen D.state self.old) (seen D.state self.new) }
         ensures given { IfOk result (Allocates (seen D.state self.old) (seen D.state self.new)) }
@@ -222,14 +263,16 @@ impl<'d, D: Device> Rig<'d, D> {
         Ok(block)
     }
 
-    /// The first of the blocks that were freed.
+    /// The first of the linked blocks, by one move.
     fn alloc_freed(&mut self) -> Result<u64, EmFault>
         requires sound { Sound (seen D.state self.old) }
+        requires spare { length (seen D.state self.old).spare ≡ 0 }
         requires some { 0 < (seen D.state self.old).head }
         requires free { 0 < (seen D.state self.old).pool.free }
         ensures goes { Goes [] (seen D.state self.old) (seen D.state self.new) }
         ensures given { IfOk result (Allocates (seen D.state self.old) (seen D.state self.new)) }
         ensures same { OnErr result (SameBlocks (seen D.state self.old) (seen D.state self.new)) }
+        ensures none_new { OnErr result (NoneNew (seen D.state self.old) (seen D.state self.new)) }
         ensures most { (seen D.state self.new).most ≡ (seen D.state self.old).most }
         ensures kept { (seen D.state self.new).device.contents
             ≡ (seen D.state self.old).device.contents }
@@ -303,6 +346,7 @@ impl<'d, D: Device> Rig<'d, D> {
         ensures stored { OnOk result ((seen D.state self.new).device.contents
             ≡ set (seen D.state self.old).device.contents block frame.now) }
         ensures in_use { InUse (seen D.state self.new) block }
+        ensures spare { (seen D.state self.new).spare ≡ (seen D.state self.old).spare }
         ensures cause { IfErr result (DeviceCause (seen D.state self.old) (seen D.state self.new)) }
     {
         let wrote = self.device.write(block, frame.records());
@@ -313,8 +357,9 @@ impl<'d, D: Device> Rig<'d, D> {
         }
     }
 
-    /// Frees a block in use, by one move: it may come again from `alloc`, and what it held is gone.
-    /// After a fault the block is still in use, and may hold anything.
+    /// Frees a block in use: it may come again from `alloc`, and what it held is gone. It moves nothing
+    /// while fewer than 512 numbers are kept, and else one block. After a fault the block is still in
+    /// use, and may hold anything.
     ///
     /// `Damaged` comes only if no block is in use, over a device that doesn't tell what it has.
     pub fn release(&mut self, block: u64) -> Result<(), EmFault>
@@ -340,10 +385,31 @@ impl<'d, D: Device> Rig<'d, D> {
         if self.used == 0 {
             return Err(EmFault::Damaged { block });
         }
+        if !self.spare.is_full() {
+            self.keep_spare(block);
+            return Ok(());
+        }
         self.write_free(block)?;
         self.head = block + 1;
         self.used -= 1;
         Ok(())
+    }
+
+    /// Keeps the number of a block in use, which is free from then on.
+    fn keep_spare(&mut self, block: u64)
+        requires sound { Sound (seen D.state self.old) }
+        requires in_use { InUse (seen D.state self.old) block }
+        requires some { 0 < (seen D.state self.old).used }
+        requires room { length (seen D.state self.old).spare < 512 }
+        ensures goes { Goes (block ∷ []) (seen D.state self.old) (seen D.state self.new) }
+        ensures released { Releases (seen D.state self.old) (seen D.state self.new) block }
+        ensures none_new { NoneNew (seen D.state self.old) (seen D.state self.new) }
+        ensures most { (seen D.state self.new).most ≡ (seen D.state self.old).most }
+        ensures kept { (seen D.state self.new).device ≡ (seen D.state self.old).device }
+        ensures moves { (seen D.state self.new).moves ≡ (seen D.state self.old).moves }
+    {
+        self.spare.push(block);
+        self.used -= 1;
     }
 
     /// Makes a block in use look like a free one, with a link to those that were freed before.
@@ -353,6 +419,7 @@ impl<'d, D: Device> Rig<'d, D> {
         requires free { 0 < (seen D.state self.old).pool.free }
         ensures goes { Goes (block ∷ []) (seen D.state self.old) (seen D.state self.new) }
         ensures in_use { InUse (seen D.state self.new) block }
+        ensures spare { (seen D.state self.new).spare ≡ (seen D.state self.old).spare }
         ensures blocks { SameBlocks (seen D.state self.old) (seen D.state self.new) }
         ensures none_new { NoneNew (seen D.state self.old) (seen D.state self.new) }
         ensures moves { (seen D.state self.new).moves

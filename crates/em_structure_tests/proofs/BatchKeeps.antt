@@ -6,7 +6,7 @@ use Rattle.em_model.specs.declared.command.Command.{Command}
 use Rattle.em_space.specs.Rig.{RigState}
 use Rattle.em_space.specs.declared.fault.EmFault.{EmFault}
 use Rattle.em_chain.specs.declared.chain.Chain.{Chain}
-use Rattle.em_tree.specs.Calls.{LeavesTrunk}
+use Rattle.em_trunk.specs.Lists.{LeavesTrunk}
 use Rattle.em_map.specs.Batch.{CountsCommand, FinishesBatch, IsNewBatch, TakesTo}
 use Rattle.em_map.specs.declared.batch.Batch.{Batch}
 use Rattle.em_structure_tests.specs.Ready.{HasAll, KeepsBatch, KeepsRig, ReadyBatch}

@@ -1,4 +1,5 @@
 mod Kept
+mod ListQueue
 mod Frames
 mod TreeKeeps
 mod BatchKeeps

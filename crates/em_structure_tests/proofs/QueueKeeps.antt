@@ -8,7 +8,7 @@ use Rattle.em_space.specs.Queue.{QueueCounts, Serves, Shares}
 use Rattle.em_space.specs.Rig.{RigState, Sound, Touches}
 use Rattle.em_space.specs.declared.fault.EmFault.{EmFault}
 use Rattle.em_pqueue.specs.Calls.{IsNewQueue}
-use Rattle.em_pqueue.specs.ExtQueue.{ExtQueueHasFrames, IsExtQueue, counts_of}
+use Rattle.em_pqueue.specs.ExtQueue.{HoldsFrames, IsExtQueue, counts_of}
 use Rattle.em_pqueue.specs.QueueLaws as laws
 use Rattle.em_pqueue.specs.declared.queue.ExtQueue.{ExtQueue}
 use Rattle.em_structure_tests.specs.Ready.{HasAll, KeepsQueue, KeepsRig, ReadyQueue, queue_size}
@@ -28,7 +28,7 @@ shares_frames c d p q same areas h = record {
 -- A call was made, which counted at most this many calls and items.
 pub called_keeps : (n : ℕ) (held : List ℕ) (s t : RigState) (p q : ExtQueue) {T : Type 0}
     (r : Result T EmFault) → s.device.told ≡ false → Serves held (counts_of p) (counts_of q) s t
-    → ExtQueueHasFrames t q → OnOk r (IsExtQueue t q) → OnOk r (q.len ≤ p.len + 1) → 2 ≤ n
+    → HoldsFrames t q → OnOk r (IsExtQueue t q) → OnOk r (q.len ≤ p.len + 1) → 2 ≤ n
     → KeepsQueue n s t p q r
 called_keeps n held s t p q (Ok x) e h has is len le = record {
   sound = h.sound;
@@ -50,13 +50,13 @@ called_keeps n held s t p q (Err fault) e h has is len le = record {
 -- No call was made.
 pub still_keeps : (n : ℕ) (s : RigState) (q : ExtQueue) → ReadyQueue n s q
     → KeepsQueue {T = Unit {0}} n s s q q (Ok tt)
-still_keeps n s q h = keeps_none n n (queue_size q) s (ExtQueueHasFrames s q) (IsExtQueue s q) tt
+still_keeps n s q h = keeps_none n n (queue_size q) s (HoldsFrames s q) (IsExtQueue s q) tt
     (laws.frames_of q s h.is) h
 
 -- It was drained.
 pub drained_keeps : (n : ℕ) (held : List ℕ) (s t : RigState) (p q : ExtQueue) {T : Type 0}
     (r : Result T EmFault) → s.device.told ≡ false → Sound t → Touches held s t
-    → ExtQueueHasFrames t q → Shares (counts_of p) (counts_of q) s.pool t.pool
+    → HoldsFrames t q → Shares (counts_of p) (counts_of q) s.pool t.pool
     → q.calls ≤ p.calls + n → OnOk r (IsExtQueue t q) → OnOk r (q.len ≡ 0) → n ≤ 2 ^ 20
     → KeepsQueue (2 ^ 20) s t p q r
 drained_keeps n held s t p q (Ok x) e sound touches has shares calls is none le = record {

@@ -8,9 +8,10 @@ use Rattle.em_space.specs.Rig.{RigState}
 use Rattle.em_space.specs.declared.fault.EmFault.{EmFault}
 use Rattle.em_chain.specs.declared.chain.Chain.{Chain}
 use Rattle.em_tree_cost.specs.Books.{TreeCounts, count_push, count_settle}
-use Rattle.em_tree.specs.Calls.{ChangesTrunk, CountsCall, FinishesTrunk, IsNewTrunk, LeavesTrunk, PushesOp, SettlesTrunk, StopsTrunk}
+use Rattle.em_tree.specs.Calls.{ChangesTrunk, CountsCall, FinishesTrunk, IsNewTrunk, PushesOp, SettlesTrunk, StopsTrunk}
 use Rattle.em_tree.specs.Taking.{CountsTake, TakesFirstTo}
-use Rattle.em_tree.specs.declared.trunk.Trunk.{Trunk}
+use Rattle.em_trunk.specs.declared.trunk.Trunk.{Trunk}
+use Rattle.em_trunk.specs.Lists.{LeavesTrunk}
 use Rattle.em_structure_tests.specs.Ready.{HasFrames, KeepsRig, KeepsTree, ReadyTree, tree_calls}
 use Rattle.em_structure_tests.proofs.Frames.{back}
 

@@ -6,11 +6,11 @@ use Rattle.em_settle.specs.Map.{IsMapKept, IsMapOp, map_key_of}
 use Rattle.em_space.specs.Queue.{CanServe}
 use Rattle.em_space.specs.Rig.{RigState, Sound}
 use Rattle.em_space.specs.declared.fault.EmFault.{EmFault}
-use Rattle.em_tree.specs.Trunk.{IsTrunk, TrunkHasFrames}
-use Rattle.em_tree.specs.declared.trunk.Trunk.{Trunk}
+use Rattle.em_trunk.specs.Trunk.{IsTrunk, TrunkHasFrames}
+use Rattle.em_trunk.specs.declared.trunk.Trunk.{Trunk}
 use Rattle.em_map.specs.Batch.{BatchHasFrames, IsBatch}
 use Rattle.em_map.specs.declared.batch.Batch.{Batch}
-use Rattle.em_pqueue.specs.ExtQueue.{ExtQueueHasFrames, IsExtQueue}
+use Rattle.em_pqueue.specs.ExtQueue.{HoldsFrames, IsExtQueue}
 use Rattle.em_pqueue.specs.declared.queue.ExtQueue.{ExtQueue}
 use Rattle.em_segment.specs.Stabs.{IsStab, StabHasFrames, stab_len}
 use Rattle.em_segment.specs.declared.stab.Stab.{Stab}
@@ -88,7 +88,7 @@ ReadyQueue more s q = Ready more (queue_size q) s (IsExtQueue s q)
 abbrev pub KeepsQueue : {T : Type 0} → ℕ → RigState → RigState → ExtQueue → ExtQueue
     → Result T EmFault → Type 0
 KeepsQueue more s t p q result =
-    Keeps more (queue_size p) (queue_size q) s t (ExtQueueHasFrames t q) (IsExtQueue t q) result
+    Keeps more (queue_size p) (queue_size q) s t (HoldsFrames t q) (IsExtQueue t q) result
 
 abbrev pub ReadyStab : ℕ → RigState → Stab → Type 0
 ReadyStab more s v = Ready more (stab_len v) s (IsStab s v)

@@ -111,31 +111,29 @@ fn row(alloc: Global, number: u64) -> Result<(Structure, Vec<Record>), Fail> {
 /// ones. The call 0 begins the device, so that the moves are all others.
 type Failing = (u64, u64, u64, u64);
 
-/// - Rows 0, 1, 3 and 4: more than the 6 moves of a structure that gets no call, and no more than the calls that fail.
-/// - Row 2: the operations fill 17 blocks of the root's buffer twice, of which each is read and released, and their
-///   records 34 blocks of leaves, of which each is stored, read and released. So there are more than 160 moves. The last
-///   hundred are of takings alone, and the first leaf is removed there.
-/// - Row 5: both lists are stored by 2 moves. The queue puts n records of one block in order by 4n + 3: it reads and
-///   releases their block by 2, each pop stores, reads and releases the queue's by 3, all pops but the last one take a
-///   block by 1, and the new list takes one and is stored by 2. So the five points take 23 moves, and the four pairs 19.
-///   Between them points and intervals are read and released by 4, and the pairs take a block and are stored by 2. At
-///   last they are read and released by 2.
+/// - Rows 0, 1, 3 and 4: more than the 4 moves of a structure that gets no call, and no more than the calls that fail.
+/// - Row 2: the operations fill 17 blocks of the root's buffer twice, and as many of the leaf's, of which each is stored
+///   and read, and their records 34 blocks of leaves, of which each is stored and read. So there are 6 * 34 moves at least.
+///   The last ones are of takings alone, and the first leaf is removed there.
+/// - Row 5: both lists are stored by 2 moves. The queue puts n records of one block in order by 2n + 2: it reads their
+///   block by 1, each pop stores and reads the queue's by 2, and the new list is stored by 1. So the five points take 12
+///   moves, and the four pairs 10. Between them points and intervals are read by 2, and the pairs are stored by 1. At last
+///   they are read by 1: 2 + 12 + 2 + 1 + 10 + 1.
 const FAILING: [Failing; 6] = [
-    (0, 7, 160, 1),
-    (1, 7, 160, 1),
+    (0, 5, 160, 1),
+    (1, 5, 160, 1),
     (2, 161, u64::MAX, 0),
-    (3, 7, 160, 1),
-    (4, 7, 160, 1),
-    (5, 52, 52, 1),
+    (3, 5, 160, 1),
+    (4, 5, 160, 1),
+    (5, 28, 28, 1),
 ];
 
 /// 10 moves store the interval and 1025 points. With n items left the queue has ceil(n / 127) blocks, which are 4653 for
-/// all n from 1 to 1025: each pop stores, reads and releases its own, by 3 moves a block. The pops take 4643 free blocks
-/// and a new one, and the pushes take 8 free ones, by 1 move each. The list of points is read and released by 18 moves,
-/// and the new list takes its blocks and is stored by 18. So the node begins after 18,656 moves, and it makes about 100
+/// all n from 1 to 1025: each pop stores and reads its own, by 2 moves a block. The list of points is read by 9 moves,
+/// and the new list is stored by 9. So the node begins after 10 + 9,306 + 9 + 9 = 9,334 moves, and it makes about 60
 /// with its leaves, before the pairs are put in order. The calls from 1 on store both lists and begin to put the points in
 /// order.
-const FAILING_NODE: [Failing; 2] = [(6, 18_779, u64::MAX, 1), (6, 18_779, u64::MAX, 18_620)];
+const FAILING_NODE: [Failing; 2] = [(6, 9_457, u64::MAX, 1), (6, 9_457, u64::MAX, 9_298)];
 
 /// The first of these rows of which a run isn't refused at a call that fails; and the call, or 0 if the run without one
 /// isn't as it must be.

@@ -4,6 +4,8 @@
 #[cfg(test)]
 mod batches;
 #[cfg(test)]
+mod file_answers;
+#[cfg(test)]
 mod full;
 #[cfg(test)]
 mod item_scripts;

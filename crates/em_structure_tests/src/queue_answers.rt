@@ -33,7 +33,7 @@ fn drawn_items_come_as_from_a_plain_list(rt: HostRuntime) -> Result<(), Fail> {
 /// A row: pushes and as many pops, how often, whether the items come in descending order, and the least and the most moves.
 ///
 /// - Items that the heap has room for stay in memory. A new queue stores a leaf's block and a root. Its end loads the root
-///   and the leaf's block, and releases both: 6 moves in all.
+///   and the leaf's block, and releases both: 4 moves in all.
 /// - 1025 pushes and as many pops are 17 blocks of calls, and 17 is two levels at a fan-out of 16: at most 240 * 18 * 3
 ///   moves.
 /// - 150 times of these are 307,500 calls, which fill 2403 blocks. Between two moments at which the queue is empty there
@@ -41,12 +41,12 @@ fn drawn_items_come_as_from_a_plain_list(rt: HostRuntime) -> Result<(), Fail> {
 /// - 20,000 items are 157 blocks of records, of which the heap holds eight. 40,000 calls fill 313 blocks, and 313 is three
 ///   levels at a fan-out of 16: at most 240 * 314 * 4 moves.
 const SORTED: [(u64, u64, bool, u64, u64); 6] = [
-    (0, 1, true, 6, 6),
-    (1, 1, true, 6, 6),
-    (1024, 1, true, 6, 6),
-    (1025, 1, true, 7, 240 * 18 * 3),
-    (1025, 150, true, 7, 240 * 2404 * 3),
-    (20_000, 1, false, 7, 240 * 314 * 4),
+    (0, 1, true, 4, 4),
+    (1, 1, true, 4, 4),
+    (1024, 1, true, 4, 4),
+    (1025, 1, true, 5, 240 * 18 * 3),
+    (1025, 150, true, 5, 240 * 2404 * 3),
+    (20_000, 1, false, 5, 240 * 314 * 4),
 ];
 
 #[test]
@@ -61,7 +61,7 @@ fn items_are_sorted_within_the_share(rt: HostRuntime) -> Result<(), Fail> {
             least <= moves && moves <= most,
             "{count} items, {often} times, {moves} moves"
         );
-        assert!(rt; moves > 6 || blocks == 2, "{count} items, {blocks} blocks");
+        assert!(rt; moves > 4 || blocks == 2, "{count} items, {blocks} blocks");
     }
     Ok(())
 }

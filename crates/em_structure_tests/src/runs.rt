@@ -45,7 +45,7 @@ fn serve<D: Device>(
 }
 
 /// A new rig of this shape, over a device that isn't begun yet.
-fn opened_as<'d, D: Device>(
+pub fn opened_as<'d, D: Device>(
     alloc: Global,
     shape: Shape,
     blocks: u64,

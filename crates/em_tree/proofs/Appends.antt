@@ -23,17 +23,17 @@ use Rattle.em_tree_model.specs.Tree.Tree.{end, entry}
 use Rattle.em_tree_blocks.specs.Reading.{tree_blocks}
 use Rattle.em_tree_blocks.proofs.Frames.{TreeStays, tree_stays}
 use Rattle.em_tree_outline.specs.Outline.{outline_of}
-use Rattle.em_tree_load.specs.Paid.{LosesNone}
-use Rattle.em_tree_load.proofs.Losses.{loses_as, loses_beside, writer_length}
+use Rattle.em_tree_walk.specs.Paid.{LosesNone}
+use Rattle.em_tree_walk.proofs.Losses.{loses_as, loses_beside, writer_length}
 use Rattle.em_tree_walk.specs.Lows.{LowsKeep}
-use Rattle.em_tree.specs.Buffers.{IsBounded}
-use Rattle.em_tree.specs.Emptying.{EachRead}
-use Rattle.em_tree.specs.Entries.{EachEntry}
+use Rattle.em_trunk.specs.Buffers.{IsBounded}
+use Rattle.em_trunk.specs.Spots.{EachRead}
+use Rattle.em_trunk.specs.Entries.{EachEntry}
 use Rattle.em_tree.specs.Pushing.{Appended, CanPushOp, model_with}
-use Rattle.em_tree.specs.Sized.{IsSized}
-use Rattle.em_tree.specs.Trunk.{AreTrunkNumbers, IsRunning, IsStanding, TrunkHasFrames, full_limit, model_of, root_of, trunk_blocks}
-use Rattle.em_tree.specs.declared.trunk.Trunk.{Trunk}
-use Rattle.em_tree.proofs.Stays.{forms_stay}
+use Rattle.em_trunk.specs.Sized.{IsSized}
+use Rattle.em_trunk.specs.Trunk.{AreTrunkNumbers, IsRunning, IsStanding, TrunkHasFrames, full_limit, model_of, root_of, trunk_blocks}
+use Rattle.em_trunk.specs.declared.trunk.Trunk.{Trunk}
+use Rattle.em_trunk.proofs.Stays.{forms_stay}
 
 abbrev pub done : Result (Unit {0}) EmFault
 done = Ok tt
@@ -163,6 +163,10 @@ module _ (key : Record → Record) (IsOp IsKept : Record → Type 0) (op : Recor
         pays = pays_more first (omega arith);
         loses = loses;
         moves = moves;
+        peaks =
+            let taken : m.used + v.buffer.blocks ≡ s.used + b.blocks = costs.used in
+            let most = costs.most in
+            record { used = omega (arith, taken, used); most = omega (arith, taken, used, most) };
         count = appends.count_is;
         more = used;
         buffer = appends.is;

@@ -1,29 +1,25 @@
 -- The levels from one down are settled, one after another.
-use Rattle.std.proofs.Common.{◌≡◌, ℕ, zero, suc, ◌+◌, ◌-◌, ◌*◌, ◌<◌, length, refl, sym, ◌∙◌, subst, arith, IsTrue}
+use Rattle.std.proofs.Common.{◌≡◌, ℕ, zero, suc, ◌+◌, ◌-◌, ◌*◌, ◌<◌, length, sym, ◌∙◌, subst, arith, IsTrue}
 use Rattle.std.specs.Prelude.{IsErrAnd, None, Option, Result, Ok, Err}
 use Rattle.em_record.specs.Shape.{ShapeNumbers}
 use Rattle.em_record.specs.declared.record.Record.{Record}
 use Rattle.em_settle.specs.declared.step.Step.{Step}
-use Rattle.em_space.specs.Rig.{RigState, Sound}
+use Rattle.em_space.specs.Rig.{RigState}
 use Rattle.em_space.specs.declared.fault.EmFault.{EmFault}
-use Rattle.em_space.proofs.Paying.{pays_kept}
-use Rattle.em_space.proofs.Sessions.{session_none}
-use Rattle.em_space.proofs.Steps.{goes_nothing}
 use Rattle.em_tree_model.specs.Ranges.{least_record}
 use Rattle.em_tree_blocks.proofs.Entries.{tree_level}
-use Rattle.em_tree.specs.Debts.{KeepsOwing, owing_to}
-use Rattle.em_tree.specs.Emptying.{CanSettleLevel, CanWork, EachRead}
-use Rattle.em_tree.specs.Loops.{CanSettle, SettledLevel, StopsLevel}
+use Rattle.em_trunk.specs.Debts.{KeepsOwing, owing_to}
+use Rattle.em_tree_buffers.specs.Emptying.{CanSettleLevel}
+use Rattle.em_tree_buffers.specs.Loops.{CanSettle, SettledLevel, StopsLevel}
 use Rattle.em_tree.specs.Settling.{CanSettleDown, SettledAll, SettlesAllTo, StopsSettling}
-use Rattle.em_tree.specs.Trunk.{IsRunning, full_limit, given_by, model_of, root_of, sums_in, trunk_blocks, trunk_unstored}
-use Rattle.em_tree.specs.Works.{Works}
-use Rattle.em_tree.specs.declared.trunk.Trunk.{Trunk}
-use Rattle.em_tree_load.proofs.Losses.{loses_still}
-use Rattle.em_tree.proofs.Charges.{charges_prepaid}
-use Rattle.em_tree.proofs.Continues.{continues_same}
-use Rattle.em_tree.proofs.Debts.{may_then}
-use Rattle.em_tree.proofs.DrainedTrees.{none_anywhere, settled_above, settled_below}
+use Rattle.em_trunk.specs.Trunk.{full_limit, root_of}
+use Rattle.em_trunk.specs.Works.{Works, CanWork}
+use Rattle.em_trunk.specs.declared.trunk.Trunk.{Trunk}
+use Rattle.em_trunk.proofs.Debts.{may_then}
+use Rattle.em_tree_buffers.proofs.DrainedTrees.{none_anywhere, settled_above, settled_below}
 use Rattle.em_tree.proofs.SettledTrees.{settled_then, stopped_then}
+use Rattle.em_trunk.specs.Spots.{EachRead}
+use Rattle.em_trunk.proofs.Works.{works_none}
 
 -- Nothing more is owed.
 pub owing_none : (before : ℕ) (s : RigState) (v : Trunk) → KeepsOwing before 0 0 s s v v
@@ -31,23 +27,6 @@ owing_none before s v = record { leaves = omega arith; owes = omega arith }
 
 module _ (key : Record → Record) (step : Option Record → Record → Step) (IsOp IsKept : Record → Type 0)
   where
-    -- No step at all.
-    pub works_none : (p : ℕ) (s : RigState) (v : Trunk) → Sound s → IsRunning key IsOp IsKept s v
-        → Works key step IsOp IsKept p p 0 0 s s v v
-    works_none p s v sound i = record {
-      session = session_none s (trunk_blocks s v) sound (λ z. (i.stands z).holds);
-      frames = (goes_nothing s sound).frames;
-      pays = pays_kept (trunk_unstored v) (omega arith) (omega arith);
-      loses = loses_still (trunk_blocks s v) s s refl;
-      numbers = record { pushed = refl; longest = refl; since = refl; settled = refl; resets = refl; spent = refl };
-      steps = omega arith;
-      running = i;
-      continues = λ told. continues_same key step IsOp IsKept (given_by s v) (model_of s v);
-      still = λ told none. none;
-      charges = λ told. charges_prepaid p (s.moves - s.moves) p (sums_in s v) (omega arith);
-      paces = λ told. charges_prepaid p 0 p (sums_in s v) (omega arith);
-    }
-
     -- Below the lowest level there is none.
     pub down_none : (at : ℕ) (s : RigState) (v : Trunk) → at ≡ 0 → CanWork key IsOp IsKept s v
         → CanSettleDown at s v → SettledAll key step IsOp IsKept (owing_to at s v) s s v v
@@ -58,7 +37,7 @@ module _ (key : Record → Record) (step : Option Record → Record → Step) (I
         record {
           taken = 0;
           debt = 0;
-          works = subst W none (works_none 0 s v can.sound can.running);
+          works = subst W none (works_none key step IsOp IsKept 0 s v can.sound can.running);
           owes = λ told. owing_none (owing_to at s v) s v;
           none_waits = λ told.
               none_anywhere v.level least_record None (root_of s v) (tree_level v.level s v.root)

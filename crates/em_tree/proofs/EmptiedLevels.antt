@@ -12,23 +12,24 @@ use Rattle.em_tree_model.specs.Places.{put_at}
 use Rattle.em_tree_model.proofs.Events.{placed}
 use Rattle.em_tree_blocks.proofs.Entries.{tree_level}
 use Rattle.em_tree_walk.specs.declared.searching.Range.{Range}
-use Rattle.em_tree.specs.Buffers.{Due, IsDue, OnlyFull, OrDue}
-use Rattle.em_tree.specs.Emptying.{EachRead, HasSpot, LoadsEntry, LowersEntry, spot_high, spot_low}
-use Rattle.em_tree.specs.Entries.{EachEntry}
-use Rattle.em_tree.specs.Findings.{FoundSpot}
+use Rattle.em_trunk.specs.Buffers.{Due, IsDue, OnlyFull, OrDue}
+use Rattle.em_tree_buffers.specs.Emptying.{LoadsEntry, LowersEntry}
+use Rattle.em_trunk.specs.Entries.{EachEntry}
+use Rattle.em_tree_buffers.specs.Findings.{FoundSpot}
 use Rattle.em_tree.specs.Levels.{EmptyUpTo, FullBefore, WaitsFrom}
-use Rattle.em_tree.specs.Loops.{Grows}
-use Rattle.em_tree.specs.Starts.{starts_of}
-use Rattle.em_tree.specs.Trunk.{IsStanding, root_of}
-use Rattle.em_tree.specs.declared.trunk.Trunk.{Trunk}
-use Rattle.em_tree.proofs.Clear.{ClearAt, clear_own}
-use Rattle.em_tree.proofs.DrainedTrees.{each_node}
+use Rattle.em_tree_buffers.specs.Loops.{Grows}
+use Rattle.em_trunk.specs.Starts.{starts_of}
+use Rattle.em_trunk.specs.Trunk.{IsStanding, root_of}
+use Rattle.em_trunk.specs.declared.trunk.Trunk.{Trunk}
+use Rattle.em_trunk.proofs.Clear.{ClearAt, clear_own}
+use Rattle.em_tree_buffers.proofs.DrainedTrees.{each_node}
 use Rattle.em_tree.proofs.EmptyLevels.{not_below, some_waits, spot_late, spot_later, spot_waits, under_from}
-use Rattle.em_tree.proofs.Entries.{each_both, each_map}
-use Rattle.em_tree.proofs.Faces.{under_less}
-use Rattle.em_tree.proofs.FoundLowered.{Lowers, full_lowered, spot_lowers, starts_stay}
-use Rattle.em_tree.proofs.Sits.{Sits, lowered_sits, sits_high, sits_is, sits_low, sits_own, spot_sits}
-use Rattle.em_tree.proofs.StartCounts.{each_own}
+use Rattle.em_trunk.proofs.Entries.{each_both, each_map}
+use Rattle.em_trunk.proofs.Faces.{under_less}
+use Rattle.em_tree_buffers.proofs.FoundLowered.{Lowers, full_lowered, spot_lowers, starts_stay}
+use Rattle.em_tree_buffers.proofs.Sits.{Sits, lowered_sits, sits_high, sits_is, sits_low, sits_own, spot_sits}
+use Rattle.em_trunk.proofs.StartCounts.{each_own}
+use Rattle.em_trunk.specs.Spots.{EachRead, HasSpot, spot_high, spot_low}
 
 -- An entry with nothing in its buffer is the only one of its level with a key of its own.
 sits_clear : (key : Record → Record) (n : ℕ) {low : Record} {high : Option Record} {level : ℕ} {t : Tree}

@@ -9,19 +9,20 @@ use Rattle.em_tree_model.specs.Ranges.{InRange, Under, least_record}
 use Rattle.em_tree_model.specs.Tree.{Tree}
 use Rattle.em_tree_model.proofs.Ranges.{to_below}
 use Rattle.em_tree_walk.specs.declared.searching.Range.{Range}
-use Rattle.em_tree.specs.Buffers.{ClearOver, NoneFrom, OnlyFull}
-use Rattle.em_tree.specs.Emptying.{AreThinUnder, CanSettleLevel, EachRead, HasSpot, SettlesLevel, spot_high, spot_low}
-use Rattle.em_tree.specs.Entries.{EachEntry}
-use Rattle.em_tree.specs.Findings.{FoundNext, FoundSpot, ThinBetween}
+use Rattle.em_trunk.specs.Buffers.{ClearOver, NoneFrom, OnlyFull}
+use Rattle.em_tree_buffers.specs.Emptying.{AreThinUnder, CanSettleLevel, SettlesLevel}
+use Rattle.em_trunk.specs.Entries.{EachEntry}
+use Rattle.em_tree_buffers.specs.Findings.{FoundNext, FoundSpot, ThinBetween}
 use Rattle.em_tree.specs.Levels.{EmptyUpTo, FullBefore, WaitsFrom}
-use Rattle.em_tree.specs.Trunk.{IsStanding, root_of}
-use Rattle.em_tree.specs.declared.trunk.Trunk.{Trunk}
-use Rattle.em_tree.proofs.Beginnings.{least_below}
-use Rattle.em_tree.proofs.Buffers.{is_empty}
-use Rattle.em_tree.proofs.Entries.{each_both, each_map}
-use Rattle.em_tree.proofs.Faces.{under_less}
-use Rattle.em_tree.proofs.Sits.{sits_each, spot_sits}
-use Rattle.em_tree.proofs.StartCounts.{each_own}
+use Rattle.em_trunk.specs.Trunk.{IsStanding, root_of}
+use Rattle.em_trunk.specs.declared.trunk.Trunk.{Trunk}
+use Rattle.em_trunk.proofs.Beginnings.{least_below}
+use Rattle.em_trunk.proofs.Buffers.{is_empty}
+use Rattle.em_trunk.proofs.Entries.{each_both, each_map}
+use Rattle.em_trunk.proofs.Faces.{under_less}
+use Rattle.em_tree_buffers.proofs.Sits.{sits_each, spot_sits}
+use Rattle.em_trunk.proofs.StartCounts.{each_own}
+use Rattle.em_trunk.specs.Spots.{EachRead, HasSpot, spot_high, spot_low}
 
 -- a buffer with an operation isn't empty
 pub some_waits : (b : List Record) → 1 ≤ length b → b ≡ [] → ⊥

@@ -9,17 +9,17 @@ use Rattle.em_space.specs.declared.fault.EmFault.{EmFault}
 use Rattle.em_space.proofs.Ledgers.{full_never}
 use Rattle.em_tree_blocks.specs.Reading.{tree_blocks}
 use Rattle.em_tree_load.specs.Releases.{CanRelease, ReleasesTree}
-use Rattle.em_tree.specs.Emptying.{CanWork}
 use Rattle.em_tree.specs.Finishing.{CanFinish, FinishesBlocks, FullIfUsed, ReleasesUnused}
-use Rattle.em_tree.specs.Debts.{owing_all}
+use Rattle.em_trunk.specs.Debts.{owing_all}
 use Rattle.em_tree.specs.Settling.{SettledAll, StopsSettling}
-use Rattle.em_tree.specs.Works.{Works}
-use Rattle.em_tree.specs.declared.trunk.Trunk.{Trunk}
-use Rattle.em_tree.proofs.DownLevels.{owing_none, works_none}
+use Rattle.em_trunk.specs.Works.{Works, CanWork}
+use Rattle.em_trunk.specs.declared.trunk.Trunk.{Trunk}
+use Rattle.em_tree.proofs.DownLevels.{owing_none}
 use Rattle.em_tree.proofs.Finished.{trunk_left, trunk_released}
 use Rattle.em_tree.proofs.PushStops.{if_full}
-use Rattle.em_tree.proofs.Regrown.{fan_twice}
-use Rattle.em_tree.proofs.Unbuffered.{can_release}
+use Rattle.em_trunk.proofs.Regrown.{fan_twice}
+use Rattle.em_trunk.proofs.Unbuffered.{can_release}
+use Rattle.em_trunk.proofs.Works.{works_none}
 
 -- what holds at every fault of a call
 pub if_err : {T : Type 0} (r : Result T EmFault) (P : Type 0) → P → IfErr r (λ _. P)

@@ -24,21 +24,22 @@ use Rattle.em_tree_blocks.proofs.Whole.{entry_reads}
 use Rattle.em_tree_cost.specs.Outline.{IsLevel, leaves_of, stored_of, waiting_of}
 use Rattle.em_tree_outline.specs.Outline.{outline_of}
 use Rattle.em_tree_outline.proofs.Outlines.{outline_child, outline_level}
-use Rattle.em_tree.specs.Debts.{KeepsOwing, OwesEntry, StopsOwing, leaf_owing, owing_now, owing_to}
-use Rattle.em_tree.specs.Emptying.{CanEmptyEntry, CanWork, EmptiedEntry, EmptiesEntry, LoadedEntry, StopsEntry, deepest, leaf_debt, lower_debt, spot_ops, stop_debt}
-use Rattle.em_tree.specs.Entries.{place_level}
-use Rattle.em_tree.specs.Owing.{loads_owing, lower_part, lowers_owing}
-use Rattle.em_tree.specs.Starts.{is_inside, starts_of}
-use Rattle.em_tree.specs.Trunk.{IsRunning, full_limit, root_of, sums_in}
-use Rattle.em_tree.specs.Works.{Works}
-use Rattle.em_tree.specs.declared.trunk.Trunk.{Trunk}
-use Rattle.em_tree.proofs.ClearSteps.{deepest_same, works_fit}
-use Rattle.em_tree.proofs.EntryBefore.{lowers_sums, old_is, row_count}
-use Rattle.em_tree.proofs.LeafSizes.{leaf_owes}
-use Rattle.em_tree.proofs.OwingBounds.{loads_most, lowers_most, starts_fewer}
-use Rattle.em_tree.proofs.OwingTrees.{load_among, lower_among, lower_some, lowered_owing}
-use Rattle.em_tree.proofs.Spots.{spot_level}
-use Rattle.em_tree.proofs.StartCounts.{inside_least}
+use Rattle.em_trunk.specs.Debts.{KeepsOwing, OwesEntry, StopsOwing, leaf_owing, owing_now, owing_to}
+use Rattle.em_tree_buffers.specs.Emptying.{CanEmptyEntry, EmptiedEntry, EmptiesEntry, LoadedEntry, StopsEntry, leaf_debt, lower_debt, stop_debt}
+use Rattle.em_trunk.specs.Entries.{place_level}
+use Rattle.em_trunk.specs.Owing.{loads_owing, lower_part, lowers_owing}
+use Rattle.em_trunk.specs.Starts.{is_inside, starts_of}
+use Rattle.em_trunk.specs.Trunk.{IsRunning, full_limit, root_of, sums_in}
+use Rattle.em_trunk.specs.Works.{Works, CanWork, deepest}
+use Rattle.em_trunk.specs.declared.trunk.Trunk.{Trunk}
+use Rattle.em_tree_buffers.proofs.ClearSteps.{deepest_same, works_fit}
+use Rattle.em_tree_buffers.proofs.EntryBefore.{lowers_sums, old_is, row_count}
+use Rattle.em_trunk.proofs.LeafSizes.{leaf_owes}
+use Rattle.em_trunk.proofs.OwingBounds.{loads_most, lowers_most, starts_fewer}
+use Rattle.em_trunk.proofs.OwingTrees.{load_among, lower_among, lower_some, lowered_owing}
+use Rattle.em_trunk.proofs.Spots.{spot_level}
+use Rattle.em_trunk.proofs.StartCounts.{inside_least}
+use Rattle.em_trunk.specs.Spots.{spot_ops}
 
 -- What the levels up to one may owe doesn't rise if no record and no leaf comes.
 pub owing_to_falls : (at : ℕ) (s t : RigState) (v w : Trunk) → t.pool.shape ≡ s.pool.shape

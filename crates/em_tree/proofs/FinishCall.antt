@@ -1,5 +1,5 @@
 -- What `finish` leaves: the answers of a tree as a chain, or its two frames alone.
-use Rattle.std.proofs.Common.{◌≡◌, ℕ, ◌+◌, ◌-◌, ◌*◌, ◌^◌, ◌<◌, ◌≤◌, min, length, inl, inr, refl, sym, ap, ◌∙◌, subst, arith, IsTrue, Result, Ok, Err}
+use Rattle.std.proofs.Common.{◌≡◌, ℕ, ◌+◌, ◌-◌, ◌*◌, ◌^◌, ◌<◌, ◌≤◌, min, length, inl, inr, refl, sym, ap, ◌∙◌, subst, arith, IsTrue, Result, Ok, Err, IfErr}
 use Rattle.std.specs.Prelude.{Option}
 use Rattle.std.proofs.Math.Nat.{min-le_left, min-le_right, mul-le-mul_left}
 use Rattle.em_record.specs.Shape.{IsShape, ShapeNumbers}
@@ -24,20 +24,23 @@ use Rattle.em_tree_cost.specs.Effects.{SameRoot}
 use Rattle.em_tree_cost.specs.Paid.{settle_toll, toll_of}
 use Rattle.em_tree_cost.specs.Shares.{floors_of, tree_share}
 use Rattle.em_tree_cost.proofs.InCall.{call_begins, call_debt, call_refused, call_settle}
-use Rattle.em_tree.specs.Calls.{FinishCosts, FinishesTrunk, LeavesTrunk, StopsFinishing}
-use Rattle.em_tree.specs.Counting.{counted_settling}
-use Rattle.em_tree.specs.Debts.{owing_all}
-use Rattle.em_tree.specs.Events.{Charges}
-use Rattle.em_tree.specs.Finishing.{FinishedBlocks, FinishesBlocks, FullIfUsed, GivesAnswers, ReleasesUnused, StopsAfterSettling, StopsAnswers}
+use Rattle.em_tree.specs.Calls.{FinishCosts, FinishesTrunk, StopsFinishing}
+use Rattle.em_trunk.specs.Counting.{counted_settling}
+use Rattle.em_trunk.specs.Debts.{owing_all}
+use Rattle.em_trunk.specs.Events.{Charges}
+use Rattle.em_tree.specs.Finishing.{FinishedBlocks, FinishesBlocks, FullIfUsed, ReleasesUnused, StopsAfterSettling}
 use Rattle.em_tree.specs.Settling.{SettledAll, StopsSettling}
-use Rattle.em_tree.specs.Trunk.{IsTrunk, counts_of, trunk_blocks, trunk_unstored}
-use Rattle.em_tree.specs.declared.trunk.Trunk.{Trunk}
-use Rattle.em_tree.proofs.Charges.{books_less, charges_books}
-use Rattle.em_tree.proofs.Ends.{stopped_settling, sums_stay}
+use Rattle.em_trunk.specs.Trunk.{IsTrunk, counts_of, trunk_blocks, trunk_unstored}
+use Rattle.em_trunk.specs.declared.trunk.Trunk.{Trunk}
+use Rattle.em_trunk.proofs.Charges.{books_less, charges_books}
+use Rattle.em_trunk.proofs.Ends.{stopped_settling, sums_stay}
 use Rattle.em_tree.proofs.Settled.{trunk_finished}
 use Rattle.em_tree.proofs.SettlingBegins.{running_counted}
 use Rattle.em_tree.proofs.SettlingTolls.{released_toll, stopped_toll}
 use Rattle.em_tree.proofs.Unused.{none_written, unused_blocks}
+use Rattle.em_tree.proofs.RoomCalls.{given_room, left_room}
+use Rattle.em_trunk.specs.Room.{FullOverRoom, WithinRoom}
+use Rattle.em_trunk.specs.Lists.{GivesAnswers, StopsAnswers, LeavesTrunk}
 
 -- frames that stayed, and two that came back
 given_after : (a b c : PoolCounts) → SameFrames a b → GivenFrames 2 b c → GivenFrames 2 a c
@@ -294,6 +297,10 @@ module _ (key : Record → Record) (step : Option Record → Record → Step)
     pub call_left : StopsFinishing s u v fault
     call_left = finish_left key step IsOp IsKept s t u v w sound few is fault stopped l
 
+    pub call_left_room : IsTrue s.device.told
+        → WithinRoom v.longest s u v × FullOverRoom v.longest s v fault
+    call_left_room told = left_room sound is told fault stopped l
+
     pub call_left_costs : (x.pushed ≡ 0 → ReleasesUnused s t x w) → FinishCosts s u v
     call_left_costs unused =
         let P : Trunk → Type 0 = λ z. z.pushed ≡ 0 → ReleasesUnused s t z w in
@@ -311,6 +318,10 @@ module _ (key : Record → Record) (step : Option Record → Record → Step)
 
     pub call_given : FinishesTrunk key step s u v r
     call_given = finish_given key step IsOp IsKept s t u v w sound few is r finished g
+
+    pub call_given_room : IsTrue s.device.told
+        → WithinRoom v.longest s u v × IfErr r (FullOverRoom v.longest s v)
+    call_given_room told = given_room sound is told r finished g
 
     pub call_given_costs : (x.pushed ≡ 0 → ReleasesUnused s t x w) → FinishCosts s u v
     call_given_costs unused =

@@ -5,8 +5,8 @@ use Rattle.em_record.specs.declared.record.Record.{Record}
 use Rattle.em_space.specs.Rig.{RigState, Sound}
 use Rattle.em_tree_cost.proofs.Paid.{height_most}
 use Rattle.em_tree.specs.Calls.{IsLow}
-use Rattle.em_tree.specs.Trunk.{IsTrunk}
-use Rattle.em_tree.specs.declared.trunk.Trunk.{Trunk}
+use Rattle.em_trunk.specs.Trunk.{IsTrunk}
+use Rattle.em_trunk.specs.declared.trunk.Trunk.{Trunk}
 
 module _ {key : Record → Record} {IsOp IsKept : Record → Type 0} {s : RigState} {v : Trunk}
     (sound : Sound s) (i : IsTrunk key IsOp IsKept s v) (told : IsTrue s.device.told) where

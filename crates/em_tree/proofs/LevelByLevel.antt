@@ -16,24 +16,25 @@ use Rattle.em_tree_walk.specs.Stands.{LeadsToTree}
 use Rattle.em_tree_walk.specs.declared.searching.Finding.{Finding}
 use Rattle.em_tree_walk.specs.declared.searching.Finding.TheVariants.{Found, Next, Nothing}
 use Rattle.em_tree_walk.specs.declared.searching.Range.{Range}
-use Rattle.em_tree.specs.Debts.{owing_now}
-use Rattle.em_tree.specs.Emptying.{CanEmptyEntry, CanWork, EmptiesEntry, deepest}
-use Rattle.em_tree.specs.Findings.{FindsSpot, FoundSpot}
+use Rattle.em_trunk.specs.Debts.{owing_now}
+use Rattle.em_tree_buffers.specs.Emptying.{CanEmptyEntry, EmptiesEntry}
+use Rattle.em_tree_buffers.specs.Findings.{FindsSpot, FoundSpot}
 use Rattle.em_tree.specs.Levels.{CanEmptyNext, EmptiesNext, StopsNext}
-use Rattle.em_tree.specs.Loops.{StepsTo, TakesStep, due_of, nodes_inside, searches_left}
-use Rattle.em_tree.specs.Trunk.{trunk_blocks, trunk_unstored}
-use Rattle.em_tree.specs.Works.{StopsWorking}
-use Rattle.em_tree.specs.declared.trunk.Trunk.{Trunk}
-use Rattle.em_tree.proofs.ClearByLevel.{err_of, ok_of}
-use Rattle.em_tree.proofs.ClearSteps.{stops_fit}
-use Rattle.em_tree.proofs.Credits.{credit_found}
-use Rattle.em_tree.proofs.Debts.{may_step}
+use Rattle.em_tree_buffers.specs.Loops.{due_of, nodes_inside, searches_left}
+use Rattle.em_trunk.specs.Trunk.{trunk_blocks, trunk_unstored}
+use Rattle.em_trunk.specs.Works.{StopsWorking, CanWork, deepest}
+use Rattle.em_trunk.specs.declared.trunk.Trunk.{Trunk}
+use Rattle.em_tree_buffers.proofs.ClearByLevel.{err_of, ok_of}
+use Rattle.em_tree_buffers.proofs.ClearSteps.{stops_fit}
+use Rattle.em_trunk.proofs.Credits.{credit_found}
+use Rattle.em_trunk.proofs.Debts.{may_step}
 use Rattle.em_tree.proofs.EntryDebts.{entry_owes, entry_stops_owing}
-use Rattle.em_tree.proofs.Findings.{finds_spot}
+use Rattle.em_tree_buffers.proofs.Findings.{finds_spot}
 use Rattle.em_tree.proofs.LevelEntries.{entry_grows, entry_leaves, entry_top}
 use Rattle.em_tree.proofs.LevelSteps.{after_search, spot_ready, step_emptied, step_end, step_on, step_stopped, still_empty, told_first}
-use Rattle.em_tree.proofs.RootLeads.{root_leads}
-use Rattle.em_tree.proofs.StepWorks.{search_stops}
+use Rattle.em_trunk.proofs.RootLeads.{root_leads}
+use Rattle.em_trunk.proofs.StepWorks.{search_stops}
+use Rattle.em_trunk.specs.Steps.{StepsTo, TakesStep}
 
 down_one : (l : ℕ) → suc l - 1 ≡ l
 down_one l = omega arith
@@ -92,6 +93,7 @@ module _ (key : Record → Record) (step : Option Record → Record → Step)
           );
           needs = tt;
           charges = λ told. absurd (never told);
+          room = λ told. absurd (never told);
         });
         owes = λ told. absurd (never told);
       }
@@ -135,7 +137,7 @@ module _ (key : Record → Record) (step : Option Record → Record → Step)
               (stops_fit (p + L * K + L) (p + L * (1 + K)) can.sound.shape
               (λ told deep. (let e = credit_found p L K in omega (arith, e)))
               (search_stops can.running h.reads.goes w.steps (p + L * K) fault can.sound
-              (sym h.reads.same.used) (omega (arith, m, above, down)) h.cause));
+              h.reads.same (omega (arith, m, above, down)) h.cause));
           owes = λ told. omega arith;
         })
 
@@ -163,7 +165,7 @@ module _ (key : Record → Record) (step : Option Record → Record → Step)
 
       can_then : CanWork key IsOp IsKept t later
       can_then = after_search key step IsOp IsKept l w.steps left s t v can take.one h.reads.goes
-          h.reads.same.used moves_few ready
+          h.reads.same moves_few ready
 
       -- What the search found, after it.
       found_after : FindsSpot 1 l left f t later
@@ -181,7 +183,7 @@ module _ (key : Record → Record) (step : Option Record → Record → Step)
           × (IsTrue t.device.told → FoundSpot 1 l at left inner t later spot.spot.path)
       entry_can =
           let f = found_after l ready (Found node at inner) h in
-          spot_ready key step IsOp IsKept l w.steps left s t v can take.one h.reads.goes h.reads.same.used
+          spot_ready key step IsOp IsKept l w.steps left s t v can take.one h.reads.goes h.reads.same
           (moves_few l ready (Found node at inner) h) ready node at inner f.0 f.1
 
       -- The entry was emptied,
@@ -193,10 +195,10 @@ module _ (key : Record → Record) (step : Option Record → Record → Step)
           let spot = entry_can.0 in
           let found = entry_can.1 in
           let empty = still_empty key step IsOp IsKept l w.steps left s t v can take.one h.reads.goes
-          h.reads.same.used few ready in
+          h.reads.same few ready in
           let first = told_first key step IsOp IsKept l w.steps left s t v can take.one h.reads.goes
-          h.reads.same.used few ready in
-          step_emptied key step IsOp IsKept l w.steps left s t v can take.one h.reads.goes h.reads.same.used
+          h.reads.same few ready in
+          step_emptied key step IsOp IsKept l w.steps left s t v can take.one h.reads.goes h.reads.same
           few ready inner
           (entry_owes key step IsOp IsKept l node at t u later x found_can spot (λ z. (found z).full) y e)
           (entry_top key step IsOp IsKept y node at left inner t u later x l spot e)
@@ -213,7 +215,7 @@ module _ (key : Record → Record) (step : Option Record → Record → Step)
       entry_undone T u x fault e =
           let few = moves_few l ready (Found node at inner) h in
           let found = entry_can.1 in
-          step_stopped key step IsOp IsKept l w.steps left s t v can take.one h.reads.goes h.reads.same.used
+          step_stopped key step IsOp IsKept l w.steps left s t v can take.one h.reads.goes h.reads.same
           few ready
           (entry_stops_owing key step IsOp IsKept T l node at t u later x found_can entry_can.0
           (λ z. (found z).full) fault e)
@@ -277,7 +279,7 @@ module _ (key : Record → Record) (step : Option Record → Record → Step)
         let C : Trunk → Type 0 =
         λ x. EmptiesNext key step IsOp IsKept (suc l) left s t v x (Ok (Some low)) in
         subst C (sym take.is) (step_on key step IsOp IsKept l w.steps left s t v can take.one h.reads.goes
-        h.reads.same.used (moves_few l ready (Next low) h) ready low (found_after l ready (Next low) h))
+        h.reads.same (moves_few l ready (Next low) h) ready low (found_after l ready (Next low) h))
 
     -- or it is at its end.
     pub next_end : (level : ℕ) → CanEmptyNext level left s v
@@ -287,4 +289,4 @@ module _ (key : Record → Record) (step : Option Record → Record → Step)
     next_end (suc l) ready h =
         let C : Trunk → Type 0 = λ x. EmptiesNext key step IsOp IsKept (suc l) left s t v x (Ok None) in
         subst C (sym take.is) (step_end key step IsOp IsKept l w.steps left s t v can take.one h.reads.goes
-        h.reads.same.used (moves_few l ready Nothing h) ready (found_after l ready Nothing h))
+        h.reads.same (moves_few l ready Nothing h) ready (found_after l ready Nothing h))

@@ -5,11 +5,11 @@ use Rattle.em_record.specs.Shape.{ShapeNumbers}
 use Rattle.em_space.specs.Rig.{RigState}
 use Rattle.em_tree_cost.specs.Counters.{Sums}
 use Rattle.em_tree_model.specs.Tree.{Tree}
-use Rattle.em_tree.specs.Debts.{KeepsOwing, leaf_owing, owing_at, owing_now, owing_to}
-use Rattle.em_tree.specs.Emptying.{deepest}
-use Rattle.em_tree.specs.Owing.{loads_owing, lowers_owing}
-use Rattle.em_tree.specs.Trunk.{root_of, sums_in}
-use Rattle.em_tree.specs.declared.trunk.Trunk.{Trunk}
+use Rattle.em_trunk.specs.Debts.{KeepsOwing, leaf_owing, owing_at, owing_now, owing_to}
+use Rattle.em_trunk.specs.Works.{deepest}
+use Rattle.em_trunk.specs.Owing.{loads_owing, lowers_owing}
+use Rattle.em_trunk.specs.Trunk.{root_of, sums_in}
+use Rattle.em_trunk.specs.declared.trunk.Trunk.{Trunk}
 
 -- The same tree may owe as much.
 owing_at_same : (at : ℕ) (s t : RigState) (v w : Trunk) → t.pool.shape ≡ s.pool.shape

@@ -5,15 +5,17 @@ use Rattle.em_record.specs.declared.record.Record.{Record}
 use Rattle.em_space.specs.Rig.{RigState}
 use Rattle.em_settle.specs.declared.step.Step.{Step}
 use Rattle.em_tree_walk.specs.declared.searching.Range.{Range}
-use Rattle.em_tree.specs.Emptying.{CanEmptyEntry, CanWork, EmptiesEntry, KeepsTop, spot_high, spot_low}
-use Rattle.em_tree.specs.Findings.{FoundSpot}
+use Rattle.em_tree_buffers.specs.Emptying.{CanEmptyEntry, EmptiesEntry, KeepsTop}
+use Rattle.em_tree_buffers.specs.Findings.{FoundSpot}
 use Rattle.em_tree.specs.Levels.{LeavesEmpty}
-use Rattle.em_tree.specs.Loops.{Grows}
-use Rattle.em_tree.specs.Trunk.{full_limit}
-use Rattle.em_tree.specs.declared.trunk.Trunk.{Trunk}
-use Rattle.em_tree.proofs.ClearByLevel.{ok_of}
+use Rattle.em_tree_buffers.specs.Loops.{Grows}
+use Rattle.em_trunk.specs.Trunk.{full_limit}
+use Rattle.em_trunk.specs.declared.trunk.Trunk.{Trunk}
+use Rattle.em_tree_buffers.proofs.ClearByLevel.{ok_of}
 use Rattle.em_tree.proofs.EmptiedLevels.{loaded_up_to, lowered_grows, lowered_up_to}
-use Rattle.em_tree.proofs.FoundWorks.{limit_some}
+use Rattle.em_tree_buffers.proofs.FoundWorks.{limit_some}
+use Rattle.em_trunk.specs.Works.{CanWork}
+use Rattle.em_trunk.specs.Spots.{spot_high, spot_low}
 
 module _ (key : Record → Record) (step : Option Record → Record → Step)
     (IsOp IsKept : Record → Type 0) {T : Type 0} (x : T) (node at : ℕ) (keys inner : Range)

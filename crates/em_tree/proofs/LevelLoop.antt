@@ -11,22 +11,22 @@ use Rattle.em_settle.specs.declared.step.Step.{Step}
 use Rattle.em_tree_cost.specs.Shares.{floors_of}
 use Rattle.em_tree_model.specs.Ranges.{least_record}
 use Rattle.em_tree_walk.specs.declared.searching.Range.{Range}
-use Rattle.em_tree.specs.Debts.{KeepsOwing, MayOwe, owing_now, owing_to, settling_toll}
-use Rattle.em_tree.specs.Emptying.{CanWork, SettlesLevel, deepest, unstored_most}
+use Rattle.em_trunk.specs.Debts.{KeepsOwing, MayOwe, owing_now, owing_to, settling_toll}
+use Rattle.em_tree_buffers.specs.Emptying.{SettlesLevel}
 use Rattle.em_tree.specs.Levels.{CanEmptyNext, EmptiesNext, EmptyingLevel, LeavesEmpty}
-use Rattle.em_tree.specs.Loops.{CanSettle, SettlesTo, StopsLevel, due_of, nodes_inside, searches_left}
-use Rattle.em_tree.specs.Trunk.{full_limit}
-use Rattle.em_tree.specs.Works.{StopsWorking, Works}
-use Rattle.em_tree.specs.declared.trunk.Trunk.{Trunk}
-use Rattle.em_tree.proofs.Beginnings.{least_below}
-use Rattle.em_tree.proofs.ClearByLevel.{err_of, ok_of}
-use Rattle.em_tree.proofs.ClearSteps.{deepest_same}
-use Rattle.em_tree.proofs.Debts.{may_then, may_toll, owing_bought}
+use Rattle.em_tree_buffers.specs.Loops.{CanSettle, SettlesTo, StopsLevel, due_of, nodes_inside, searches_left}
+use Rattle.em_trunk.specs.Trunk.{full_limit}
+use Rattle.em_trunk.specs.Works.{StopsWorking, Works, CanWork, deepest, unstored_most}
+use Rattle.em_trunk.specs.declared.trunk.Trunk.{Trunk}
+use Rattle.em_trunk.proofs.Beginnings.{least_below}
+use Rattle.em_tree_buffers.proofs.ClearByLevel.{err_of, ok_of}
+use Rattle.em_tree_buffers.proofs.ClearSteps.{deepest_same}
+use Rattle.em_trunk.proofs.Debts.{may_then, may_toll, owing_bought}
 use Rattle.em_tree.proofs.EmptyLevels.{empty_none}
 use Rattle.em_tree.proofs.EntryDebts.{owing_within}
 use Rattle.em_tree.proofs.LevelDebts.{keeps_then, owing_to_least}
-use Rattle.em_tree.proofs.LoopSteps.{can_after}
-use Rattle.em_tree.proofs.Works.{stops_after, works_then}
+use Rattle.em_tree_buffers.proofs.LoopSteps.{can_after}
+use Rattle.em_trunk.proofs.Works.{stops_after, works_then}
 
 -- a result that a fault is handed on as
 pub settles_of : {T : Type 0} (key : Record → Record) (step : Option Record → Record → Step)

@@ -5,32 +5,33 @@ use Rattle.std.proofs.Math.Nat.{mul-le-mul_left}
 use Rattle.em_record.specs.Order.{is_below}
 use Rattle.em_record.specs.Shape.{ShapeNumbers, fan_of}
 use Rattle.em_record.specs.declared.record.Record.{Record}
-use Rattle.em_space.specs.Rig.{Goes, RigState}
+use Rattle.em_space.specs.Rig.{Goes, RigState, SameBlocks}
 use Rattle.em_space.specs.declared.fault.EmFault.{EmFault}
 use Rattle.em_settle.specs.declared.step.Step.{Step}
 use Rattle.em_tree_model.specs.Ranges.{least_record}
 use Rattle.em_tree_model.proofs.Ranges.{below_not}
 use Rattle.em_tree_walk.specs.declared.searching.Range.{Range}
-use Rattle.em_tree.specs.Buffers.{ClearOver, Due}
-use Rattle.em_tree.specs.Debts.{KeepsOwing, OwesEntry, StopsOwing, owing_now}
-use Rattle.em_tree.specs.Emptying.{CanEmptyEntry, CanWork, EachRead, HasSpot, KeepsTop, deepest, spot_high, spot_low, unstored_most}
-use Rattle.em_tree.specs.Findings.{FoundNext, FoundSpot, ThinBetween}
+use Rattle.em_trunk.specs.Buffers.{ClearOver, Due}
+use Rattle.em_trunk.specs.Debts.{KeepsOwing, OwesEntry, StopsOwing, owing_now}
+use Rattle.em_tree_buffers.specs.Emptying.{CanEmptyEntry, KeepsTop}
+use Rattle.em_tree_buffers.specs.Findings.{FoundNext, FoundSpot, ThinBetween}
 use Rattle.em_tree.specs.Levels.{CanEmptyNext, EmptiedNext, EmptyUpTo, LeavesEmpty, StopsNext}
-use Rattle.em_tree.specs.Loops.{Grows, due_of, nodes_inside}
-use Rattle.em_tree.specs.Starts.{is_inside, starts_of}
-use Rattle.em_tree.specs.Trunk.{full_limit, root_of, sums_in}
-use Rattle.em_tree.specs.Works.{StopsWorking, Works}
-use Rattle.em_tree.specs.declared.trunk.Trunk.{Trunk}
-use Rattle.em_tree.proofs.ClearSteps.{deepest_same, stops_fit, works_fit}
-use Rattle.em_tree.proofs.Credits.{credit_found}
+use Rattle.em_tree_buffers.specs.Loops.{Grows, due_of, nodes_inside}
+use Rattle.em_trunk.specs.Starts.{is_inside, starts_of}
+use Rattle.em_trunk.specs.Trunk.{full_limit, root_of, sums_in}
+use Rattle.em_trunk.specs.Works.{StopsWorking, Works, CanWork, deepest, unstored_most}
+use Rattle.em_trunk.specs.declared.trunk.Trunk.{Trunk}
+use Rattle.em_tree_buffers.proofs.ClearSteps.{deepest_same, stops_fit, works_fit}
+use Rattle.em_trunk.proofs.Credits.{credit_found}
 use Rattle.em_tree.proofs.EmptyLevels.{empty_all, empty_on, empty_still, spot_clear, spot_thin}
-use Rattle.em_tree.proofs.Found.{level_last}
-use Rattle.em_tree.proofs.FoundWorks.{drained_still, nodes_after}
+use Rattle.em_tree_buffers.proofs.Found.{level_last}
+use Rattle.em_tree_buffers.proofs.FoundWorks.{drained_still, nodes_after}
 use Rattle.em_tree.proofs.LevelDebts.{keeps_same, keeps_then, owing_same}
-use Rattle.em_tree.proofs.LoopSteps.{can_after}
-use Rattle.em_tree.proofs.StartCounts.{inside_at, inside_first, inside_later}
-use Rattle.em_tree.proofs.StepWorks.{search_works, still_reads, still_sums}
-use Rattle.em_tree.proofs.Works.{stops_after, works_then}
+use Rattle.em_tree_buffers.proofs.LoopSteps.{can_after}
+use Rattle.em_trunk.proofs.StartCounts.{inside_at, inside_first, inside_later}
+use Rattle.em_trunk.proofs.StepWorks.{search_works, still_reads, still_sums}
+use Rattle.em_trunk.proofs.Works.{stops_after, works_then}
+use Rattle.em_trunk.specs.Spots.{EachRead, HasSpot, spot_high, spot_low}
 
 -- searches that are left, after one that went on at another node
 next_credit : (p L K J : ℕ) → J + 1 ≤ K → (p + L ≤ p + L * (1 + K)) × (p + L * (1 + J) + (p + L) ≤ p + (p + L * (1 + K)))
@@ -45,7 +46,7 @@ found_credit p L K J x h =
 module _ (key : Record → Record) (step : Option Record → Record → Step)
     (IsOp IsKept : Record → Type 0) (l k : ℕ) (left : Range) (s t : RigState) (v : Trunk)
     (can : CanWork key IsOp IsKept s v) (one : k + 1 ≡ v.steps) (g : Goes [] s t)
-    (used : t.used ≡ s.used) (few : t.moves ≤ s.moves + v.level)
+    (used : SameBlocks s t) (few : t.moves ≤ s.moves + v.level)
     (ready : CanEmptyNext (suc l) left s v) where
   abbrev due : Due
   due = due_of (suc l) left
@@ -55,7 +56,7 @@ module _ (key : Record → Record) (step : Option Record → Record → Step)
 
   -- the search, with a step of the call
   pub level_searched : (q : ℕ) → Works key step IsOp IsKept (q + deepest s v) q 0 1 s t v next
-  level_searched q = search_works can.running g step k q can.sound one (sym used) few
+  level_searched q = search_works can.running g step k q can.sound one used few
 
   pub after_search : CanWork key IsOp IsKept t next
   after_search = can_after can (level_searched 0)

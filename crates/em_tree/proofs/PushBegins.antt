@@ -23,17 +23,17 @@ use Rattle.em_tree_cost.proofs.Books.{books_push}
 use Rattle.em_tree_cost.proofs.InCall.{call_begins}
 use Rattle.em_tree_cost.proofs.Ceilings.{ceiling_is}
 use Rattle.em_tree_outline.specs.Outline.{outline_of}
-use Rattle.em_tree.specs.Counting.{counted_push}
-use Rattle.em_tree.specs.Emptying.{CanWork}
-use Rattle.em_tree.specs.Events.{step_allowance}
-use Rattle.em_tree.specs.Loops.{HasSteps}
-use Rattle.em_tree.specs.Meaning.{IsLater}
+use Rattle.em_trunk.specs.Counting.{counted_push}
+use Rattle.em_trunk.specs.Works.{CanWork}
+use Rattle.em_trunk.specs.Events.{step_allowance}
+use Rattle.em_trunk.specs.Steps.{HasSteps}
+use Rattle.em_trunk.specs.Meaning.{IsLater}
 use Rattle.em_tree.specs.Pushing.{Appended, CanPushOp}
-use Rattle.em_tree.specs.Trunk.{IsRunning, IsTrunk, counts_of, given_by, model_of, root_of, sums_in}
-use Rattle.em_tree.specs.declared.trunk.Trunk.{Trunk}
-use Rattle.em_tree.proofs.Charges.{books_less}
-use Rattle.em_tree.proofs.Meaning.{represents_pushed}
-use Rattle.em_tree.proofs.Steps.{books_anew, since_call}
+use Rattle.em_trunk.specs.Trunk.{IsRunning, IsTrunk, counts_of, given_by, model_of, root_of, sums_in}
+use Rattle.em_trunk.specs.declared.trunk.Trunk.{Trunk}
+use Rattle.em_trunk.proofs.Charges.{books_less}
+use Rattle.em_trunk.proofs.Meaning.{represents_pushed}
+use Rattle.em_trunk.proofs.Steps.{books_anew, since_call}
 
 -- One operation more stands in the root's buffer.
 pub sums_appended : (half level : ℕ) (t : Outline) (x y d e : ℕ) → y ≡ x + 1

@@ -18,20 +18,22 @@ use Rattle.em_tree_cost.specs.Books.{KeepsBooks, TreeCounts, count_push}
 use Rattle.em_tree_cost.specs.Paid.{toll_of}
 use Rattle.em_tree_cost.specs.Shares.{floors_of, tree_share}
 use Rattle.em_tree_cost.proofs.Books.{books_share}
-use Rattle.em_tree_load.proofs.Losses.{loses_then}
+use Rattle.em_tree_walk.proofs.Losses.{loses_then}
 use Rattle.em_tree.specs.Calls.{ChangesTrunk, CountsCall, KeepsShare, PushesOp, StopsTrunk}
-use Rattle.em_tree.specs.Counting.{counted_moves, counted_push}
-use Rattle.em_tree.specs.Events.{Charges, ChargesUpTo, Continues}
-use Rattle.em_tree.specs.Meaning.{IsLater}
+use Rattle.em_trunk.specs.Counting.{counted_moves, counted_push}
+use Rattle.em_trunk.specs.Events.{Charges, ChargesUpTo, Continues}
+use Rattle.em_trunk.specs.Meaning.{IsLater}
 use Rattle.em_tree.specs.Pushing.{Appended, NeedsMore, PushedOp, PushesTo, StopsPush}
-use Rattle.em_tree.specs.Trunk.{IsRunning, IsTrunk, counts_of, given_by, model_of, root_of, sums_in, trunk_blocks}
-use Rattle.em_tree.specs.Works.{SameNumbers}
-use Rattle.em_tree.specs.declared.trunk.Trunk.{Trunk}
-use Rattle.em_tree.proofs.Ends.{pushed_books, refused_push_share, stopped_share}
-use Rattle.em_tree.proofs.Meaning.{leaves_pushed}
+use Rattle.em_trunk.specs.Trunk.{IsRunning, IsTrunk, counts_of, given_by, model_of, root_of, sums_in, trunk_blocks}
+use Rattle.em_trunk.specs.Works.{SameNumbers}
+use Rattle.em_trunk.specs.declared.trunk.Trunk.{Trunk}
+use Rattle.em_trunk.proofs.Ends.{pushed_books, refused_push_share, stopped_share}
+use Rattle.em_trunk.proofs.Meaning.{leaves_pushed}
 use Rattle.em_tree.proofs.PushBegins.{append_books}
 use Rattle.em_tree.proofs.Pushed.{appended_model, appended_numbers}
-use Rattle.em_tree.proofs.Works.{numbers_then}
+use Rattle.em_trunk.proofs.Works.{numbers_then}
+use Rattle.em_tree.proofs.RoomCalls.{pushing_room}
+use Rattle.em_trunk.specs.Room.{FullOverRoom, WithinRoom}
 
 -- what a refused append owes is within the toll of a reset
 pub toll_some : (shape : ShapeNumbers) (k : ℕ) → 2 * shape.block ≤ toll_of shape k
@@ -282,3 +284,8 @@ module _ (key : Record → Record) (step : Option Record → Record → Step) (I
     call_counts =
         let P : Trunk → Type 0 = λ z. CountsCall (count_push 0) s t v z in
         subst P at_end (counts_pushed r at_start)
+
+    -- It keeps within the room.
+    pub call_room : IsTrue s.device.told → WithinRoom (max v.longest (v.since + 1)) s t v
+        × IfErr r (FullOverRoom (max v.longest (v.since + 1)) s v)
+    call_room told = pushing_room sound i told few step op w r at_start

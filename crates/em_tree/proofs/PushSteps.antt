@@ -15,19 +15,19 @@ use Rattle.em_chain.specs.Writer.{CanGrow, WriterHasFrame, writer_blocks}
 use Rattle.em_chain.specs.Writes.{AppendCosts, Appends}
 use Rattle.em_chain.specs.declared.writer.Writer.{Writer}
 use Rattle.em_tree_blocks.specs.Reading.{tree_blocks}
-use Rattle.em_tree.specs.Draining.{CanDrain, DrainedRoot, StopsDraining}
-use Rattle.em_tree.specs.Emptying.{CanWork, deepest}
-use Rattle.em_tree.specs.Loops.{CanClearFull, ClearsTo}
+use Rattle.em_tree_buffers.specs.Draining.{CanDrain, DrainedRoot, StopsDraining}
+use Rattle.em_tree_buffers.specs.Loops.{CanClearFull, ClearsTo}
 use Rattle.em_tree.specs.Pushing.{Appended, CanPushOp, PushedOp, PushesTo, StopsPush}
-use Rattle.em_tree.specs.Trunk.{IsRunning, full_limit, trunk_blocks, trunk_unstored}
-use Rattle.em_tree.specs.Works.{StopsWorking}
-use Rattle.em_tree.specs.declared.trunk.Trunk.{Trunk}
+use Rattle.em_trunk.specs.Trunk.{IsRunning, full_limit, trunk_blocks, trunk_unstored}
+use Rattle.em_trunk.specs.Works.{StopsWorking, CanWork, deepest}
+use Rattle.em_trunk.specs.declared.trunk.Trunk.{Trunk}
 use Rattle.em_tree.proofs.Appends.{appended, appended_running, done}
-use Rattle.em_tree.proofs.DrainedTrees.{all_of}
+use Rattle.em_tree_buffers.proofs.DrainedTrees.{all_of}
 use Rattle.em_tree.proofs.Pushed.{clear_pushed, drain_after, first, paid_is, pushed_full}
 use Rattle.em_tree.proofs.PushStops.{if_full, push_stopped, pushed_few}
-use Rattle.em_tree.proofs.SettledTrees.{can_after}
-use Rattle.em_tree.proofs.Works.{stops_after}
+use Rattle.em_trunk.proofs.Works.{stops_after, can_after}
+use Rattle.em_trunk.proofs.Rooms.{peak_fits, stops_by_peaks}
+use Rattle.em_tree_load.specs.Peaks.{Peaks}
 
 -- a fault that a call gave
 abbrev pub gave_up : EmFault → Result (Unit {0}) EmFault
@@ -109,6 +109,12 @@ module _ (key : Record → Record) (IsOp IsKept : Record → Type 0) (op : Recor
           cause = cause;
           needs = if_full fault _ (inl costs.needs);
           charges = λ told. inl costs.moves_err;
+          room = λ told g k after.
+              let used : m.used ≤ s.used + 1 = costs.used_err in
+              let most = costs.most in
+              let peaks : Peaks 1 s m = record { used = used; most = omega (arith, used, most) } in
+              stops_by_peaks can.running can.sound.shape told peaks
+              (let p = peak_fits can.sound.shape in omega (arith, p)) goes.touches.blocks cause g k;
         }
 
 module _ (key : Record → Record) (step : Option Record → Record → Step) (IsOp IsKept : Record → Type 0)
@@ -148,7 +154,8 @@ module _ (key : Record → Record) (step : Option Record → Record → Step) (I
     -- Emptying it gave up.
     pub drain_stopped : (fault : EmFault) → StopsDraining m u after x fault
         → StopsPush op s u v x fault
-    drain_stopped fault h = push_stopped key step IsOp IsKept op s m v after was_appended push big u x fault
+    drain_stopped fault h = push_stopped key step IsOp IsKept op s m v after was_appended push can.running
+        can.sound.shape big u x fault
         (h.stops 0 big)
 
     module _ (root : DrainedRoot key step IsOp IsKept m u after x) where
@@ -173,5 +180,6 @@ module _ (key : Record → Record) (step : Option Record → Record → Step) (I
           let paid = paid_is key step IsOp IsKept op s m v after was_appended push u x big root in
           let stops = subst S (sym paid) (h (18 + 2 * d)) in
           let N : ℕ → Type 0 = λ f. StopsWorking 0 0 (2 * f + 3) m t after y fault in
-          push_stopped key step IsOp IsKept op s m v after was_appended push big t y fault
+          push_stopped key step IsOp IsKept op s m v after was_appended push can.running
+          can.sound.shape big t y fault
           (subst N (ap fan_of one.session.touches.shape) (stops_after one stops))

@@ -1,6 +1,6 @@
 -- A push that ended at its append, or gave up.
 use Rattle.std.proofs.Common.{◌≡◌, ℕ, ◌+◌, ◌-◌, ◌*◌, ◌<◌, ◌≤◌, ap, ◌∙◌, subst, arith, inr}
-use Rattle.em_record.specs.Shape.{ShapeNumbers, fan_of}
+use Rattle.em_record.specs.Shape.{IsShape, ShapeNumbers, fan_of}
 use Rattle.em_record.specs.declared.record.Record.{Record}
 use Rattle.em_settle.specs.declared.step.Step.{Step}
 use Rattle.std.specs.Prelude.{Option}
@@ -10,15 +10,14 @@ use Rattle.em_space.specs.declared.fault.EmFault.{EmFault}
 use Rattle.em_space.specs.declared.fault.EmFault.TheVariants.{Damaged, DeviceFault, Full}
 use Rattle.em_space.proofs.Paying.{pays_then}
 use Rattle.em_space.proofs.Steps.{cause_after, goes_trans}
-use Rattle.em_tree.specs.Emptying.{unstored_most}
-use Rattle.em_tree.specs.Events.{ChargesUpTo}
+use Rattle.em_trunk.specs.Events.{ChargesUpTo}
 use Rattle.em_tree.specs.Pushing.{Appended, CanPushOp, PushedOp, StopsPush}
-use Rattle.em_tree.specs.Trunk.{IsRunning, full_limit, sums_in, trunk_blocks, trunk_unstored}
-use Rattle.em_tree.specs.Works.{StopsWorking}
-use Rattle.em_tree.specs.declared.trunk.Trunk.{Trunk}
-use Rattle.em_tree.proofs.DownLevels.{works_none}
+use Rattle.em_trunk.specs.Trunk.{IsRunning, full_limit, sums_in, trunk_blocks, trunk_unstored}
+use Rattle.em_trunk.specs.Works.{StopsWorking, unstored_most}
+use Rattle.em_trunk.specs.declared.trunk.Trunk.{Trunk}
 use Rattle.em_tree.proofs.Pushed.{appended_numbers, thin_after}
-use Rattle.em_tree.proofs.Works.{numbers_then}
+use Rattle.em_trunk.proofs.Works.{numbers_then, works_none}
+use Rattle.em_trunk.proofs.Rooms.{keeps_by, peak_fits, stops_then}
 
 -- what holds at every fault
 pub if_full : (fault : EmFault) (P : Type 0) → P → IfFull fault (λ _. P)
@@ -54,9 +53,10 @@ module _ (key : Record → Record) (step : Option Record → Record → Step) (I
       omega (arith, most, few, count)
 
   -- A call after the append gave up.
-  pub push_stopped : full_limit m.pool.shape ≤ w.buffer.count → (t : RigState) (y : Trunk) (fault : EmFault)
+  pub push_stopped : IsRunning key IsOp IsKept s v → IsShape s.pool.shape
+      → full_limit m.pool.shape ≤ w.buffer.count → (t : RigState) (y : Trunk) (fault : EmFault)
       → StopsWorking 0 0 (unstored_most m) m t w y fault → StopsPush op s t v y fault
-  push_stopped big t y fault h =
+  push_stopped run is big t y fault h =
       let first = app.session.touches in
       let shape = first.shape in
       let U : ShapeNumbers → Type 0 = λ g. Pays (trunk_unstored w) (2 * fan_of g + 3) m t in
@@ -74,4 +74,7 @@ module _ (key : Record → Record) (step : Option Record → Record → Step) (I
             let S : ShapeNumbers → Type 0 = λ g. ChargesUpTo g w.longest 0 (t.moves - m.moves) 0 (sums_in m w) in
             let K : ℕ → Type 0 = λ k. ChargesUpTo s.pool.shape k 0 (t.moves - m.moves) 0 (sums_in m w) in
             inr (m, w, app, subst K longest (subst S shape (h.charges (first.told ∙ z))));
+        room = λ z g k after. stops_then longest shape (app.loses z)
+            (keeps_by run is z app.peaks (let p = peak_fits is in omega (arith, p)) g k) first.blocks
+            (h.room (first.told ∙ z) g (after m w app));
       }

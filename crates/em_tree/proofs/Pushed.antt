@@ -11,22 +11,24 @@ use Rattle.em_tree_model.specs.Ranges.{least_record}
 use Rattle.em_tree_model.specs.Tree.{Tree}
 use Rattle.em_tree_model.specs.Tree.Tree.{end, entry}
 use Rattle.em_tree_cost.specs.Shares.{levels_of}
-use Rattle.em_tree.specs.Buffers.{IsDue, IsThin, OnOneSide, OnlyFull}
-use Rattle.em_tree.specs.Draining.{CanDrain, DrainedRoot}
-use Rattle.em_tree.specs.Emptying.{CanClear, EachRead, deepest}
-use Rattle.em_tree.specs.Entries.{EachEntry}
-use Rattle.em_tree.specs.Loops.{CanClearFull, Cleared, HasSteps, clear_pay, nodes_inside}
+use Rattle.em_trunk.specs.Buffers.{IsDue, IsThin, OnOneSide, OnlyFull}
+use Rattle.em_tree_buffers.specs.Draining.{CanDrain, DrainedRoot}
+use Rattle.em_tree_buffers.specs.Emptying.{CanClear}
+use Rattle.em_trunk.specs.Entries.{EachEntry}
+use Rattle.em_tree_buffers.specs.Loops.{CanClearFull, Cleared, clear_pay, nodes_inside}
 use Rattle.em_tree.specs.Pushing.{Appended, CanPushOp, PushedOp, model_with}
-use Rattle.em_tree.specs.Starts.{is_inside}
-use Rattle.em_tree.specs.Trunk.{full_limit, model_of, root_of}
-use Rattle.em_tree.specs.Works.{SameNumbers, Works}
-use Rattle.em_tree.specs.declared.trunk.Trunk.{Trunk}
-use Rattle.em_tree.proofs.Buffers.{none_due}
-use Rattle.em_tree.proofs.DrainedTrees.{all_of, drained_clear, drained_full}
-use Rattle.em_tree.proofs.Entries.{each_level, each_map}
-use Rattle.em_tree.proofs.StartCounts.{starts_above}
-use Rattle.em_tree.proofs.StepWorks.{steps_after}
-use Rattle.em_tree.proofs.Works.{works_then}
+use Rattle.em_trunk.specs.Starts.{is_inside}
+use Rattle.em_trunk.specs.Trunk.{full_limit, model_of, root_of}
+use Rattle.em_trunk.specs.Works.{SameNumbers, Works, deepest}
+use Rattle.em_trunk.specs.declared.trunk.Trunk.{Trunk}
+use Rattle.em_trunk.proofs.Buffers.{none_due}
+use Rattle.em_tree_buffers.proofs.DrainedTrees.{all_of, drained_clear, drained_full}
+use Rattle.em_trunk.proofs.Entries.{each_level, each_map}
+use Rattle.em_trunk.proofs.StartCounts.{starts_above}
+use Rattle.em_trunk.proofs.StepWorks.{steps_after}
+use Rattle.em_trunk.proofs.Works.{works_then}
+use Rattle.em_trunk.specs.Spots.{EachRead}
+use Rattle.em_trunk.specs.Steps.{HasSteps}
 
 -- a search is paid for by the last part of what was paid in advance
 one_search : (d n : ℕ) → n ≡ 0 → 0 + 18 + 3 * d ≡ 18 + 2 * d + d * (1 + n)

@@ -10,23 +10,25 @@ use Rattle.em_space.proofs.Paying.{pays_more}
 use Rattle.em_tree_model.specs.Ranges.{least_record}
 use Rattle.em_tree_cost.specs.Books.{KeepsBooks, TreeCounts, count_settle}
 use Rattle.em_tree_cost.proofs.Books.{books_share}
-use Rattle.em_tree.specs.Buffers.{IsThin, NoneFrom}
+use Rattle.em_trunk.specs.Buffers.{IsThin, NoneFrom}
 use Rattle.em_tree.specs.Calls.{ChangesTrunk, CountsCall, KeepsShare, SettlesTrunk, StopsTrunk}
-use Rattle.em_tree.specs.Counting.{counted_moves, counted_settling}
-use Rattle.em_tree.specs.Debts.{owing_all}
-use Rattle.em_tree.specs.Emptying.{EachRead}
+use Rattle.em_trunk.specs.Counting.{counted_moves, counted_settling}
+use Rattle.em_trunk.specs.Debts.{owing_all}
+use Rattle.em_trunk.specs.Spots.{EachRead}
 use Rattle.em_tree.specs.Settling.{SettledAll, SettlesAllTo, StopsSettling}
-use Rattle.em_tree.specs.Trunk.{IsRunning, IsTrunk, counts_of, full_limit, given_by, model_of, root_of, sums_in}
-use Rattle.em_tree.specs.Works.{SameNumbers, FullIfWaits}
-use Rattle.em_tree.specs.declared.trunk.Trunk.{Trunk}
-use Rattle.em_tree.proofs.Bounded.{limit_some}
-use Rattle.em_tree.proofs.Ends.{settled_books, stopped_settling}
-use Rattle.em_tree.proofs.Entries.{each_map}
-use Rattle.em_tree.proofs.Meaning.{leaves_all}
+use Rattle.em_trunk.specs.Trunk.{IsRunning, IsTrunk, counts_of, full_limit, given_by, model_of, root_of, sums_in}
+use Rattle.em_trunk.specs.Works.{SameNumbers, FullIfWaits}
+use Rattle.em_trunk.specs.declared.trunk.Trunk.{Trunk}
+use Rattle.em_trunk.proofs.Bounded.{limit_some}
+use Rattle.em_trunk.proofs.Ends.{settled_books, stopped_settling}
+use Rattle.em_trunk.proofs.Entries.{each_map}
+use Rattle.em_trunk.proofs.Meaning.{leaves_all}
 use Rattle.em_tree.proofs.Settled.{trunk_settled}
 use Rattle.em_tree.proofs.SettlingBegins.{running_counted}
 use Rattle.em_tree.proofs.SettlingTolls.{settled_toll, stopped_toll}
 use Rattle.em_tree.proofs.Unused.{silent_all}
+use Rattle.em_tree.proofs.RoomCalls.{settling_room}
+use Rattle.em_trunk.specs.Room.{FullOverRoom, WithinRoom}
 
 -- a tree whose moves were counted stands as it did
 pub running_moved : {key : Record → Record} {IsOp IsKept : Record → Type 0} {t : RigState} {w : Trunk}
@@ -280,3 +282,8 @@ module _ (key : Record → Record) (step : Option Record → Record → Step)
     call_counts =
         let P : Trunk → Type 0 = CountsCall (count_settle 0) s t v in
         subst P (sym ended_as) (settling_counts key step IsOp IsKept s t v w sound is r from_begun)
+
+  -- It keeps within the room.
+  pub call_room : IsTrue s.device.told → WithinRoom v.longest s t v × IfErr r (FullOverRoom v.longest s v)
+  call_room told = settling_room sound is told step (owing_all s (counted_settling s.pool.shape v)) w r
+      from_begun

@@ -1,34 +1,31 @@
 -- A tree in which nothing waits any more: all answers were given, and it can be finished.
-use Rattle.std.proofs.Common.{◌≡◌, ℕ, ◌-◌, List, [], ◌++◌, drop, refl, sym, ap, ◌∙◌, subst, arith, IsTrue}
+use Rattle.std.proofs.Common.{◌≡◌, ℕ, ◌-◌, List, [], ◌++◌, refl, sym, ap, ◌∙◌, subst, arith, IsTrue}
 use Rattle.std.specs.Prelude.{Option}
 use Rattle.std.specs.List.Sorted.{IsPermutation}
 use Rattle.em_record.specs.declared.record.Record.{Record}
-use Rattle.em_space.specs.Free.{linked_from}
-use Rattle.em_space.specs.Held.{contents_of}
 use Rattle.em_space.specs.Rig.{RigState}
 use Rattle.em_space.proofs.Paying.{pays_then}
 use Rattle.em_space.proofs.Sessions.{session_trans}
 use Rattle.em_space.proofs.Steps.{same_frames_then}
-use Rattle.em_chain.specs.List.{items_in}
-use Rattle.em_chain.specs.Writer.{IsWriter, pending, writer_items}
+use Rattle.em_chain.specs.Writer.{writer_items}
 use Rattle.em_chain.specs.declared.chain.Chain.{Chain}
-use Rattle.em_chain.specs.declared.writer.Writer.{Writer}
 use Rattle.em_settle.specs.declared.step.Step.{Step}
 use Rattle.em_tree_model.specs.Meaning.{tree_answers}
 use Rattle.em_tree_model.specs.Tree.{Tree, waiting_in}
 use Rattle.em_tree_model.specs.Tree.Tree.{end, entry, leaf}
-use Rattle.em_tree_load.proofs.Losses.{chain_length}
-use Rattle.em_tree.specs.Buffers.{NoneFrom}
+use Rattle.em_tree_walk.proofs.Losses.{chain_length}
+use Rattle.em_trunk.specs.Buffers.{NoneFrom}
 use Rattle.em_tree.specs.Calls.{FinishedTrunk}
-use Rattle.em_tree.specs.Emptying.{EachRead}
-use Rattle.em_tree.specs.Entries.{EachEntry}
-use Rattle.em_tree.specs.Finishing.{GivenAnswers, ReleasedTrunk}
-use Rattle.em_tree.specs.Loops.{IsDrained}
-use Rattle.em_tree.specs.Meaning.{IsSettled}
-use Rattle.em_tree.specs.Trunk.{IsRunning, given_by, model_of, root_of}
-use Rattle.em_tree.specs.Works.{Works}
-use Rattle.em_tree.specs.declared.trunk.Trunk.{Trunk}
-use Rattle.em_tree.proofs.Meaning.{settled_all}
+use Rattle.em_trunk.specs.Spots.{EachRead}
+use Rattle.em_trunk.specs.Entries.{EachEntry}
+use Rattle.em_tree.specs.Finishing.{ReleasedTrunk}
+use Rattle.em_trunk.specs.Meaning.{IsSettled}
+use Rattle.em_trunk.specs.Trunk.{IsRunning, given_by, model_of, root_of}
+use Rattle.em_trunk.specs.Works.{Works, IsDrained}
+use Rattle.em_trunk.specs.declared.trunk.Trunk.{Trunk}
+use Rattle.em_trunk.proofs.Meaning.{settled_all}
+use Rattle.em_trunk.specs.Lists.{GivenAnswers}
+use Rattle.em_trunk.proofs.TrunkLists.{no_items}
 
 -- a tree whose buffers are empty
 pub none_waiting : (t : Tree) (m : ℕ) (lo : Record) (hi : Option Record) → EachEntry (NoneFrom 0) m lo hi t
@@ -39,15 +36,6 @@ none_waiting (entry low b c r) m lo hi e =
     let own : b ≡ [] = e.0 (omega arith) in
     ap (λ xs. (xs ++ b) ++ waiting_in r) (none_waiting c _ _ _ e.1)
     ∙ (ap (λ xs. xs ++ waiting_in r) own ∙ none_waiting r _ _ _ e.2)
-
--- a writer with no block has no record
-pub no_items : (s : RigState) (w : Writer) → IsWriter s w → w.blocks ≡ 0 → writer_items s w ≡ []
-no_items s w i e =
-    let f : ℕ → ℕ → ℕ → List Record = λ skip blocks tail.
-    drop skip (items_in (contents_of s (linked_from (blocks - 1) s.device.contents w.head)
-    ++ pending tail w.frame)) in
-    ap (λ n. f n w.blocks w.tail) (i.last.none_skip e)
-    ∙ (ap (λ n. f 0 n w.tail) e ∙ ap (f 0 0) (i.last.none e))
 
 module _ {key : Record → Record} {step : Option Record → Record → Step}
     {IsOp IsKept : Record → Type 0} {p q d n : ℕ} {s m : RigState} {v w : Trunk}

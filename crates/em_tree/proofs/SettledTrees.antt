@@ -13,18 +13,18 @@ use Rattle.em_tree_cost.specs.Shares.{levels_of}
 use Rattle.em_tree_model.specs.Pouring.{pour}
 use Rattle.em_tree_model.specs.Ranges.{least_record}
 use Rattle.em_tree_model.specs.Tree.{Tree}
-use Rattle.em_tree.specs.Debts.{KeepsOwing, leaf_owing, owing_all, owing_to}
-use Rattle.em_tree.specs.Draining.{DrainedRoot, StopsDraining, drain_debt}
-use Rattle.em_tree.specs.Emptying.{CanSettleLevel, CanWork, unstored_most}
-use Rattle.em_tree.specs.Entries.{EachEntry}
+use Rattle.em_trunk.specs.Debts.{KeepsOwing, leaf_owing, owing_all, owing_to}
+use Rattle.em_tree_buffers.specs.Draining.{DrainedRoot, StopsDraining, drain_debt}
+use Rattle.em_tree_buffers.specs.Emptying.{CanSettleLevel}
+use Rattle.em_trunk.specs.Entries.{EachEntry}
 use Rattle.em_tree.specs.Settling.{CanSettleDown, CanSettleTree, SettledAll, SettlesAllTo, StopsSettling}
-use Rattle.em_tree.specs.Trunk.{full_limit, root_of, sums_in}
-use Rattle.em_tree.specs.Works.{StopsWorking, Works}
-use Rattle.em_tree.specs.declared.trunk.Trunk.{Trunk}
-use Rattle.em_tree.proofs.Debts.{may_then, may_toll}
-use Rattle.em_tree.proofs.DrainDebts.{drain_few, drained_owes}
-use Rattle.em_tree.proofs.DrainedTrees.{drained_above, drained_below}
-use Rattle.em_tree.proofs.Works.{stops_after, works_then}
+use Rattle.em_trunk.specs.Trunk.{full_limit, root_of, sums_in}
+use Rattle.em_trunk.specs.Works.{StopsWorking, Works, CanWork, unstored_most}
+use Rattle.em_trunk.specs.declared.trunk.Trunk.{Trunk}
+use Rattle.em_trunk.proofs.Debts.{may_then, may_toll}
+use Rattle.em_tree_buffers.proofs.DrainDebts.{drain_few, drained_owes}
+use Rattle.em_tree_buffers.proofs.DrainedTrees.{drained_above, drained_below}
+use Rattle.em_trunk.proofs.Works.{stops_after, works_then}
 
 -- debts of two steps
 pub both_owed : (B d e : ℕ) → B * d + B * e ≡ B * (d + e)
@@ -65,17 +65,6 @@ module _ {key : Record → Record} {step : Option Record → Record → Step}
 
 module _ (key : Record → Record) (step : Option Record → Record → Step) (IsOp IsKept : Record → Type 0)
   where
-    -- After a step the next one can begin.
-    pub can_after : (p q d n : ℕ) (s t : RigState) (v w : Trunk) → CanWork key IsOp IsKept s v
-        → Works key step IsOp IsKept p q d n s t v w → CanWork key IsOp IsKept t w
-    can_after p q d n s t v w can a = record {
-      sound = a.session.sound;
-      running = a.running;
-      free = rw (a.frames.shape, a.frames.free) can.free;
-      areas = rw (a.frames.free_areas) can.areas;
-      rack = a.frames.rack ∙ can.rack;
-    }
-
     module _ (before next taken debt : ℕ) (s t u : RigState) (v w x : Trunk)
         (a : Works key step IsOp IsKept 0 0 (s.pool.shape.block * debt) taken s t v w)
         (owes : IsTrue s.device.told → KeepsOwing before next debt s t v w) where

@@ -4,14 +4,14 @@ use Rattle.em_record.specs.Shape.{ShapeNumbers}
 use Rattle.em_record.specs.declared.record.Record.{Record}
 use Rattle.em_space.specs.Queue.{CanServe}
 use Rattle.em_space.specs.Rig.{RigState, Sound}
-use Rattle.em_tree.specs.Counting.{counted_settling}
-use Rattle.em_tree.specs.Emptying.{CanWork}
+use Rattle.em_trunk.specs.Counting.{counted_settling}
+use Rattle.em_trunk.specs.Works.{CanWork}
 use Rattle.em_tree.specs.Finishing.{CanFinish}
 use Rattle.em_tree.specs.Settling.{CanSettleTree}
-use Rattle.em_tree.specs.Trunk.{IsRunning, IsTrunk}
-use Rattle.em_tree.specs.declared.trunk.Trunk.{Trunk}
-use Rattle.em_tree.proofs.Debts.{may_begin}
-use Rattle.em_tree.proofs.Unbuffered.{drained_unused, none_unused}
+use Rattle.em_trunk.specs.Trunk.{IsRunning, IsTrunk}
+use Rattle.em_trunk.specs.declared.trunk.Trunk.{Trunk}
+use Rattle.em_trunk.proofs.Debts.{may_begin}
+use Rattle.em_trunk.proofs.Unbuffered.{drained_unused, none_unused}
 
 module _ {key : Record → Record} {IsOp IsKept : Record → Type 0} {s : RigState} {v : Trunk} where
   -- it stands as it did

@@ -16,14 +16,14 @@ use Rattle.em_tree_cost.specs.Shares.{levels_of}
 use Rattle.em_tree_cost.proofs.Ceilings.{blocks_ceil, blocks_most}
 use Rattle.em_tree_cost.proofs.Heights.{splits_few}
 use Rattle.em_tree_cost.proofs.Settling.{settle_most}
-use Rattle.em_tree.specs.Counting.{counted_settling}
-use Rattle.em_tree.specs.Debts.{MayOwe, owing_all}
+use Rattle.em_trunk.specs.Counting.{counted_settling}
+use Rattle.em_trunk.specs.Debts.{MayOwe, owing_all}
 use Rattle.em_tree.specs.Settling.{SettledAll, StopsSettling}
-use Rattle.em_tree.specs.Trunk.{IsTrunk, sums_in}
-use Rattle.em_tree.specs.declared.trunk.Trunk.{Trunk}
-use Rattle.em_tree.proofs.Charges.{level_most}
-use Rattle.em_tree.proofs.Debts.{may_begin, may_most, may_then, may_toll}
-use Rattle.em_tree.proofs.HeldBlocks.{held_few}
+use Rattle.em_trunk.specs.Trunk.{IsTrunk, sums_in}
+use Rattle.em_trunk.specs.declared.trunk.Trunk.{Trunk}
+use Rattle.em_trunk.proofs.Charges.{level_most}
+use Rattle.em_trunk.proofs.Debts.{may_begin, may_most, may_then, may_toll}
+use Rattle.em_trunk.proofs.HeldBlocks.{held_few}
 use Rattle.em_tree.proofs.SettledTrees.{toll_same}
 
 -- Before the first operation there is one level.

@@ -16,24 +16,26 @@ use Rattle.em_tree_model.proofs.Taking.{leaves_taken, rising_ascends}
 use Rattle.em_tree_cost.specs.Books.{KeepsBooks, TreeCounts, count_drain, count_moves}
 use Rattle.em_tree_cost.proofs.Books.{books_share}
 use Rattle.em_tree_cost.proofs.InCall.{call_begins}
-use Rattle.em_tree.specs.Buffers.{IsThin}
+use Rattle.em_trunk.specs.Buffers.{IsThin}
 use Rattle.em_tree.specs.Calls.{CountsCall, KeepsShare, StopsTrunk}
-use Rattle.em_tree.specs.Counting.{counted_moves, counted_reset, with_steps}
-use Rattle.em_tree.specs.Emptying.{CanWork, EachRead}
-use Rattle.em_tree.specs.FirstVisits.{CanTakeAll, EndsAs, EndsBooks, LeavesEmpty, LeavesMore, TakesAllFirst, TakesOn, TookAllFirst}
+use Rattle.em_trunk.specs.Counting.{counted_moves, counted_reset, with_steps}
+use Rattle.em_trunk.specs.Spots.{EachRead}
+use Rattle.em_tree_visits.specs.FirstVisits.{CanTakeAll, EndsAs, EndsBooks, LeavesEmpty, LeavesMore, TakesAllFirst, TakesOn, TookAllFirst}
 use Rattle.em_tree.specs.Taking.{CountsTake, TakesFirstTo, TookFirst}
-use Rattle.em_tree.specs.Trunk.{IsRunning, IsTrunk, counts_of, full_limit, given_by, model_of, sums_in}
-use Rattle.em_tree.specs.Visits.{StopsVisit, TakesSteps}
-use Rattle.em_tree.specs.declared.trunk.Trunk.{Trunk}
-use Rattle.em_tree.specs.declared.visiting.Taken.{Taken}
-use Rattle.em_tree.proofs.Bounded.{limit_some}
-use Rattle.em_tree.proofs.Charges.{books_less}
+use Rattle.em_trunk.specs.Trunk.{IsRunning, IsTrunk, counts_of, full_limit, given_by, model_of, sums_in}
+use Rattle.em_tree_visits.specs.Visits.{StopsVisit, TakesSteps}
+use Rattle.em_trunk.specs.declared.trunk.Trunk.{Trunk}
+use Rattle.em_tree_visits.specs.declared.visiting.Taken.{Taken}
+use Rattle.em_trunk.proofs.Bounded.{limit_some}
+use Rattle.em_trunk.proofs.Charges.{books_less}
 use Rattle.em_tree.proofs.PushEnds.{same_counts}
 use Rattle.em_tree.proofs.SettleCall.{running_moved}
-use Rattle.em_tree.proofs.StepWorks.{running_steps}
-use Rattle.em_tree.proofs.Steps.{books_anew, since_call}
+use Rattle.em_trunk.proofs.StepWorks.{running_steps}
+use Rattle.em_trunk.proofs.Steps.{books_anew, since_call}
 use Rattle.em_tree.proofs.Unused.{one_leaf, silent_on}
-use Rattle.em_tree.specs.Works.{FullIfWaits}
+use Rattle.em_trunk.specs.Works.{FullIfWaits, CanWork}
+use Rattle.em_tree.proofs.RoomCalls.{taking_room}
+use Rattle.em_trunk.specs.Room.{FullOverRoom, WithinRoom}
 
 -- what a call gave that went well
 abbrev pub taken_ok : ℕ → Result ℕ EmFault
@@ -374,6 +376,14 @@ module _ (key : Record → Record) (step : Option Record → Record → Step) (I
       let P : Trunk → Type 0 = λ z. FullIfWaits s z fault in
       let Q : EmFault → Type 0 = FullIfWaits s v in
       subst Q (sym e) (subst P begun_as h.needs)
+
+  -- It keeps within the room.
+  pub take_room : (area : List Record) {t : RigState} (w : Trunk) (r : Result Taken EmFault)
+      → TakesAllFirst key step IsOp IsKept area s t x w r → IsTrue s.device.told
+      → WithinRoom v.longest s t v × IfErr r (FullOverRoom v.longest s v)
+  take_room area {t} w r h told =
+      let P : Trunk → Type 0 = λ z. TakesAllFirst key step IsOp IsKept area s t z w r in
+      taking_room sound is told step area w r (subst P begun_as h)
 
   module _ (laws : IsSettle key step IsOp IsKept) (t : RigState) (w : Trunk) (area : List Record) {before : ℕ}
       (start : before ≡ s.moves) where

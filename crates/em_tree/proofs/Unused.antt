@@ -29,16 +29,17 @@ use Rattle.em_tree_model.specs.Tree.{waiting_in}
 use Rattle.em_tree_model.proofs.Least.{all_given}
 use Rattle.em_tree_outline.specs.Outline.{outline_of}
 use Rattle.em_tree_outline.proofs.Outlines.{outline_level}
-use Rattle.em_tree.specs.Buffers.{NoneFrom}
-use Rattle.em_tree.specs.Emptying.{EachRead}
-use Rattle.em_tree.specs.Entries.{EachEntry}
-use Rattle.em_tree.specs.Trunk.{IsRunning, IsTrunk, given_by, model_of, root_of, sums_in}
-use Rattle.em_tree.specs.declared.trunk.Trunk.{Trunk}
-use Rattle.em_tree.proofs.HeldBlocks.{leaf_packed, row_node}
-use Rattle.em_tree.proofs.LeafSizes.{ceil_few}
-use Rattle.em_tree.proofs.Meaning.{represents_itself}
-use Rattle.em_tree.proofs.Settled.{no_items, none_waiting}
-use Rattle.em_tree.proofs.Unbuffered.{no_block, none_unused}
+use Rattle.em_trunk.specs.Buffers.{NoneFrom}
+use Rattle.em_trunk.specs.Spots.{EachRead}
+use Rattle.em_trunk.specs.Entries.{EachEntry}
+use Rattle.em_trunk.specs.Trunk.{IsRunning, IsTrunk, given_by, model_of, root_of, sums_in}
+use Rattle.em_trunk.specs.declared.trunk.Trunk.{Trunk}
+use Rattle.em_trunk.proofs.HeldBlocks.{leaf_packed, row_node}
+use Rattle.em_trunk.proofs.LeafSizes.{ceil_few}
+use Rattle.em_trunk.proofs.Meaning.{represents_itself}
+use Rattle.em_tree.proofs.Settled.{none_waiting}
+use Rattle.em_trunk.proofs.Unbuffered.{no_block, none_unused}
+use Rattle.em_trunk.proofs.TrunkLists.{no_items}
 
 -- One leaf is there, on one level, and no record.
 pub record IsOneLeaf (t : Sums) : Type 0 where

@@ -1,5 +1,5 @@
 -- What the calls of a tree leave of it and of its rig.
-use Rattle.std.specs.Prelude.{◌≡◌, ◌+◌, ◌-◌, ◌≤◌, List, [], ◌∷◌, Option, IsTrue, Result, Ok, Err}
+use Rattle.std.specs.Prelude.{Err, IsTrue, List, Ok, Option, Result, [], max, ◌+◌, ◌-◌, ◌∷◌, ◌≡◌, ◌≤◌}
 use Rattle.std.specs.List.Sorted.{IsPermutation}
 use Rattle.em_record.specs.Cost.{blocks_of, lev}
 use Rattle.em_record.specs.Shape.{ShapeNumbers}
@@ -16,11 +16,11 @@ use Rattle.em_tree_model.specs.Meaning.{tree_answers}
 use Rattle.em_tree_model.specs.Tree.{stored_in, waiting_in}
 use Rattle.em_tree_cost.specs.Books.{TreeCounts, count_moves, count_settle, no_counts}
 use Rattle.em_tree_cost.specs.Paid.{WithinShare}
-use Rattle.em_tree_load.specs.Paid.{LosesNone}
-use Rattle.em_tree_load.specs.SplitPaths.{StopsUpTo}
-use Rattle.em_tree.specs.Meaning.{IsSettled, LeavesMeaning}
-use Rattle.em_tree.specs.Trunk.{IsTrunk, TrunkHasFrames, counts_of, given_by, model_of, trunk_blocks, trunk_unstored}
-use Rattle.em_tree.specs.declared.trunk.Trunk.{Trunk}
+use Rattle.em_tree_walk.specs.Paid.{LosesNone}
+use Rattle.em_tree_walk.specs.SplitPaths.{StopsUpTo}
+use Rattle.em_trunk.specs.Meaning.{IsSettled, LeavesMeaning}
+use Rattle.em_trunk.specs.Trunk.{IsTrunk, TrunkHasFrames, counts_of, given_by, model_of, trunk_blocks, trunk_unstored}
+use Rattle.em_trunk.specs.declared.trunk.Trunk.{Trunk}
 
 -- the moves of its calls are within the share, by the numbers that it has then
 abbrev pub KeepsShare : ShapeNumbers → TreeCounts → Type 0
@@ -35,6 +35,7 @@ pub record IsNewTrunk (key : Record → Record) (IsOp IsKept : Record → Type 0
   pub pays : Pays 0 0 s t
   pub level : v.level ≡ 1
   pub used : t.used ≡ s.used + 2
+  pub most : t.most ≤ max s.most (s.used + 2)
   pub loses : LosesNone [] (trunk_blocks t v) s t
   pub counts : counts_of v ≡ count_moves v.spent no_counts
   pub spent : v.spent + s.moves ≡ t.moves
@@ -128,13 +129,6 @@ pub record FinishCosts (s t : RigState) (v : Trunk) : Type 0 where
   pub share : IsTrue s.device.told
       → KeepsShare s.pool.shape (count_settle (t.moves - s.moves) (counts_of v))
   pub unused : IsTrue s.device.told → v.pushed ≡ 0 → t.moves ≤ s.moves + 4
-
--- Both frames came back, and nothing was moved: the blocks stay in use.
-pub record LeavesTrunk (s t : RigState) : Type 0 where
-  pub sound : Sound t
-  pub touches : Touches [] s t
-  pub frames : GivenFrames 2 s.pool t.pool
-  pub same : t ≡ record s { pool = t.pool }
 
 -- The tree has at most two levels more than `lev` of the blocks of k operations.
 pub record IsLow (shape : ShapeNumbers) (v : Trunk) : Type 0 where

@@ -1,24 +1,21 @@
 -- The end of a tree: its nodes and leaves are released, and its answers become a chain.
 use Rattle.std.specs.Prelude.{◌≡◌, ◌⊎◌, ◌+◌, ◌*◌, ◌≤◌, min, length, IsTrue, IfErr, Option, Result, Ok, Err}
 use Rattle.em_record.specs.declared.record.Record.{Record}
-use Rattle.em_frames.specs.Pool.{GivenFrames, SameFrames}
+use Rattle.em_frames.specs.Pool.{SameFrames}
 use Rattle.em_space.specs.Ledger.{Session}
 use Rattle.em_space.specs.Queue.{Pays}
-use Rattle.em_space.specs.Rig.{Cause, Goes, IfFull, RigState, Sound, Touches}
+use Rattle.em_space.specs.Rig.{Cause, Goes, IfFull, RigState}
 use Rattle.em_space.specs.declared.fault.EmFault.{EmFault}
-use Rattle.em_chain.specs.Chain.{chain_blocks}
 use Rattle.em_chain.specs.Writer.{IsPackedSoFar, IsWriter, writer_blocks}
-use Rattle.em_chain.specs.Writes.{Finishes}
-use Rattle.em_chain.specs.declared.chain.Chain.{Chain}
 use Rattle.em_settle.specs.declared.step.Step.{Step}
 use Rattle.em_tree_blocks.specs.Reading.{tree_blocks}
-use Rattle.em_tree.specs.Buffers.{NoneFrom}
-use Rattle.em_tree.specs.Debts.{owing_all}
-use Rattle.em_tree.specs.Emptying.{EachRead}
-use Rattle.em_tree.specs.Loops.{IsDrained}
+use Rattle.em_trunk.specs.Buffers.{NoneFrom}
+use Rattle.em_trunk.specs.Debts.{owing_all}
+use Rattle.em_trunk.specs.Spots.{EachRead}
+use Rattle.em_trunk.specs.Works.{IsDrained}
 use Rattle.em_tree.specs.Settling.{CanSettleTree, SettledAll, StopsSettling}
-use Rattle.em_tree.specs.Trunk.{TrunkHasFrames, given_by, trunk_blocks, trunk_unstored}
-use Rattle.em_tree.specs.declared.trunk.Trunk.{Trunk}
+use Rattle.em_trunk.specs.Trunk.{TrunkHasFrames, given_by, trunk_blocks, trunk_unstored}
+use Rattle.em_trunk.specs.declared.trunk.Trunk.{Trunk}
 
 -- The nodes and leaves of a tree were released, and nothing is in its root's buffer: its answers are
 -- left.
@@ -31,6 +28,7 @@ pub record ReleasedTrunk (s t : RigState) (v : Trunk) : Type 0 where
   pub moves : IsTrue s.device.told
       → t.moves ≤ s.moves + 2 * length (tree_blocks v.level s v.root)
   pub used : IsTrue s.device.told → t.used + length (trunk_blocks s v) ≡ s.used + v.answers.blocks
+  pub most : t.most ≡ s.most
   pub given : IsTrue s.device.told → given_by t v ≡ given_by s v
   pub packed : IsTrue s.device.told → IsPackedSoFar t v.answers
 
@@ -41,38 +39,15 @@ pub record StopsRelease (s t : RigState) (v : Trunk) (fault : EmFault) : Type 0 
   pub pays : Pays (trunk_unstored v) (trunk_unstored v) s t
   pub moves : IsTrue s.device.told
       → t.moves ≤ s.moves + 2 * length (tree_blocks v.level s v.root)
+  pub most : t.most ≡ s.most
   pub cause : Cause s t fault
+  pub full : IfFull fault (λ _. ⊥)
 
 -- A tree to which nothing was pushed stayed as it was until its nodes and leaves were released.
 pub record ReleasesUnused (s t : RigState) (v w : Trunk) : Type 0 where
   pub same : w ≡ v
   pub moves : IsTrue s.device.told
       → t.moves ≤ s.moves + 2 * length (tree_blocks v.level s v.root)
-
--- The answers of a tree are a chain, and its two frames are back.
-pub record GivenAnswers (s t : RigState) (v : Trunk) (c : Chain) : Type 0 where
-  pub session : Session (writer_blocks s v.answers) s t (chain_blocks t c)
-  pub chain : Finishes s t v.answers c
-  pub frames : GivenFrames 2 s.pool t.pool
-  pub pays : Pays (min v.answers.blocks 1) 0 s t
-  pub used : t.used ≡ s.used
-  pub moves : t.moves ≤ s.moves + min v.answers.blocks 1
-
--- The last block of the answers couldn't be stored.
-pub record StopsAnswers (s t : RigState) (v : Trunk) (fault : EmFault) : Type 0 where
-  pub sound : Sound t
-  pub touches : Touches (writer_blocks s v.answers) s t
-  pub frames : GivenFrames 2 s.pool t.pool
-  pub pays : Pays (min v.answers.blocks 1) 1 s t
-  pub used : t.used ≡ s.used
-  pub moves : t.moves ≤ s.moves + min v.answers.blocks 1
-  pub cause : Cause s t fault
-  pub full : IfFull fault (λ _. ⊥)
-
--- what that did, by its result
-abbrev pub GivesAnswers : RigState → RigState → Trunk → Result Chain EmFault → Type 0
-GivesAnswers s t v (Ok c) = GivenAnswers s t v c
-GivesAnswers s t v (Err fault) = StopsAnswers s t v fault
 
 -- a tree to which nothing was pushed needs no block while it is finished
 abbrev pub FullIfUsed : {T : Type 0} → Trunk → Result T EmFault → Type 0

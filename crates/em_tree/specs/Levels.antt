@@ -7,13 +7,14 @@ use Rattle.em_space.specs.Rig.{RigState}
 use Rattle.em_space.specs.declared.fault.EmFault.{EmFault}
 use Rattle.em_tree_model.specs.Ranges.{Under}
 use Rattle.em_tree_walk.specs.declared.searching.Range.{Range}
-use Rattle.em_tree.specs.Buffers.{OnlyFull}
-use Rattle.em_tree.specs.Debts.{KeepsOwing, MayOwe, owing_now, owing_to}
-use Rattle.em_tree.specs.Emptying.{CanWork, EachRead, SettlesLevel, deepest, unstored_most}
-use Rattle.em_tree.specs.Loops.{IsDrained, due_of, searches_left}
-use Rattle.em_tree.specs.Trunk.{full_limit}
-use Rattle.em_tree.specs.Works.{StopsWorking, Works}
-use Rattle.em_tree.specs.declared.trunk.Trunk.{Trunk}
+use Rattle.em_trunk.specs.Buffers.{OnlyFull}
+use Rattle.em_trunk.specs.Debts.{KeepsOwing, MayOwe, owing_now, owing_to}
+use Rattle.em_tree_buffers.specs.Emptying.{SettlesLevel}
+use Rattle.em_tree_buffers.specs.Loops.{due_of, searches_left}
+use Rattle.em_trunk.specs.Trunk.{full_limit}
+use Rattle.em_trunk.specs.Works.{StopsWorking, Works, CanWork, deepest, unstored_most, IsDrained}
+use Rattle.em_trunk.specs.declared.trunk.Trunk.{Trunk}
+use Rattle.em_trunk.specs.Spots.{EachRead}
 
 -- An entry whose buffer has an operation is in no node above a level, and if it is in the level it doesn't
 -- begin before a key.

@@ -13,14 +13,16 @@ use Rattle.em_tree_model.specs.Meaning.{InTurn}
 use Rattle.em_tree_model.specs.Ranges.{IsTree, least_record}
 use Rattle.em_tree_model.specs.Tree.{Tree}
 use Rattle.em_tree_model.specs.Tree.Tree.{end, entry}
-use Rattle.em_tree_load.specs.Paid.{LosesNone}
-use Rattle.em_tree.specs.Buffers.{IsThin}
-use Rattle.em_tree.specs.Emptying.{EachRead, unstored_most}
-use Rattle.em_tree.specs.Events.{ChargesUpTo}
-use Rattle.em_tree.specs.Loops.{HasSteps}
-use Rattle.em_tree.specs.Trunk.{TrunkHasFrames, full_limit, given_by, root_of, sums_in, trunk_blocks, trunk_unstored}
-use Rattle.em_tree.specs.Works.{SameNumbers, Works}
-use Rattle.em_tree.specs.declared.trunk.Trunk.{Trunk}
+use Rattle.em_tree_walk.specs.Paid.{LosesNone}
+use Rattle.em_tree_load.specs.Peaks.{Peaks}
+use Rattle.em_trunk.specs.Buffers.{IsThin}
+use Rattle.em_trunk.specs.Spots.{EachRead}
+use Rattle.em_trunk.specs.Events.{ChargesUpTo}
+use Rattle.em_trunk.specs.Steps.{HasSteps}
+use Rattle.em_trunk.specs.Room.{MayHold, StopsIn}
+use Rattle.em_trunk.specs.Trunk.{TrunkHasFrames, full_limit, given_by, root_of, sums_in, trunk_blocks, trunk_unstored}
+use Rattle.em_trunk.specs.Works.{SameNumbers, Works, unstored_most}
+use Rattle.em_trunk.specs.declared.trunk.Trunk.{Trunk}
 
 -- the whole tree with an operation more in the root's buffer
 abbrev pub model_with : Record → RigState → Trunk → Tree
@@ -35,6 +37,7 @@ pub record Appended (op : Record) (s m : RigState) (v w : Trunk) : Type 0 where
   pub pays : Pays (trunk_unstored v) (trunk_unstored w) s m
   pub loses : LosesNone (trunk_blocks s v) (trunk_blocks m w) s m
   pub moves : m.moves + 2 * v.buffer.blocks ≤ s.moves + 2 * w.buffer.blocks
+  pub peaks : Peaks 1 s m
   pub count : w.buffer.count ≡ v.buffer.count + 1
   pub more : w.buffer.blocks ≤ v.buffer.blocks + 1
   pub buffer : IsWriter m w.buffer
@@ -82,6 +85,8 @@ pub record StopsPush (op : Record) (s t : RigState) (v w : Trunk) (fault : EmFau
   pub charges : IsTrue s.device.told → (t.moves ≤ s.moves + 2)
       ⊎ ((m : RigState) × (x : Trunk) × Appended op s m v x
       × ChargesUpTo s.pool.shape v.longest 0 (t.moves - m.moves) 0 (sums_in m x))
+  pub room : IsTrue s.device.told → (g : ℕ) → MayHold g 0 s v
+      → ((m : RigState) (x : Trunk) → Appended op s m v x → MayHold g 0 m x) → StopsIn g s t v fault
 
 -- what a push did before it was counted, by its result
 abbrev pub PushesTo : {T : Type 0} → (Record → Record) → (Option Record → Record → Step)

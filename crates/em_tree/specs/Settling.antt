@@ -4,14 +4,14 @@ use Rattle.em_record.specs.declared.record.Record.{Record}
 use Rattle.em_settle.specs.declared.step.Step.{Step}
 use Rattle.em_space.specs.Rig.{RigState}
 use Rattle.em_space.specs.declared.fault.EmFault.{EmFault}
-use Rattle.em_tree.specs.Buffers.{NoneFrom}
-use Rattle.em_tree.specs.Debts.{KeepsOwing, MayOwe, owing_all, owing_to, settling_toll}
-use Rattle.em_tree.specs.Draining.{CanDrain}
-use Rattle.em_tree.specs.Emptying.{CanSettleLevel, EachRead, unstored_most}
-use Rattle.em_tree.specs.Loops.{IsDrained}
-use Rattle.em_tree.specs.Trunk.{full_limit}
-use Rattle.em_tree.specs.Works.{StopsWorking, Works}
-use Rattle.em_tree.specs.declared.trunk.Trunk.{Trunk}
+use Rattle.em_trunk.specs.Buffers.{NoneFrom}
+use Rattle.em_trunk.specs.Debts.{KeepsOwing, MayOwe, owing_all, owing_to, settling_toll}
+use Rattle.em_tree_buffers.specs.Draining.{CanDrain}
+use Rattle.em_tree_buffers.specs.Emptying.{CanSettleLevel}
+use Rattle.em_trunk.specs.Trunk.{full_limit}
+use Rattle.em_trunk.specs.Works.{StopsWorking, Works, unstored_most, IsDrained}
+use Rattle.em_trunk.specs.declared.trunk.Trunk.{Trunk}
+use Rattle.em_trunk.specs.Spots.{EachRead}
 
 -- All buffers were emptied, with a debt: at most what might be owed before.
 pub record SettledAll (key : Record → Record) (step : Option Record → Record → Step)

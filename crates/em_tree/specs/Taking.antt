@@ -12,10 +12,10 @@ use Rattle.em_tree_model.specs.Meaning.{tree_contents}
 use Rattle.em_tree_model.specs.Taking.{HasContents, LeavesTaken}
 use Rattle.em_tree_model.specs.Tree.{stored_in, waiting_in}
 use Rattle.em_tree_cost.specs.Books.{count_drain}
-use Rattle.em_tree_load.specs.Paid.{LosesNone}
+use Rattle.em_tree_walk.specs.Paid.{LosesNone}
 use Rattle.em_tree.specs.Calls.{CountsCall, StopsTrunk}
-use Rattle.em_tree.specs.Trunk.{IsTrunk, given_by, model_of, trunk_blocks, trunk_unstored}
-use Rattle.em_tree.specs.declared.trunk.Trunk.{Trunk}
+use Rattle.em_trunk.specs.Trunk.{IsTrunk, given_by, model_of, trunk_blocks, trunk_unstored}
+use Rattle.em_trunk.specs.declared.trunk.Trunk.{Trunk}
 
 -- Some are left: more than half of an area of records was taken, and another key has a record. That is no
 -- reset.

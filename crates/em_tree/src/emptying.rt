@@ -3,20 +3,18 @@
 
 ghost use Rattle.std.specs.Prelude.{◌≡◌, ◌-◌, ◌<◌, ◌≤◌};
 ghost use Rattle.em_space.specs.Seen.{seen};
-ghost use Rattle.em_tree.specs.Emptying.{CanWork};
+ghost use Rattle.em_trunk.specs.Works.{CanWork};
 ghost use Rattle.em_tree.specs.Levels.{CanEmptyNext, EmptiesNext};
-ghost use Rattle.em_tree.specs.Loops.{CanSettle, SettlesTo};
+ghost use Rattle.em_tree_buffers.specs.Loops.{CanSettle, SettlesTo};
 ghost use Rattle.em_tree.specs.Pushing.{CanPushOp, PushesTo};
 
-use crate::clearing::empty_full;
-use crate::entry::empty_entry;
-use crate::lowering::empty_root;
-use crate::trunk::Trunk;
 use em_frames::Device;
 use em_record::Record;
 use em_settle::Settle;
 use em_space::{EmFault, Rig};
+use em_tree_buffers::{empty_entry, empty_full, empty_root};
 use em_tree_walk::{Finding, Range, search};
+use em_trunk::Trunk;
 
 /// All keys.
 const ALL: Range = Range {

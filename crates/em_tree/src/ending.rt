@@ -2,17 +2,17 @@
 
 ghost use Rattle.std.specs.Prelude.{◌≡◌, IfErr};
 ghost use Rattle.em_space.specs.Seen.{seen};
-ghost use Rattle.em_tree.specs.Debts.{owing_all};
-ghost use Rattle.em_tree.specs.Emptying.{CanWork};
+ghost use Rattle.em_trunk.specs.Debts.{owing_all};
+ghost use Rattle.em_trunk.specs.Works.{CanWork};
 ghost use Rattle.em_tree.specs.Finishing.{CanFinish, FinishesBlocks, FullIfUsed, ReleasesUnused};
 ghost use Rattle.em_tree.specs.Settling.{SettlesAllTo};
 
 use crate::settling::settle_tree;
-use crate::trunk::Trunk;
 use em_frames::Device;
 use em_settle::Settle;
 use em_space::{EmFault, Rig};
 use em_tree_load::release_tree;
+use em_trunk::Trunk;
 
 /// Settles a tree, if anything was pushed, and releases its nodes and leaves.
 pub fn finish_blocks<D: Device, S: Settle>(

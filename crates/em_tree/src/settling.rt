@@ -2,16 +2,16 @@
 
 ghost use Rattle.std.specs.Prelude.{◌≡◌, ◌≤◌};
 ghost use Rattle.em_space.specs.Seen.{seen};
-ghost use Rattle.em_tree.specs.Debts.{owing_all, owing_to};
-ghost use Rattle.em_tree.specs.Emptying.{CanWork};
+ghost use Rattle.em_trunk.specs.Debts.{owing_all, owing_to};
+ghost use Rattle.em_trunk.specs.Works.{CanWork};
 ghost use Rattle.em_tree.specs.Settling.{CanSettleDown, CanSettleTree, SettlesAllTo};
 
 use crate::emptying::empty_level;
-use crate::lowering::empty_root;
-use crate::trunk::Trunk;
 use em_frames::Device;
 use em_settle::Settle;
 use em_space::{EmFault, Rig};
+use em_tree_buffers::empty_root;
+use em_trunk::Trunk;
 
 /// Empties all buffers, with a debt. After a fault the tree may only be abandoned.
 pub fn settle_tree<D: Device, S: Settle>(

@@ -6,7 +6,7 @@
 //!     leaf blocks      each has the words of a chain of stored records, one per key, in order
 //!     answers          a list that is being written: what operations answered when they were settled
 
-ghost use Rattle.std.specs.Prelude.{◌≡◌, ◌↔◌, ◌+◌, ◌<◌, ◌^◌, IsTrue, length};
+ghost use Rattle.std.specs.Prelude.{◌≡◌, ◌↔◌, ◌+◌, ◌<◌, ◌^◌, IsTrue, length, max};
 ghost use Rattle.em_frames.specs.Pool.{load_of};
 ghost use Rattle.em_space.specs.Queue.{CanServe};
 ghost use Rattle.em_space.specs.Rig.{RigState, Sound};
@@ -17,13 +17,13 @@ ghost use Rattle.em_tree_cost.specs.Books.{count_push, count_settle};
 use crate::emptying::push_op;
 use crate::ending::finish_blocks;
 use crate::settling::settle_tree;
-use crate::trunk::Trunk;
-use crate::visiting::{Taken, take_all_first};
 use em_chain::Chain;
 use em_frames::{Area, Device};
 use em_record::Record;
 use em_settle::Settle;
 use em_space::{EmFault, Rig};
+use em_tree_visits::{Taken, take_all_first};
+use em_trunk::Trunk;
 
 /// A tree of operations and stored records. It holds two frames, and can't be dropped: `finish` makes
 /// a chain of its answers, and after a fault only `abandon` may be called.
@@ -34,14 +34,16 @@ pub struct Tree<S: Settle> {
 
 impl<S: Settle> Tree<S> {
     ghost use Rattle.std.specs.Prelude.{Result, Ok, Err, IfOk, IfErr};
-    ghost use Rattle.em_tree.specs.Calls.{CountsCall, FinishCosts, FinishesTrunk, IsLow, IsNewTrunk, LeavesTrunk, PushesOp, SettlesTrunk, StopsNewTrunk};
+    ghost use Rattle.em_tree.specs.Calls.{CountsCall, FinishCosts, FinishesTrunk, IsLow, IsNewTrunk, PushesOp, SettlesTrunk, StopsNewTrunk};
     ghost use Rattle.em_space.specs.Rig.{IfFull};
     ghost use Rattle.em_tree.specs.Finishing.{FullIfUsed};
-    ghost use Rattle.em_tree.specs.Meaning.{IsLater};
+    ghost use Rattle.em_trunk.specs.Meaning.{IsLater};
     ghost use Rattle.em_tree.specs.Pushing.{NeedsMore};
+    ghost use Rattle.em_trunk.specs.Room.{FullOverRoom, WithinRoom};
     ghost use Rattle.em_tree.specs.Taking.{CountsTake, TakesFirstTo};
-    ghost use Rattle.em_tree.specs.Trunk.{IsTrunk, TrunkHasFrames, model_of};
-    ghost use Rattle.em_tree.specs.Works.{FullIfWaits};
+    ghost use Rattle.em_trunk.specs.Trunk.{IsTrunk, TrunkHasFrames, model_of};
+    ghost use Rattle.em_trunk.specs.Works.{FullIfWaits};
+    ghost use Rattle.em_trunk.specs.Lists.{LeavesTrunk};
 
     /// A tree with no record: a root of level 1 over one empty leaf. It holds two frames. At most 4 blocks
     /// are moved. After a fault some blocks may stay in use.
@@ -77,6 +79,12 @@ impl<S: Settle> Tree<S> {
             (seen D.state rig.new) self.old.trunk self.new.trunk result }
         ensures counts { CountsCall (count_push 0) (seen D.state rig.old) (seen D.state rig.new)
             self.old.trunk self.new.trunk }
+        ensures room { IsTrue (seen D.state rig.old).device.told → WithinRoom (max
+            self.old.trunk.longest (self.old.trunk.since + 1))
+            (seen D.state rig.old) (seen D.state rig.new) self.old.trunk }
+        ensures over { IfErr result (λ fault. IsTrue (seen D.state rig.old).device.told → FullOverRoom (max
+            self.old.trunk.longest (self.old.trunk.since + 1))
+            (seen D.state rig.old) self.old.trunk fault) }
     {
         let before = rig.moves();
         self.trunk.count_push(&rig.shape());
@@ -101,6 +109,10 @@ impl<S: Settle> Tree<S> {
         ensures needs { IfErr result (FullIfWaits (seen D.state rig.old) self.old.trunk) }
         ensures counts { CountsCall (count_settle 0) (seen D.state rig.old) (seen D.state rig.new)
             self.old.trunk self.new.trunk }
+        ensures room { IsTrue (seen D.state rig.old).device.told → WithinRoom self.old.trunk.longest
+            (seen D.state rig.old) (seen D.state rig.new) self.old.trunk }
+        ensures over { IfErr result (λ fault. IsTrue (seen D.state rig.old).device.told → FullOverRoom self.old.trunk.longest
+            (seen D.state rig.old) self.old.trunk fault) }
     {
         let before = rig.moves();
         self.trunk.count_settling(&rig.shape());
@@ -136,6 +148,10 @@ impl<S: Settle> Tree<S> {
         ensures needs { IfErr result (FullIfWaits (seen D.state rig.old) self.old.trunk) }
         ensures counts { CountsTake (seen D.state rig.old) (seen D.state rig.new) self.old.trunk
             self.new.trunk result }
+        ensures room { IsTrue (seen D.state rig.old).device.told → WithinRoom self.old.trunk.longest
+            (seen D.state rig.old) (seen D.state rig.new) self.old.trunk }
+        ensures over { IfErr result (λ fault. IsTrue (seen D.state rig.old).device.told → FullOverRoom self.old.trunk.longest
+            (seen D.state rig.old) self.old.trunk fault) }
     {
         let before = rig.moves();
         self.trunk.allow_steps(&rig.shape());
@@ -162,6 +178,10 @@ impl<S: Settle> Tree<S> {
         ensures finishes { FinishesTrunk (S.key_of self.settle) (S.step_of self.settle)
             (seen D.state rig.old) (seen D.state rig.new) self.trunk result }
         ensures costs { FinishCosts (seen D.state rig.old) (seen D.state rig.new) self.trunk }
+        ensures room { IsTrue (seen D.state rig.old).device.told → WithinRoom self.trunk.longest
+            (seen D.state rig.old) (seen D.state rig.new) self.trunk }
+        ensures over { IfErr result (λ fault. IsTrue (seen D.state rig.old).device.told → FullOverRoom self.trunk.longest
+            (seen D.state rig.old) self.trunk fault) }
     {
         let Tree { settle, mut trunk } = self;
         trunk.count_settling(&rig.shape());

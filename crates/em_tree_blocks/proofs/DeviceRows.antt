@@ -45,6 +45,7 @@ five name = record {
   };
   blocks = 5;
   head = 0;
+  spare = [];
   used = 5;
   most = 5;
   moves = 0;

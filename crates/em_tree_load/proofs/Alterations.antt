@@ -1,6 +1,6 @@
 -- A node over a leaf that was loaded, and the block of a new leaf: what is stored.
 use Rattle.std.proofs.Common.{◌≡◌, ◌⊎◌, ℕ, zero, suc, ◌+◌, ◌-◌, ◌*◌, ◌^◌, ◌<◌, ◌≤◌, List, [], ◌∷◌, drop, get_or, length, set, refl, sym, ap, ◌∙◌, subst, arith, IsTrue, None, Result, Ok, Err, IsErrAnd, inl, inr, ⊎_elim, true}
-use Rattle.std.specs.Prelude.{IfErr, OnOk}
+use Rattle.std.specs.Prelude.{IfErr, OnOk, max}
 use Rattle.std.proofs.lemmas.Bool.{cases_lt}
 use Rattle.std.proofs.lemmas.List.{length-set}
 use Rattle.em_record.specs.Count.{next_count}
@@ -36,6 +36,8 @@ use Rattle.em_tree_walk.specs.Inserted.{CanFollow, with_entry_after}
 use Rattle.em_tree_walk.proofs.Insertions.{length_after, linked_after}
 use Rattle.em_tree_load.specs.LeafChanges.{StopsNewLeaf, StoredNewLeaf, StoresEntries, StoresNewLeaf, divided_at, rebuffered_at}
 use Rattle.em_tree_load.specs.Leaves.{StoredLeaf, StopsLeaf}
+use Rattle.em_tree_load.specs.Peaks.{Peaks}
+use Rattle.em_tree_load.proofs.Peaks.{peaks_same}
 
 -- The links of a chain lead to blocks of the device.
 tail_low : (s : RigState) (c : Chain) (n : ℕ) → c.blocks ≡ n → Sound s → IsTrue s.device.told
@@ -217,7 +219,15 @@ one_move m n e = ⊎_elim (λ (l : n < 2 ^ 64 - 1). inr (omega (arith, e, l)))
     (λ (l : 2 ^ 64 - 1 ≤ n). inl l) (cases_lt n (2 ^ 64 - 1))
 
 module _ {s a : RigState} {new : ℕ} (g : Goes [] s a) (given : Allocates s a new)
-    (moves : MovesToAlloc s a) (owes : Owes 1 s a) where
+    (moves : MovesToAlloc s a) (owes : Owes 1 s a) (most : a.most ≡ max s.most a.used) where
+  -- A block more is in use.
+  new_peaks : {t : RigState} → SameBlocks a t → Peaks 1 s t
+  new_peaks same =
+      let taken = given.used in
+      let used = same.used in
+      let after = same.most in
+      record { used = omega (arith, taken, used); most = omega (arith, taken, most, after) }
+
   -- A new block was stored as that of a leaf.
   pub new_stored : {t : RigState} (c : Chain) → StoredLeaf a t new c → StoredNewLeaf s t c new
   new_stored {t} c x =
@@ -253,6 +263,7 @@ module _ {s a : RigState} {new : ℕ} (g : Goes [] s a) (given : Allocates s a n
           chain = x.is (g.touches.told ∙ z) (subst W (sym payload) w);
         };
         moves = omega (arith, first, second);
+        peaks = new_peaks x.moves.same;
       }
 
   -- It couldn't be stored.
@@ -273,6 +284,7 @@ module _ {s a : RigState} {new : ℕ} (g : Goes [] s a) (given : Allocates s a n
         };
         full = full_never a t fault (s.blocks ≡ s.used) x.cause;
         moves = omega (arith, first, second);
+        peaks = new_peaks x.moves.same;
       }
 
 -- All blocks were in use.
@@ -295,6 +307,7 @@ unallotted {s} {a} {fault} g moves owes cause still =
       };
       full = full_before s a fault cause still.used g.touches.blocks;
       moves = omega (arith, first);
+      peaks = peaks_same 1 still;
     }
 
 pub new_of : (s t : RigState) (c : Chain) (result : Result ℕ EmFault) (e : EmFault)

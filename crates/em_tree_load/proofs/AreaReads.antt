@@ -26,8 +26,8 @@ use Rattle.em_chain.proofs.Sessions.{took_then}
 use Rattle.em_chain.proofs.Views.{view_of}
 use Rattle.em_leaf.proofs.Passes.{consumes_none, consumes_one}
 use Rattle.em_tree_load.specs.AreaFills.{FilledArea, PutRead, ReadFirst, ReadsIntoArea, StopsTaken, TakesRead}
-use Rattle.em_tree_load.specs.Paid.{LosesNone}
-use Rattle.em_tree_load.proofs.Losses.{chain_length}
+use Rattle.em_tree_walk.specs.Paid.{LosesNone}
+use Rattle.em_tree_walk.proofs.Losses.{chain_length}
 
 -- One record was read,
 pub read_one : {s t : RigState} {r q : Reader} (x : Record) (o : Option Record) → r.taking ≡ true

@@ -24,12 +24,12 @@ use Rattle.em_tree_walk.specs.Inserted.{CanFollow}
 use Rattle.em_tree_load.specs.LeafChanges.{IsLeafOf, HasExactBlocks, StopsNewLeaf, StoredEntries, StoredNewLeaf, divided_at, rebuffered_at}
 use Rattle.em_tree_load.specs.Leaves.{MovesLeaf, StopsLeaf, StoredLeaf}
 use Rattle.em_tree_load.specs.NodeLoads.{CanChange, ChangedLeaf, ChangesLeaf, StopsChanging}
-use Rattle.em_tree_load.specs.Paid.{RunsPaid, StopsPaid}
+use Rattle.em_tree_walk.specs.Paid.{RunsPaid, StopsPaid}
 use Rattle.em_tree_load.specs.declared.changing.Split.{Split}
-use Rattle.em_tree_load.proofs.Losses.{loses_still}
+use Rattle.em_tree_walk.proofs.Losses.{loses_still}
 use Rattle.em_tree_load.proofs.Payments.{paid_none, paid_part, paid_stops, still_stops, stops_paid_more}
 use Rattle.em_tree_load.proofs.FirstSettles.{tally_refl}
-use Rattle.em_tree_load.proofs.Regions.{SameTally}
+use Rattle.em_tree_walk.proofs.Regions.{SameTally}
 
 -- A block was stored,
 pub block_moved : {s t : RigState} {k : ℕ} → MovesLeaf s t k → InUse t k

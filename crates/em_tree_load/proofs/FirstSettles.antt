@@ -29,10 +29,11 @@ use Rattle.em_leaf.specs.Leaf.{AreLeafChains, CanGrowBy, CanLoad, leaf_most, low
 use Rattle.em_leaf.specs.declared.change.LeafChange.{LeafChange}
 use Rattle.em_tree_load.specs.AreaFills.{FilledArea, StopsAreaFill}
 use Rattle.em_tree_load.specs.LeafSettles.{CanSettleOver, SettledFirst, SettlesOver, StopsSettling, load_count, settling_blocks, settling_moves}
-use Rattle.em_tree_load.specs.Paid.{RunsPaid, StopsPaid}
-use Rattle.em_tree_load.proofs.Losses.{loaded_length, loading_length, loses_runs}
+use Rattle.em_tree_walk.specs.Paid.{RunsPaid, StopsPaid}
+use Rattle.em_tree_walk.proofs.Losses.{loses_runs}
 use Rattle.em_tree_load.proofs.Payments.{paid_none, paid_part, paid_same, paid_stops, stops_paid_more}
-use Rattle.em_tree_load.proofs.Regions.{SameTally, tally_append}
+use Rattle.em_tree_walk.proofs.Regions.{SameTally, tally_append}
+use Rattle.em_tree_load.proofs.LeafLosses.{loaded_length, loading_length}
 
 -- two lists, one after the other
 pub swap_two : (xs ys : List ℕ) → SameTally (xs ++ ys) (ys ++ xs)

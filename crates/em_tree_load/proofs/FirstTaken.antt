@@ -21,21 +21,21 @@ use Rattle.em_tree_blocks.specs.Reading.{entries_at, row_blocks, row_of, tree_at
 use Rattle.em_tree_blocks.proofs.Entries.{entry_put}
 use Rattle.em_tree_blocks.proofs.Frames.{block_same, node_stays, rows_stay}
 use Rattle.em_tree_load.specs.FirstLeaves.{IsLone}
-use Rattle.em_tree_load.specs.Forms.{AreFormed}
+use Rattle.em_tree_walk.specs.Forms.{AreFormed}
 use Rattle.em_tree_load.specs.Removals.{CanRemoveFirst, RemovedFirst, StopsRemoving, TakesFirstOut}
 use Rattle.em_tree_model.specs.Taking.{lowered_first, with_first_child, without_first}
 use Rattle.em_tree_load.specs.RemovalSteps.{CanDropFirst, CanLowerWay, CanReleaseWay, DroppedFirst, IsReleasableWay, LoweredWay, LowersWay, ReleasedWay, StopsInPlace, with_least}
-use Rattle.em_tree_load.specs.SplitPaths.{TakesUpTo}
-use Rattle.em_tree_load.proofs.Children.{ReadsChanged, blocks_after, child_beside, entry_of_place, reads_changed}
+use Rattle.em_tree_walk.specs.SplitPaths.{TakesUpTo}
+use Rattle.em_tree_walk.proofs.Children.{ReadsChanged, blocks_after, child_beside, entry_of_place, reads_changed}
 use Rattle.em_tree_load.proofs.FirstGone.{lone_gone}
 use Rattle.em_tree_load.proofs.GoneNodes.{drop_length, least_length}
 use Rattle.em_tree_load.proofs.GoneWays.{blocks_lone, lone_left, stores_none, waits_none}
 use Rattle.em_tree_load.proofs.InPlace.{ChildStill, child_leads, child_still, node_place, place_beside, place_from, place_then, place_wider}
-use Rattle.em_tree_load.proofs.Kept.{EachOf, EntryStands, NodeStands, each_at, each_drop, each_left, node_entries, node_formed, node_stands, stored_by}
+use Rattle.em_tree_walk.proofs.Kept.{EachOf, EntryStands, NodeStands, each_at, each_drop, each_left, node_entries, node_formed, node_stands, stored_by}
 use Rattle.em_tree_load.proofs.LoweredWays.{blocks_first, changed_blocks}
-use Rattle.em_tree_load.proofs.PathStages.{child_held}
-use Rattle.em_tree_load.proofs.PathSteps.{ChildSplits, buffer_still, changes_same, child_wider}
-use Rattle.em_tree_load.proofs.Takes.{store_takes, takes_as, takes_beside, takes_from, takes_then, takes_wider}
+use Rattle.em_tree_walk.proofs.PathStages.{child_held}
+use Rattle.em_tree_walk.proofs.PathSteps.{ChildSplits, buffer_still, changes_same, child_wider}
+use Rattle.em_tree_walk.proofs.Takes.{store_takes, takes_as, takes_beside, takes_from, takes_then, takes_wider}
 use Rattle.em_tree_walk.specs.Stands.{StandsAt}
 use Rattle.em_tree_walk.specs.Taken.{StopsTaking}
 use Rattle.em_tree_walk.proofs.Standing.{child_of_node}
@@ -356,6 +356,8 @@ first_out {s} {a} {b} {t} {node} {gone} {first} l can x w v =
     (λ y. around_first l can x w (back y)))) (λ z. fork_blocks l can x w v z) in
     let g = both.session.touches in
     let moves = both.moves in
+    let used = both.used in
+    let most = both.most in
     let here : IsTrue t.device.told → IsTrue s.device.told = λ y. sym g.told ∙ y in
     record {
       session = both.session;
@@ -363,6 +365,7 @@ first_out {s} {a} {b} {t} {node} {gone} {first} l can x w v =
       pays = both.pays;
       loses = both.loses;
       moves = omega (arith, moves);
+      peaks = record { used = used; most = most };
       leads = record {
         in_use = record {
           told = λ y. (fork_reads l can x w v (here y)).stands.node.in_use.told y;
@@ -395,11 +398,13 @@ stops_removing : {s t : RigState} {e : EmFault} (l node : ℕ)
 stops_removing l node x =
     let moves = x.moves in
     let used = x.used in
+    let most = x.most in
     let later = x.goes.touches.moves in
     record {
       goes = x.goes;
       pays = pays_kept 0 used later;
       moves = omega (arith, moves);
+      peaks = record { used = omega (arith, used); most = omega (arith, most) };
       cause = x.cause;
     }
 

@@ -25,7 +25,7 @@ use Rattle.em_tree_blocks.proofs.Paths.{tree_on}
 use Rattle.em_tree_load.specs.FirstLeaves.{CanFindFirst, FindsWay, FoundFirst, FoundWay, IsFork, IsForkFrom, IsLastFork, IsLone, IsOnFirstWay, IsOwnFork, LeadsToFork}
 use Rattle.em_tree_load.specs.Leaves.{LeadsToLeaf, ReadLeaf}
 use Rattle.em_tree_load.specs.declared.seeking.FirstWay.{FirstWay}
-use Rattle.em_tree_load.specs.declared.splitting.Root.{Root}
+use Rattle.em_tree_walk.specs.declared.splitting.Root.{Root}
 use Rattle.em_tree_load.proofs.FirstGone.{first_leaf_put, first_path_level, first_place}
 use Rattle.em_tree_walk.specs.Reads.{ReadsOnly, ReadsPassing}
 use Rattle.em_tree_walk.specs.Stands.{IsNodeOf, LeadsToTree, StandsAt}

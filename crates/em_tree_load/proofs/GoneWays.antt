@@ -22,11 +22,11 @@ use Rattle.em_tree_blocks.proofs.Frames.{block_same}
 use Rattle.em_tree_blocks.proofs.Paths.{child_stored}
 use Rattle.em_tree_load.specs.FirstLeaves.{IsLone}
 use Rattle.em_tree_load.specs.RemovalSteps.{CanReleaseWay, IsReleasableWay, ReleasedNode, ReleasedWay, ReleasesWay, StopsInPlace}
-use Rattle.em_tree_load.specs.SplitPaths.{TakesUpTo}
-use Rattle.em_tree_load.proofs.Children.{blocks_after, blocks_around, child_beside, entry_of_place}
+use Rattle.em_tree_walk.specs.SplitPaths.{TakesUpTo}
+use Rattle.em_tree_walk.proofs.Children.{blocks_after, blocks_around, child_beside, entry_of_place}
 use Rattle.em_tree_load.proofs.FirstGone.{nothing_first, nothing_last}
 use Rattle.em_tree_load.proofs.InPlace.{ChildStill, child_leads, child_still, node_place, place_beside, place_from, place_then, place_wider, release_takes}
-use Rattle.em_tree_load.proofs.Takes.{takes_beside, takes_from, takes_then, takes_wider}
+use Rattle.em_tree_walk.proofs.Takes.{takes_beside, takes_from, takes_then, takes_wider}
 use Rattle.em_space.proofs.Lists.{apart_left, apart_right, apart_sym}
 use Rattle.em_tree_walk.specs.Stands.{StandsAt}
 use Rattle.em_tree_walk.specs.Taken.{StopsTaking}
@@ -134,6 +134,7 @@ leaf_released {s} {t} node (Err e) can g d same most m c =
     place_from (tree_blocks 0 s node) (record {
       goes = g;
       used = omega (arith, used);
+      most = omega (arith, most);
       moves = omega (arith, one);
       cause = c;
     }) (λ z. ap (λ (ks : List ℕ). node ∷ ks)

@@ -12,12 +12,12 @@ use Rattle.em_space.proofs.Within.{goes_wider, goes_within}
 use Rattle.em_tree_blocks.specs.Paths.{child_at}
 use Rattle.em_tree_blocks.specs.Reading.{entries_at, tree_at, tree_blocks}
 use Rattle.em_tree_blocks.proofs.Frames.{tree_stays}
-use Rattle.em_tree_load.specs.Forms.{AreFormed}
+use Rattle.em_tree_walk.specs.Forms.{AreFormed}
 use Rattle.em_tree_load.specs.RemovalSteps.{StopsInPlace}
-use Rattle.em_tree_load.specs.SplitPaths.{TakesUpTo}
-use Rattle.em_tree_load.proofs.Children.{child_beside}
-use Rattle.em_tree_load.proofs.Kept.{forms_left, stands_left}
-use Rattle.em_tree_load.proofs.PathStages.{child_held}
+use Rattle.em_tree_walk.specs.SplitPaths.{TakesUpTo}
+use Rattle.em_tree_walk.proofs.Children.{child_beside}
+use Rattle.em_tree_walk.proofs.Kept.{forms_left, stands_left}
+use Rattle.em_tree_walk.proofs.PathStages.{child_held}
 use Rattle.em_tree_walk.specs.Stands.{LeadsToTree, StandsAt}
 use Rattle.em_tree_walk.specs.Taken.{StopsTaking}
 use Rattle.em_tree_walk.proofs.Readings.{cause_then}
@@ -47,6 +47,8 @@ place_then {m} {j} {held} {ks} {s} {t} {u} {e} x y =
     let b = y.used in
     let c = x.moves in
     let d = y.moves in
+    let most = x.most in
+    let last = y.most in
     record {
       goes = goes_within held ks s t u
           (record {
@@ -55,6 +57,7 @@ place_then {m} {j} {held} {ks} {s} {t} {u} {e} x y =
             frames = x.frames;
           }) x.session.within y.goes;
       used = omega (arith, a, b);
+      most = omega (arith, a, most, last);
       moves = omega (arith, c, d);
       cause = cause_then s t u e x.session.touches.faults y.cause;
     }
@@ -66,6 +69,7 @@ place_beside {m} {s} {t} {e} xs ks ys x = record {
   goes = goes_wider (xs ++ (ks ++ ys)) ks s t
       (record { off = λ z j u o. off_left j ks ys (off_right j xs (ks ++ ys) o) }) x.goes;
   used = x.used;
+  most = x.most;
   moves = x.moves;
   cause = x.cause;
 }
@@ -76,6 +80,7 @@ pub place_from : {m : ℕ} {held : List ℕ} {s t : RigState} {e : EmFault} (hs 
 place_from {m} {held} {s} {t} {e} hs x same = record {
   goes = goes_wider hs held s t (record { off = λ z j u o. rw (sym (same z)) o }) x.goes;
   used = x.used;
+  most = x.most;
   moves = x.moves;
   cause = x.cause;
 }
@@ -88,6 +93,7 @@ place_wider {m} {held} {s} {t} {e} n few x =
     record {
       goes = x.goes;
       used = x.used;
+      most = x.most;
       moves = omega (arith, a, few);
       cause = x.cause;
     }
@@ -97,9 +103,11 @@ pub node_place : {s t : RigState} {k : ℕ} {e : EmFault} → StopsTaking s t k 
     → StopsInPlace 2 (k ∷ []) s t e
 node_place x =
     let used = x.stores.same.used in
+    let most = x.stores.same.most in
     record {
       goes = x.stores.goes;
       used = omega (arith, used);
+      most = omega (arith, most);
       moves = x.stores.moves;
       cause = x.cause;
     }

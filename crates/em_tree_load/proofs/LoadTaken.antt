@@ -31,10 +31,11 @@ use Rattle.em_tree_blocks.specs.Paths.{child_at}
 use Rattle.em_tree_blocks.specs.Reading.{leaf_items, stored_chain}
 use Rattle.em_tree_walk.specs.Reads.{ReadsPassing}
 use Rattle.em_tree_walk.specs.Stands.{IsNodeOf}
-use Rattle.em_tree_load.specs.LeafLoads.{CanLoadLeaf, StopsLoading, entry_in, loading_over, taken_of, waiting_over}
+use Rattle.em_tree_load.specs.LeafLoads.{CanLoadLeaf, StopsLoading, entry_in, load_peak, loading_over, taken_of, waiting_over}
 use Rattle.em_tree_load.specs.LeafSettles.{SettledFirst, load_count}
 use Rattle.em_tree_load.specs.LoadRoom.{LacksLoad, Takes, TakesHere, TakesSettling, TakesSplit, first_ops, load_leaf_need, load_leaf_room, needs_over, new_leaves, results_of, results_over, settling_need, split_room}
 use Rattle.em_tree_load.specs.NodeLoads.{ChangesLeaf, LoadedHere, StopsHere}
+use Rattle.em_tree_load.specs.Peaks.{Peaks}
 use Rattle.em_tree_load.specs.declared.changing.Split.{Split}
 use Rattle.em_tree_load.proofs.LoadRooms.{first_same, need_same, settling_from}
 use Rattle.em_tree_load.proofs.NodeFrames.{both_given, both_lent}
@@ -101,7 +102,7 @@ module _ {key : Record → Record} {s r : RigState} {node i : ℕ} {w : Writer} 
   same_waiting : IsTrue s.device.told → chain_items s buffer ≡ waiting_over s node i
   same_waiting z = ap (chain_items s) (buffer_told sound can x one leaf_here buffer_here z)
 
-  same_count : IsTrue s.device.told
+  pub same_count : IsTrue s.device.told
       → load_count s buffer ≡ taken_of s (length (waiting_over s node i))
   same_count z = ap (taken_of s)
       (sym (length_items s buffer (buffer_chain sound can x one leaf_here buffer_here) z)
@@ -227,8 +228,10 @@ ok_never result n = absurd n
 
 -- What stopped a load before a leaf was split stopped it.
 pub here_loading : {s t : RigState} {node i : ℕ} {w : Writer} {e : EmFault}
-    → StopsHere s t node i w e → StopsLoading s t node i w e
-here_loading h = record {
+    → (IsTrue s.device.told → Peaks (load_peak s node i) s t) → StopsHere s t node i w e
+    → StopsLoading s t node i w e
+here_loading peaks h = record {
+  peaks = peaks;
   goes = h.stops.goes;
   pays = pays_more h.stops.pays (omega arith);
   cause = h.stops.cause;
@@ -255,7 +258,7 @@ module _ (key : Record → Record) (step : Option Record → Record → Step) {s
 module _ {key : Record → Record} {step : Option Record → Record → Step} {s t : RigState}
     {node i : ℕ} {w v : Writer} {x : Split} (h : LoadedHere key step s t node i w v (Some x))
     (took : TakesSplit key step s t node i w) (z : IsTrue s.device.told) where
-  reached_few : (let n = length (waiting_over s node i) in
+  pub reached_few : (let n = length (waiting_over s node i) in
       reached t node x.rest + 2 ≤ split_room s (n - taken_of s n))
   reached_few =
       let few = reached_most t node x.rest t.device.told refl (over_here h) in

@@ -21,15 +21,15 @@ use Rattle.em_tree_blocks.specs.Paths.{child_at}
 use Rattle.em_tree_blocks.specs.Reading.{entries_at, row_blocks, tree_at, tree_blocks}
 use Rattle.em_tree_blocks.proofs.Entries.{entry_put}
 use Rattle.em_tree_blocks.proofs.Frames.{block_same, node_stays}
-use Rattle.em_tree_load.specs.Forms.{AreFormed}
+use Rattle.em_tree_walk.specs.Forms.{AreFormed}
 use Rattle.em_tree_model.specs.Taking.{lowered_first}
 use Rattle.em_tree_load.specs.RemovalSteps.{CanLowerWay, LoweredNode, LoweredWay, LowersWay, StopsInPlace, with_least}
-use Rattle.em_tree_load.specs.SplitPaths.{TakesUpTo}
-use Rattle.em_tree_load.proofs.Children.{ChildChanges, ReadsChanged, blocks_after, blocks_around, child_beside, entry_of_place, reads_changed}
+use Rattle.em_tree_walk.specs.SplitPaths.{TakesUpTo}
+use Rattle.em_tree_walk.proofs.Children.{ChildChanges, ReadsChanged, blocks_after, blocks_around, child_beside, entry_of_place, reads_changed}
 use Rattle.em_tree_load.proofs.GoneNodes.{least_entry}
 use Rattle.em_tree_load.proofs.InPlace.{ChildStill, child_leads, child_still, node_place, place_beside, place_from, place_then, place_wider}
-use Rattle.em_tree_load.proofs.Kept.{EntryStands, each_at, form_left, node_entries, node_formed, node_stands}
-use Rattle.em_tree_load.proofs.Takes.{store_takes, takes_as, takes_beside, takes_from, takes_then, takes_wider}
+use Rattle.em_tree_walk.proofs.Kept.{EntryStands, each_at, form_left, node_entries, node_formed, node_stands}
+use Rattle.em_tree_walk.proofs.Takes.{store_takes, takes_as, takes_beside, takes_from, takes_then, takes_wider}
 use Rattle.em_tree_walk.specs.Stands.{StandsAt}
 use Rattle.em_tree_walk.specs.Taken.{StopsTaking}
 

@@ -19,9 +19,9 @@ use Rattle.em_settle.specs.declared.step.Step.{Step}
 use Rattle.em_tree_blocks.specs.Reading.{tree_blocks}
 use Rattle.em_tree_load.specs.LeafLoads.{CanLoadLeaf, loading_over}
 use Rattle.em_tree_load.specs.NodeLoads.{IsLeft, LoadsHereTo, LoadsUpTo, here_moves, left_blocks}
-use Rattle.em_tree_load.specs.Paid.{RunsPaid}
+use Rattle.em_tree_walk.specs.Paid.{RunsPaid}
 use Rattle.em_tree_load.specs.declared.changing.Split.{Split}
-use Rattle.em_tree_load.proofs.Kept.{forms_left, stands_left}
+use Rattle.em_tree_walk.proofs.Kept.{forms_left, stands_left}
 
 -- the state with both lent, and with both given back
 abbrev pub both_lent : RigState → RigState

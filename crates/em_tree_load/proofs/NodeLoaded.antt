@@ -27,12 +27,12 @@ use Rattle.em_tree_load.specs.LeafChanges.{IsLeafOf, HasExactBlocks, rebuffered_
 use Rattle.em_tree_load.specs.LeafLoads.{CanLoadLeaf, IsLoadable, entry_in, loading_over, taken_of, waiting_over}
 use Rattle.em_tree_load.specs.LeafSettles.{AreApart, SettledFirst, load_count, settling_blocks}
 use Rattle.em_tree_load.specs.NodeLoads.{CanChange, ChangedLeaf, KeepsLeaf, LoadedHere}
-use Rattle.em_tree_load.specs.Paid.{RunsPaid}
-use Rattle.em_tree_load.proofs.Children.{entries_around, row_blocks_append}
-use Rattle.em_tree_load.proofs.Kept.{EntryStands, NodeStands, each_at, node_entries, node_formed, node_stands}
+use Rattle.em_tree_walk.specs.Paid.{RunsPaid}
+use Rattle.em_tree_walk.proofs.Children.{entries_around, row_blocks_append}
+use Rattle.em_tree_walk.proofs.Kept.{EntryStands, NodeStands, each_at, node_entries, node_formed, node_stands}
 use Rattle.em_tree_load.proofs.LeafRanges.{child_in_range, split_follows}
 use Rattle.em_tree_load.proofs.Payments.{paid_none, paid_part, paid_same}
-use Rattle.em_tree_load.proofs.Regions.{SameTally, distinct_same, held_first, held_second, holds_same, tally, tally_append}
+use Rattle.em_tree_walk.proofs.Regions.{SameTally, distinct_same, held_first, held_second, holds_same, tally, tally_append}
 use Rattle.std.proofs.lemmas.List.{append-nil}
 use Rattle.std.proofs.lemmas.List.Sorted.{length_permutation}
 use Rattle.em_record.specs.Shape.{ShapeNumbers}

@@ -24,9 +24,9 @@ use Rattle.em_tree_load.specs.LeafChanges.{IsLeafOf, divided_at}
 use Rattle.em_tree_load.specs.LeafLoads.{CanLoadLeaf, entry_in, loading_over}
 use Rattle.em_tree_load.specs.LeafSettles.{SettledFirst}
 use Rattle.em_tree_load.specs.NodeLoads.{ChangedLeaf, DividesLeaf, LoadedHere, PartsLeaf}
-use Rattle.em_tree_load.proofs.Kept.{NodeStands, node_formed, node_stands}
+use Rattle.em_tree_walk.proofs.Kept.{NodeStands, node_formed, node_stands}
 use Rattle.em_tree_load.proofs.Payments.{paid_same}
-use Rattle.em_tree_load.proofs.Regions.{SameTally, tally_append}
+use Rattle.em_tree_walk.proofs.Regions.{SameTally, tally_append}
 use Rattle.std.proofs.lemmas.List.Sorted.{length_permutation}
 use Rattle.em_record.proofs.Order.{order_ascends}
 use Rattle.em_chain.specs.Counts.{ceiling}

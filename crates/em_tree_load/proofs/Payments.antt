@@ -9,9 +9,9 @@ use Rattle.em_space.proofs.Paying.{pays_kept, pays_more, pays_then}
 use Rattle.em_space.proofs.Sessions.{session_none, session_still, session_trans}
 use Rattle.em_space.proofs.Steps.{cause_after, same_frames, same_frames_then}
 use Rattle.em_space.proofs.Within.{goes_wider, goes_within, within_none}
-use Rattle.em_tree_load.specs.Paid.{RunsPaid, StopsPaid}
-use Rattle.em_tree_load.proofs.Losses.{loses_beside, loses_same, loses_still, loses_then, loses_whole}
-use Rattle.em_tree_load.proofs.Regions.{SameTally, goes_same, off_same, session_from, session_part, session_same}
+use Rattle.em_tree_walk.specs.Paid.{RunsPaid, StopsPaid}
+use Rattle.em_tree_walk.proofs.Losses.{loses_beside, loses_same, loses_still, loses_then, loses_whole}
+use Rattle.em_tree_walk.proofs.Regions.{SameTally, goes_same, off_same, session_from, session_part, session_same}
 
 -- nothing was done
 pub paid_none : (s : RigState) (ks : List ℕ) (n : ℕ) → Sound s → (IsTrue s.device.told → Holds s ks)

@@ -24,24 +24,26 @@ use Rattle.em_tree_model.specs.Tree.{Tree}
 use Rattle.em_tree_blocks.specs.Reading.{entries_at, tree_at}
 use Rattle.em_empty.specs.Effects.{EmptiedAt, EmptyingCosts, reached}
 use Rattle.em_empty.specs.Node.{CanEmpty, IsOver, given_blocks, node_blocks}
-use Rattle.em_tree_load.specs.LeafLoads.{LoadedLeaf, LoadsLeafAt, LoadsTwo, StopsLoading, load_leaf_moves, loading_over, taken_of, waiting_over}
+use Rattle.em_tree_load.specs.LeafLoads.{LoadedLeaf, LoadsLeafAt, LoadsTwo, StopsLoading, load_leaf_moves, load_peak, loading_over, taken_of, waiting_over}
 use Rattle.em_tree_load.specs.NodeLoads.{LoadedHere}
-use Rattle.em_tree_load.specs.Paid.{RunsPaid, StopsPaid}
+use Rattle.em_tree_load.specs.Peaks.{Peaks}
+use Rattle.em_tree_walk.specs.Paid.{RunsPaid, StopsPaid}
 use Rattle.em_tree_load.specs.declared.changing.Split.{Split}
 use Rattle.em_tree_load.proofs.AreaReads.{tight_most}
-use Rattle.em_tree_load.proofs.Losses.{frees_length, loses_same}
-use Rattle.em_tree_load.proofs.Kept.{NodeStands, node_entries, node_formed, node_stands}
+use Rattle.em_tree_walk.proofs.Losses.{frees_length, loses_same}
+use Rattle.em_tree_walk.proofs.Kept.{NodeStands, node_entries, node_formed, node_stands}
 use Rattle.em_tree_load.proofs.Payments.{paid_part, paid_same, paid_stops}
 use Rattle.em_tree_load.proofs.PouredNodes.{PoursNode, beside_pour, over_leaves, node_poured, pour_apart, poured_last, pouring_first, reached_most}
-use Rattle.em_tree_load.proofs.Regions.{SameTally, session_same}
+use Rattle.em_tree_walk.proofs.Regions.{SameTally, session_same}
 use Rattle.em_space.proofs.Lists.{apart_right}
 use Rattle.em_tree_load.proofs.PouredNodes.{leaves_blocks}
 
 -- No leaf was split.
 pub loaded_whole : {key : Record → Record} {step : Option Record → Record → Step} {s t : RigState}
-    {node i : ℕ} {w v : Writer} → LoadedHere key step s t node i w v None
-    → LoadedLeaf key step s t node i w v None
-loaded_whole x = record {
+    {node i : ℕ} {w v : Writer} → (IsTrue s.device.told → Peaks (load_peak s node i) s t)
+    → LoadedHere key step s t node i w v None → LoadedLeaf key step s t node i w v None
+loaded_whole peaks x = record {
+  peaks = peaks;
   given = x.given;
   session = x.runs.session;
   frames = x.runs.frames;
@@ -149,8 +151,9 @@ module _ {key : Record → Record} {step : Option Record → Record → Step} {s
       omega (arith, a, b, e, g, k)
 
   -- Nothing is left to pour.
-  pub loaded_cut : x.rest.count ≡ 0 → LoadedLeaf key step s t node i w v (Some x.low)
-  loaded_cut none =
+  pub loaded_cut : (IsTrue s.device.told → Peaks (load_peak s node i) s t) → x.rest.count ≡ 0
+      → LoadedLeaf key step s t node i w v (Some x.low)
+  loaded_cut peaks none =
       let whole = loading_over t node v in
       let alone : IsTrue s.device.told → SameTally (chain_blocks t x.rest ++ whole) whole =
       λ z.
@@ -160,6 +163,7 @@ module _ {key : Record → Record} {step : Option Record → Record → Step} {s
       let P : List ℕ → Type 0 = λ ks. SameTally (ks ++ whole) whole in
       subst P (sym e) (λ j. refl) in
       record {
+        peaks = peaks;
         given = h.given;
         session = session_same whole h.runs.session alone;
         frames = h.runs.frames;
@@ -245,11 +249,13 @@ module _ {key : Record → Record} {step : Option Record → Record → Step} {s
         }
 
     -- The rest was poured.
-    pub loaded_poured : LoadedLeaf key step s u node i w v (Some x.low)
-    loaded_poured =
+    pub loaded_poured : (IsTrue s.device.told → Peaks (load_peak s node i) s u)
+        → LoadedLeaf key step s u node i w v (Some x.low)
+    loaded_poured peaks =
         let W : List Record → Type 0 = Wrote s u w v in
         let r = poured_runs in
         record {
+          peaks = peaks;
           given = h.given;
           session = r.session;
           frames = r.frames;
@@ -275,9 +281,10 @@ module _ {key : Record → Record} {step : Option Record → Record → Step} {s
         }
 
   -- The pour gave up.
-  pub pouring_stops : {u : RigState} {fault : EmFault} → Goes (given_blocks t node x.rest) t u
+  pub pouring_stops : {u : RigState} {fault : EmFault}
+      → (IsTrue s.device.told → Peaks (load_peak s node i) s u) → Goes (given_blocks t node x.rest) t u
       → EmptyingCosts t u node x.rest → Cause t u fault → StopsLoading s u node i w fault
-  pouring_stops {u} {fault} goes costs cause =
+  pouring_stops {u} {fault} peaks goes costs cause =
       let n = min v.blocks 1 in
       let f = 2 * fan_of t.pool.shape in
       let few = reached_most t node x.rest t.device.told refl over_here in
@@ -294,6 +301,7 @@ module _ {key : Record → Record} {step : Option Record → Record → Step} {s
         pays = pays_more r.pays (omega (arith, here));
         cause = r.cause;
         moves = pour_moves u h.runs.session.sound costs;
+        peaks = peaks;
       }
 
 -- what that is of the result that is handed on

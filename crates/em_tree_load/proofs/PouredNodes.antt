@@ -20,8 +20,8 @@ use Rattle.em_empty.specs.Effects.{EmptiedAt, reached}
 use Rattle.em_empty.specs.Node.{AreBuffers, IsOver, KeepForms, SameLinks, buffer_blocks, given_blocks, node_blocks}
 use Rattle.em_empty.proofs.Emptied.{links_len}
 use Rattle.em_tree_load.specs.LeafLoads.{loading_over}
-use Rattle.em_tree_load.proofs.Kept.{EachOf, EntryStands, NodeStands}
-use Rattle.em_tree_load.proofs.Regions.{SameTally, distinct_same, held_first, holds_same, tally, tally_append}
+use Rattle.em_tree_walk.proofs.Kept.{EachOf, EntryStands, NodeStands}
+use Rattle.em_tree_walk.proofs.Regions.{SameTally, distinct_same, held_first, holds_same, tally, tally_append}
 
 -- the blocks of the leaves of these entries
 abbrev pub leaves_blocks : RigState → List Entry → List ℕ

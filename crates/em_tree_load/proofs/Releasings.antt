@@ -29,7 +29,7 @@ use Rattle.em_tree_blocks.specs.Reading.{AreStored, IsTreeAt, entries_at, row_bl
 use Rattle.em_tree_blocks.proofs.Frames.{block_same, rows_stay, tree_stays}
 use Rattle.em_tree_load.specs.Leaves.{LeadsToLeaf, ReadLeaf}
 use Rattle.em_tree_load.specs.Releases.{CanRelease, FreesUpTo, HoldNone, IsUnbuffered, LeafLeft, ReleasedTree, ReleasesTree, Releasing, RowLeft, StopsReleasing}
-use Rattle.em_tree_load.proofs.Kept.{stands_left}
+use Rattle.em_tree_walk.proofs.Kept.{stands_left}
 use Rattle.em_tree_walk.specs.Reads.{ReadsPassing, StopsReading}
 use Rattle.em_tree_walk.specs.Stands.{EachChild, HasRows, IsNodeOf}
 use Rattle.em_tree_walk.proofs.Readings.{cause_framed, cause_then}

@@ -11,8 +11,8 @@ use Rattle.em_tree_blocks.specs.Reading.{IsNodeAt, entries_at, row_blocks, row_o
 use Rattle.em_tree_blocks.proofs.Entries.{node_changed}
 use Rattle.em_tree_blocks.proofs.Frames.{rows_stay}
 use Rattle.em_tree_walk.specs.Inserted.{with_entry_after}
-use Rattle.em_tree_load.proofs.Children.{row_blocks_append}
-use Rattle.em_tree_load.proofs.Kept.{EachOf, EntryStands, NodeStands, each_append, each_drop, each_left, each_take, node_stands, stored_by}
+use Rattle.em_tree_walk.proofs.Children.{row_blocks_append}
+use Rattle.em_tree_walk.proofs.Kept.{EachOf, EntryStands, NodeStands, each_append, each_drop, each_left, each_take, node_stands, stored_by}
 
 -- one entry in the place of another
 pub set_around : (i : ℕ) (es : List Entry) (f : Entry) → i < length es

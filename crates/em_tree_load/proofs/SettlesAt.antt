@@ -33,10 +33,10 @@ use Rattle.em_leaf.proofs.Loading.{load_few}
 use Rattle.em_tree_blocks.specs.Reading.{stored_chain}
 use Rattle.em_tree_walk.specs.Reads.{ReadsFailing, ReadsOnly}
 use Rattle.em_tree_load.specs.LeafSettles.{AreApart, CanSettleAt, CanSettleOver, SettledFirst, SettlesOver, StopsSettling, load_count, settling_blocks}
-use Rattle.em_tree_load.specs.Paid.{RunsPaid}
+use Rattle.em_tree_walk.specs.Paid.{RunsPaid}
 use Rattle.em_tree_load.proofs.FirstSettles.{settles_again, tally_refl}
 use Rattle.em_tree_load.proofs.Payments.{paid_still, paid_then, paid_then_stops, still_stops}
-use Rattle.em_tree_load.proofs.Regions.{SameTally}
+use Rattle.em_tree_walk.proofs.Regions.{SameTally}
 
 -- A list has at most as many records as its blocks have places.
 items_few : (p link : ℕ) (ks : List ℕ) (cs : List (List Record)) → IsRun p link ks cs

@@ -28,8 +28,9 @@ use Rattle.em_tree_blocks.specs.Reading.{stored_chain, tree_blocks}
 use Rattle.em_tree_load.specs.AreaFills.{FilledFrom, StopsFillFrom}
 use Rattle.em_tree_load.specs.LeafTakes.{CanTakeLeaf, StopsTakingLeaf, TakesLeaf, TookLeaf, taken_count}
 use Rattle.em_tree_load.specs.Leaves.{StopsLeaf, StoredLeaf}
+use Rattle.em_tree_load.specs.Peaks.{Peaks}
 use Rattle.em_tree_load.proofs.AreaReads.{skip_below}
-use Rattle.em_tree_load.proofs.Losses.{chain_length}
+use Rattle.em_tree_walk.proofs.Losses.{chain_length}
 use Rattle.em_tree_walk.proofs.Readings.{cause_then}
 
 -- How many are taken: no more than there are, and than may be,
@@ -149,10 +150,10 @@ leaf_in_use {s} {u} {leaf} {stored} can f =
 
 -- and then the leaf's block was stored,
 pub took_leaf : {s u t : RigState} {leaf : ℕ} {stored rest : Chain} {old new : List Record}
-    {from most n : ℕ} → Sound s → CanTakeLeaf s leaf stored
+    {from most n : ℕ} → Peaks 0 s t → Sound s → CanTakeLeaf s leaf stored
     → n ≡ taken_count (payload_in s) most stored.count → FilledFrom s u stored old new from n rest
     → StoredLeaf u t leaf rest → TookLeaf s t leaf stored old new from most n
-took_leaf {s} {u} {t} {leaf} {stored} {rest} {old} {new} {from} {most} {n} sound can count f x =
+took_leaf {s} {u} {t} {leaf} {stored} {rest} {old} {new} {from} {most} {n} peaks sound can count f x =
     let g = x.moves.goes in
     let h = f.filled.runs.session.touches in
     let low = sound.shape.block_low in
@@ -197,6 +198,7 @@ took_leaf {s} {u} {t} {leaf} {stored} {rest} {old} {new} {from} {most} {n} sound
           omega (arith, a, b, d, e, used, spent);
       kept = f.kept;
       moves = omega (arith, moves, before);
+      peaks = peaks;
       told = λ z.
           let o = can.told z in
           let S : Chain → Type 0 = IsChain t in
@@ -223,10 +225,10 @@ took_leaf {s} {u} {t} {leaf} {stored} {rest} {old} {new} {from} {most} {n} sound
 
 -- or couldn't be.
 pub unstored_leaf : {s u t : RigState} {leaf : ℕ} {stored rest : Chain} {old new : List Record}
-    {from n : ℕ} {fault : EmFault} → Sound s → CanTakeLeaf s leaf stored
+    {from n : ℕ} {fault : EmFault} → Peaks 0 s t → Sound s → CanTakeLeaf s leaf stored
     → FilledFrom s u stored old new from n rest → StopsLeaf u t leaf fault
     → StopsTakingLeaf s t leaf stored fault
-unstored_leaf {s} {u} {t} {leaf} {stored} {rest} {fault = fault} sound can f x =
+unstored_leaf {s} {u} {t} {leaf} {stored} {rest} {fault = fault} peaks sound can f x =
     let g = x.moves.goes in
     let first = filled_session sound can f in
     let ks = chain_blocks u rest in
@@ -245,14 +247,15 @@ unstored_leaf {s} {u} {t} {leaf} {stored} {rest} {fault = fault} sound can f x =
           (goes_wider (leaf ∷ ks) (leaf ∷ []) u t (within_left u (leaf ∷ []) ks) g);
       pays = pays_then f.filled.runs.pays last later;
       moves = omega (arith, moves, before);
+      peaks = peaks;
       cause = cause_then s u t fault first.touches.faults x.cause;
     }
 
 -- The records couldn't be read.
 pub unread_leaf : {s t : RigState} {leaf : ℕ} {stored : Chain} {fault : EmFault}
-    → CanTakeLeaf s leaf stored → StopsFillFrom s t stored fault
+    → Peaks 0 s t → CanTakeLeaf s leaf stored → StopsFillFrom s t stored fault
     → StopsTakingLeaf s t leaf stored fault
-unread_leaf {s} {t} {leaf} {stored} can x =
+unread_leaf {s} {t} {leaf} {stored} peaks can x =
     let held = tree_blocks 0 s leaf in
     let moves = x.fill.moves in
     record {
@@ -264,6 +267,7 @@ unread_leaf {s} {t} {leaf} {stored} can x =
           }) x.fill.stops.goes;
       pays = x.fill.stops.pays;
       moves = omega (arith, moves);
+      peaks = peaks;
       cause = x.cause;
     }
 

@@ -10,7 +10,7 @@ use Rattle.em_chain.specs.Reader.{rest_of}
 use Rattle.em_chain.specs.Session.{Took, taking_account}
 use Rattle.em_chain.specs.declared.chain.Chain.{Chain}
 use Rattle.em_chain.specs.declared.reader.Reader.{Reader}
-use Rattle.em_tree_load.specs.Paid.{RunsPaid, StopsPaid}
+use Rattle.em_tree_walk.specs.Paid.{RunsPaid, StopsPaid}
 
 -- These records were read by a reader that takes its chain.
 pub record TakesRead (s t : RigState) (r q : Reader) (xs : List Record) : Type 0 where

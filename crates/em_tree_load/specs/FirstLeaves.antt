@@ -8,7 +8,7 @@ use Rattle.em_tree_blocks.specs.Paths.{IsPath, child_at, first_path, node_on}
 use Rattle.em_tree_blocks.specs.Reading.{entries_at, stored_chain, tree_at}
 use Rattle.em_tree_walk.specs.Reads.{ReadsOnly, StopsReading}
 use Rattle.em_tree_walk.specs.Stands.{LeadsToTree}
-use Rattle.em_tree_load.specs.declared.splitting.Root.{Root}
+use Rattle.em_tree_walk.specs.declared.splitting.Root.{Root}
 use Rattle.em_tree_load.specs.declared.seeking.FirstLeaf.{FirstLeaf}
 use Rattle.em_tree_load.specs.declared.seeking.FirstWay.{FirstWay}
 

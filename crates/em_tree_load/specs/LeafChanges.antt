@@ -17,7 +17,8 @@ use Rattle.em_balance.specs.Node.{entry_to}
 use Rattle.em_empty.specs.Node.{with_buffer}
 use Rattle.em_tree_walk.specs.Inserted.{with_entry_after}
 use Rattle.em_tree_load.specs.Leaves.{MovesLeaf, StopsLeaf}
-use Rattle.em_tree_load.specs.Paid.{RunsPaid, StopsPaid}
+use Rattle.em_tree_load.specs.Peaks.{Peaks}
+use Rattle.em_tree_walk.specs.Paid.{RunsPaid, StopsPaid}
 
 -- these entries with another buffer at a place
 abbrev pub rebuffered_at : ℕ → Chain → List Entry → List Entry
@@ -57,12 +58,14 @@ pub record StoredNewLeaf (s t : RigState) (c : Chain) (new : ℕ) : Type 0 where
   pub used : t.used ≡ s.used + 1
   pub is : IsTrue s.device.told → HasExactBlocks s c → IsLeafOf t new c
   pub moves : t.moves ≤ s.moves + 2
+  pub peaks : Peaks 1 s t
 
 -- None could be taken or stored.
 pub record StopsNewLeaf (s t : RigState) (fault : EmFault) : Type 0 where
   pub stops : StopsPaid [] 0 1 s t fault
   pub full : IfFull fault (λ _. s.blocks ≡ s.used)
   pub moves : t.moves ≤ s.moves + 2
+  pub peaks : Peaks 1 s t
 
 -- what that did, by its result
 abbrev pub StoresNewLeaf : RigState → RigState → Chain → Result ℕ EmFault → Type 0

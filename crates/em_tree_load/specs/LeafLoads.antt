@@ -21,6 +21,7 @@ use Rattle.em_settle.specs.Keys.{record_at}
 use Rattle.em_settle.specs.Lists.{list_with_ops}
 use Rattle.em_settle.specs.States.{answers_to}
 use Rattle.em_settle.specs.declared.step.Step.{Step}
+use Rattle.em_leaf.specs.Effects.{loading_room}
 use Rattle.em_leaf.specs.Leaf.{leaf_most}
 use Rattle.em_tree_model.specs.Places.{put_at}
 use Rattle.em_tree_model.specs.Ranges.{IsTree}
@@ -29,8 +30,9 @@ use Rattle.em_tree_blocks.specs.Effects.{LoadsSplit, entry_place, row_from}
 use Rattle.em_tree_blocks.specs.Node.{buffer_of, linked_block}
 use Rattle.em_tree_blocks.specs.Reading.{entries_at, leaf_items, stored_chain, tree_at, tree_blocks}
 use Rattle.em_tree_walk.specs.Stands.{StandsAt}
-use Rattle.em_tree_load.specs.Forms.{AreFormed}
-use Rattle.em_tree_load.specs.Paid.{LosesNone}
+use Rattle.em_tree_walk.specs.Forms.{AreFormed}
+use Rattle.em_tree_walk.specs.Paid.{LosesNone}
+use Rattle.em_tree_load.specs.Peaks.{Peaks}
 use Rattle.em_tree_walk.specs.Lows.{LowsKeep}
 
 -- the entry at a place of the node in a block
@@ -130,6 +132,11 @@ loaded_moves s node i None =
     leaf_load_moves s (leaf_size s node i) (taken_of s (length (waiting_over s node i)))
 loaded_moves s node i (Some low) = load_leaf_moves s node i
 
+-- the most blocks more that are in use at a moment of a load: those of settling, and of a leaf that is split
+abbrev pub load_peak : RigState → ℕ → ℕ → ℕ
+load_peak s node i = let n = length (waiting_over s node i) in
+    loading_room s (taken_of s n) + (min (n - taken_of s n) (2 * fan_of s.pool.shape) + 2)
+
 -- What a load leaves over a device that tells: it settled the first operations of the buffer, as many
 -- as it may take, over the leaf, and these answered.
 pub record SettlesLoad (key : Record → Record) (step : Option Record → Record → Step) (s t : RigState)
@@ -156,6 +163,7 @@ pub record LoadedLeaf (key : Record → Record) (step : Option Record → Record
   pub loses : LosesNone (loading_over s node w) (loading_over t node v) s t
   pub wrote : Wrote s t w v given
   pub told : IsTrue s.device.told → SettlesLoad key step s t node i new given
+  pub peaks : IsTrue s.device.told → Peaks (load_peak s node i) s t
 
 -- It wasn't. Of the blocks that were taken at most 2f + 2 weren't stored.
 pub record StopsLoading (s t : RigState) (node i : ℕ) (w : Writer) (fault : EmFault) : Type 0 where
@@ -163,6 +171,7 @@ pub record StopsLoading (s t : RigState) (node i : ℕ) (w : Writer) (fault : Em
   pub pays : Pays (min w.blocks 1) (2 * fan_of s.pool.shape + 2) s t
   pub cause : Cause s t fault
   pub moves : IsTrue s.device.told → t.moves ≤ s.moves + load_leaf_moves s node i
+  pub peaks : IsTrue s.device.told → Peaks (load_peak s node i) s t
 
 -- what a load did, by its result
 abbrev pub LoadsLeafAt : (Record → Record) → (Option Record → Record → Step) → RigState → RigState → ℕ

@@ -21,7 +21,7 @@ use Rattle.em_leaf.specs.Leaf.{AreLeafChains, IsLeafChain}
 use Rattle.em_leaf.specs.declared.change.LeafChange.{LeafChange}
 use Rattle.em_tree_blocks.specs.Reading.{stored_chain}
 use Rattle.em_tree_load.specs.Leaves.{LeadsToLeaf}
-use Rattle.em_tree_load.specs.Paid.{RunsPaid, StopsPaid}
+use Rattle.em_tree_walk.specs.Paid.{RunsPaid, StopsPaid}
 
 -- the blocks of a buffer, of the writer of answers, and of a leaf's chain
 abbrev pub settling_blocks : RigState → Chain → Chain → Writer → List ℕ

@@ -12,7 +12,8 @@ use Rattle.em_chain.specs.Counts.{ceiling}
 use Rattle.em_chain.specs.declared.chain.Chain.{Chain}
 use Rattle.em_leaf.specs.Leaf.{IsLeafChain}
 use Rattle.em_tree_blocks.specs.Reading.{IsLeafAt, stored_chain, tree_blocks}
-use Rattle.em_tree_load.specs.Paid.{LosesNone}
+use Rattle.em_tree_load.specs.Peaks.{Peaks}
+use Rattle.em_tree_walk.specs.Paid.{LosesNone}
 
 -- how many of n records are taken if at most this many may be: all; if that is too many, as many as
 -- fill whole blocks of this payload
@@ -52,6 +53,7 @@ pub record TookLeaf (s t : RigState) (leaf : ℕ) (stored : Chain) (old new : Li
   pub loses : LosesNone (tree_blocks 0 s leaf) (tree_blocks 0 t leaf) s t
   pub kept : take from new ≡ take from old
   pub moves : t.moves ≤ s.moves + 2 * stored.blocks + 1
+  pub peaks : Peaks 0 s t
   pub told : IsTrue s.device.told → TakesRecords s t leaf new from n
 
 -- They couldn't be. No block was needed, so it was never full.
@@ -60,6 +62,7 @@ pub record StopsTakingLeaf (s t : RigState) (leaf : ℕ) (stored : Chain) (fault
   pub goes : Goes (tree_blocks 0 s leaf) s t
   pub pays : Pays 0 0 s t
   pub moves : t.moves ≤ s.moves + 2 * stored.blocks + 1
+  pub peaks : Peaks 0 s t
   pub cause : BlockCause s t fault
 
 -- what taking did, by its result: the number of records

@@ -1,14 +1,10 @@
 pub mod AreaFills
-pub mod Forms
 pub mod Leaves
 pub mod LeafChanges
 pub mod LeafLoads
 pub mod LeafSettles
 pub mod LoadRoom
-pub mod Paid
-pub mod PathSplit
-pub mod Turns
-pub mod SplitPaths
+pub mod Peaks
 pub mod Releases
 pub mod NodeLoads
 pub mod FirstLeaves

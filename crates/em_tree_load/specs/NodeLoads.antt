@@ -24,10 +24,10 @@ use Rattle.em_tree_blocks.specs.Effects.{entry_place, row_from}
 use Rattle.em_tree_blocks.specs.Reading.{IsNodeAt, entries_at, leaf_items, tree_at}
 use Rattle.em_tree_walk.specs.Inserted.{CanFollow}
 use Rattle.em_tree_walk.specs.Stands.{StandsAt}
-use Rattle.em_tree_load.specs.Forms.{AreFormed}
+use Rattle.em_tree_walk.specs.Forms.{AreFormed}
 use Rattle.em_tree_load.specs.LeafChanges.{IsLeafOf, HasExactBlocks, divided_at, rebuffered_at}
 use Rattle.em_tree_load.specs.LeafLoads.{LoadsOne, entry_in, leaf_load_moves, leaf_size, load_leaf_moves, loading_over, taken_of, waiting_over}
-use Rattle.em_tree_load.specs.Paid.{RunsPaid, StopsPaid}
+use Rattle.em_tree_walk.specs.Paid.{RunsPaid, StopsPaid}
 use Rattle.em_tree_load.specs.declared.changing.Split.{Split}
 
 -- the blocks of what a split left of the buffer,

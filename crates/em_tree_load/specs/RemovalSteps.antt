@@ -1,5 +1,5 @@
 -- The steps of taking the first leaf of a tree out: nodes that are stored or released.
-use Rattle.std.specs.Prelude.{◌≡◌, ℕ, ◌+◌, ◌*◌, ◌<◌, ◌≤◌, List, [], ◌∷◌, drop, length, IsTrue, Result, Ok, Err}
+use Rattle.std.specs.Prelude.{◌≡◌, ℕ, ◌+◌, ◌*◌, ◌<◌, ◌≤◌, List, [], ◌∷◌, drop, length, max, IsTrue, Result, Ok, Err}
 use Rattle.em_space.specs.Held.{Holds}
 use Rattle.em_space.specs.Rig.{BlockCause, Goes, InUse, Releases, RigState}
 use Rattle.em_space.specs.declared.fault.EmFault.{EmFault}
@@ -12,9 +12,9 @@ use Rattle.em_tree_walk.specs.Reads.{ReadsOnly, StopsReading}
 use Rattle.em_tree_walk.specs.Stands.{LeadsToTree}
 use Rattle.em_tree_walk.specs.Taken.{StopsTaking, StoresNode}
 use Rattle.em_tree_load.specs.FirstLeaves.{IsLone}
-use Rattle.em_tree_load.specs.Forms.{AreFormed}
+use Rattle.em_tree_walk.specs.Forms.{AreFormed}
 use Rattle.em_tree_model.specs.Taking.{lowered_first}
-use Rattle.em_tree_load.specs.SplitPaths.{TakesUpTo}
+use Rattle.em_tree_walk.specs.SplitPaths.{TakesUpTo}
 
 -- these entries, of which the first begins with the least key
 abbrev pub with_least : List Entry → List Entry
@@ -64,6 +64,7 @@ LowersNode s t level node (Err fault) = StopsTaking s t node fault
 pub record StopsInPlace (m : ℕ) (held : List ℕ) (s t : RigState) (fault : EmFault) : Type 0 where
   pub goes : Goes held s t
   pub used : t.used ≤ s.used
+  pub most : t.most ≤ max s.most s.used
   pub moves : t.moves ≤ s.moves + m
   pub cause : BlockCause s t fault
 

@@ -11,8 +11,9 @@ use Rattle.em_tree_model.specs.Tree.{first_leaf, over_first}
 use Rattle.em_tree_blocks.specs.Reading.{tree_at, tree_blocks}
 use Rattle.em_tree_walk.specs.Stands.{LeadsToTree}
 use Rattle.em_tree_load.specs.FirstLeaves.{IsFork}
-use Rattle.em_tree_load.specs.Forms.{AreFormed}
-use Rattle.em_tree_load.specs.Paid.{LosesNone}
+use Rattle.em_tree_walk.specs.Forms.{AreFormed}
+use Rattle.em_tree_load.specs.Peaks.{Peaks}
+use Rattle.em_tree_walk.specs.Paid.{LosesNone}
 
 -- The first leaf of a node's tree can be taken out, over a device that tells: the node is the last one on
 -- the way there that has several entries, nothing is stored in the leaf, nothing waits over it, and no
@@ -41,6 +42,7 @@ pub record RemovedFirst (s t : RigState) (level node : ℕ) : Type 0 where
   pub pays : Pays 0 0 s t
   pub loses : LosesNone (tree_blocks level s node) (tree_blocks level t node) s t
   pub moves : t.moves + 1 ≤ s.moves + 4 * level
+  pub peaks : Peaks 0 s t
   pub leads : LeadsToTree t level node
   pub told : IsTrue s.device.told → RemovesFirst s t level node
 
@@ -49,6 +51,7 @@ pub record StopsRemoving (s t : RigState) (level node : ℕ) (fault : EmFault) :
   pub goes : Goes (tree_blocks level s node) s t
   pub pays : Pays 0 0 s t
   pub moves : t.moves + 1 ≤ s.moves + 4 * level
+  pub peaks : Peaks 0 s t
   pub cause : BlockCause s t fault
 
 -- what taking it out did, by its result

@@ -11,6 +11,7 @@ ghost use Rattle.em_tree_walk.specs.Inserted.{CanFollow};
 ghost use Rattle.em_tree_load.specs.LoadRoom.{Takes, new_leaves};
 ghost use Rattle.em_tree_load.specs.NodeLoads.{CanChange, ChangesLeaf, kept_change, parted_change};
 ghost use Rattle.em_tree_load.specs.LeafChanges.{StoresEntries, StoresNewLeaf, divided_at, rebuffered_at};
+ghost use Rattle.em_tree_load.specs.Peaks.{Peaks};
 
 use crate::leaf_block::store_leaf;
 use em_chain::Chain;
@@ -56,6 +57,7 @@ pub(crate) fn store_change<D: Device>(
         (level_of frame.old) at (entries_of frame.old) change rest result }
     ensures takes { Takes 0 (new_leaves change.high) (seen D.state rig.old) (seen D.state rig.new)
         result }
+    ensures peaks { Peaks 1 (seen D.state rig.old) (seen D.state rig.new) }
 {
     let LeafChange { low, high } = change;
     match high {
@@ -89,6 +91,7 @@ fn store_kept<D: Device>(
     ensures changes { ChangesLeaf (seen D.state rig.old) (seen D.state rig.new) leaf node
         (level_of frame.old) at (entries_of frame.old) (kept_change low) rest result }
     ensures takes { Takes 0 0 (seen D.state rig.old) (seen D.state rig.new) result }
+    ensures peaks { Peaks 1 (seen D.state rig.old) (seen D.state rig.new) }
 {
     store_rest(rig, node, at, frame, &rest)?;
     store_leaf(rig, leaf, &low)?;
@@ -121,6 +124,7 @@ fn store_parts<D: Device>(
     ensures changes { ChangesLeaf (seen D.state rig.old) (seen D.state rig.new) leaf node
         (level_of frame.old) at (entries_of frame.old) (parted_change low high) rest result }
     ensures takes { Takes 0 1 (seen D.state rig.old) (seen D.state rig.new) result }
+    ensures peaks { Peaks 1 (seen D.state rig.old) (seen D.state rig.new) }
 {
     let (key, stored) = high;
     if !can_follow(frame, at, key) {

@@ -7,6 +7,7 @@ ghost use Rattle.em_chain.specs.Chain.{IsChain};
 ghost use Rattle.em_chain.specs.Reader.{IsReader, ReaderHasFrame};
 ghost use Rattle.em_tree_load.specs.AreaFills.{FillsArea, FillsFrom, PutsRead, ReadsIntoArea};
 ghost use Rattle.em_tree_load.specs.LoadRoom.{Takes};
+ghost use Rattle.em_tree_load.specs.Peaks.{Peaks};
 
 use em_chain::{Chain, Reader};
 use em_frames::{Area, Device};
@@ -29,6 +30,7 @@ pub(crate) fn fill_area<D: Device>(
     ensures fills { FillsArea (seen D.state rig.old) (seen D.state rig.new) buffer area.new count
         result }
     ensures takes { Takes 0 0 (seen D.state rig.old) (seen D.state rig.new) result }
+    ensures peaks { Peaks 0 (seen D.state rig.old) (seen D.state rig.new) }
 {
     fill_from(rig, buffer, area, 0, count)
 }
@@ -50,6 +52,7 @@ pub(crate) fn fill_from<D: Device>(
     ensures fills { FillsFrom (seen D.state rig.old) (seen D.state rig.new) buffer area.old area.new
         from count result }
     ensures takes { Takes 0 0 (seen D.state rig.old) (seen D.state rig.new) result }
+    ensures peaks { Peaks 0 (seen D.state rig.old) (seen D.state rig.new) }
 {
     let mut reader = Reader::taking(rig, buffer);
     match read_into(rig, &mut reader, area, from, count) {

@@ -1,5 +1,4 @@
-//! Loads of a buffer tree's leaves, splits of the nodes over a leaf that was split, and the release of a
-//! tree's blocks.
+//! Loads of a buffer tree's leaves, records taken out of the first leaf, and the release of a tree's blocks.
 #![tactic(auto)]
 
 mod changing;
@@ -11,7 +10,6 @@ mod releasing;
 mod removing;
 mod seeking;
 mod settling;
-mod splitting;
 
 pub use leaf_block::put_leaf;
 pub use leaf_taking::take_leaf;
@@ -19,4 +17,3 @@ pub use loading::load_leaf;
 pub use releasing::release_tree;
 pub use removing::remove_first;
 pub use seeking::{FirstLeaf, first_leaf};
-pub use splitting::{MOST_LEVELS, Root, split_up};

@@ -15,10 +15,12 @@ ghost use Rattle.em_space.specs.Rig.{Sound};
 ghost use Rattle.em_space.specs.Seen.{seen};
 ghost use Rattle.em_chain.specs.Effects.{Completes};
 ghost use Rattle.em_chain.specs.Writer.{WriterHasFrame};
+ghost use Rattle.em_leaf.specs.Effects.{loading_room};
 ghost use Rattle.em_node.specs.Node.{IsNode, entries_of};
-ghost use Rattle.em_tree_load.specs.LeafLoads.{CanLoadLeaf, LoadsLeafAt};
+ghost use Rattle.em_tree_load.specs.LeafLoads.{CanLoadLeaf, LoadsLeafAt, taken_of, waiting_over};
 ghost use Rattle.em_tree_load.specs.LoadRoom.{TakesHere, load_leaf_need, load_leaf_room};
 ghost use Rattle.em_tree_load.specs.NodeLoads.{LoadsHereTo};
+ghost use Rattle.em_tree_load.specs.Peaks.{Peaks};
 
 use crate::changing::{Split, store_change};
 use crate::settling::settle_leaf;
@@ -98,6 +100,9 @@ fn load_at<D: Device, S: Settle>(
     ensures takes { IsTrue (seen D.state rig.old).device.told → TakesHere (S.key_of settle.now)
         (S.step_of settle.now) (seen D.state rig.old) (seen D.state rig.new) node at answers.old
         result }
+    ensures peaks { IsTrue (seen D.state rig.old).device.told → Peaks (loading_room
+        (seen D.state rig.old) (taken_of (seen D.state rig.old) (length (waiting_over
+        (seen D.state rig.old) node at))) + 1) (seen D.state rig.old) (seen D.state rig.new) }
 {
     let mut frame = rig.lend();
     let mut area = rig.lend_area();
@@ -131,6 +136,9 @@ fn load_in<D: Device, S: Settle>(
     ensures takes { IsTrue (seen D.state rig.old).device.told → TakesHere (S.key_of settle.now)
         (S.step_of settle.now) (seen D.state rig.old) (seen D.state rig.new) node at answers.old
         result }
+    ensures peaks { IsTrue (seen D.state rig.old).device.told → Peaks (loading_room
+        (seen D.state rig.old) (taken_of (seen D.state rig.old) (length (waiting_over
+        (seen D.state rig.old) node at))) + 1) (seen D.state rig.old) (seen D.state rig.new) }
 {
     load_node(rig, node, 1, frame)?;
     let shape = rig.shape();

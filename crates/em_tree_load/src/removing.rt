@@ -14,12 +14,11 @@ ghost use Rattle.em_tree_walk.specs.Stands.{LeadsToTree};
 ghost use Rattle.em_tree_load.specs.RemovalSteps.{CanDropFirst, CanLowerWay, CanReleaseWay, DropsFirst, LowersNode, LowersWay, ReadsChild, ReleasesNode, ReleasesWay, with_least};
 ghost use Rattle.em_tree_load.specs.Removals.{CanRemoveFirst, TakesFirstOut};
 
-use crate::splitting::Root;
 use em_frames::{Device, Frame};
 use em_node::{count, entry_at, remove, set_entry};
 use em_record::Record;
 use em_space::{EmFault, Rig};
-use em_tree_walk::{child_in, load_node};
+use em_tree_walk::{Root, child_in, load_node};
 
 /// Takes the first leaf of a tree out, in which nothing is stored and over which nothing waits. The fork is
 /// the last node on the way there that has several entries, with its level; nodes and leaf below its first

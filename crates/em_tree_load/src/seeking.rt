@@ -7,12 +7,11 @@ ghost use Rattle.em_tree_load.specs.FirstLeaves.{CanFindFirst, FindsFirst, Finds
 ghost use Rattle.em_tree_walk.specs.Stands.{LeadsToTree};
 
 use crate::leaf_block::read_leaf;
-use crate::splitting::Root;
 use em_chain::Chain;
 use em_frames::{Device, Frame};
 use em_node::count;
 use em_space::{EmFault, Rig};
-use em_tree_walk::{child_in, load_node};
+use em_tree_walk::{Root, child_in, load_node};
 
 /// The first leaf of a tree.
 #[derive(Drop)]

@@ -5,10 +5,12 @@ ghost use Rattle.em_frames.specs.Pool.{load_of};
 ghost use Rattle.em_space.specs.Rig.{Sound};
 ghost use Rattle.em_space.specs.Seen.{seen};
 ghost use Rattle.em_chain.specs.Writer.{WriterHasFrame};
+ghost use Rattle.em_leaf.specs.Effects.{loading_room};
 ghost use Rattle.em_leaf.specs.Leaf.{CanGrowBy};
 ghost use Rattle.em_tree_blocks.specs.Reading.{stored_chain};
 ghost use Rattle.em_tree_load.specs.LeafSettles.{CanSettleAt, CanSettleOver, SettlesOver, load_count};
 ghost use Rattle.em_tree_load.specs.LoadRoom.{TakesSettling};
+ghost use Rattle.em_tree_load.specs.Peaks.{Peaks};
 
 use crate::filling::fill_area;
 use crate::leaf_block::read_leaf;
@@ -48,6 +50,8 @@ pub(crate) fn settle_leaf<D: Device, S: Settle>(
     ensures takes { TakesSettling (S.key_of settle.now) (S.step_of settle.now)
         (seen D.state rig.old) (seen D.state rig.new)
         (stored_chain (seen D.state rig.old) leaf) buffer answers.old result }
+    ensures peaks { Peaks (loading_room (seen D.state rig.old) (load_count (seen D.state rig.old) buffer))
+        (seen D.state rig.old) (seen D.state rig.new) }
 {
     let shape = rig.shape();
     let count = count_to_load(&buffer, &shape);
@@ -83,6 +87,8 @@ fn settle_stored<D: Device, S: Settle>(
         result }
     ensures takes { TakesSettling (S.key_of settle.now) (S.step_of settle.now)
         (seen D.state rig.old) (seen D.state rig.new) stored buffer answers.old result }
+    ensures peaks { Peaks (loading_room (seen D.state rig.old) (load_count (seen D.state rig.old) buffer))
+        (seen D.state rig.old) (seen D.state rig.new) }
 {
     let rest = fill_area(rig, buffer, area, count)?;
     let change = apply_load(rig, settle, stored, area, count, answers)?;

@@ -27,8 +27,8 @@ use Rattle.em_tree_load.specs.LeafLoads.{CanLoadLeaf}
 use Rattle.em_tree_load.specs.LeafTakes.{CanTakeLeaf}
 use Rattle.em_tree_load.specs.Releases.{CanRelease}
 use Rattle.em_tree_load.specs.Removals.{CanRemoveFirst}
-use Rattle.em_tree_load.specs.SplitPaths.{CanSplitUp}
-use Rattle.em_tree_load.specs.declared.splitting.Root.{Root}
+use Rattle.em_tree_walk.specs.SplitPaths.{CanSplitUp}
+use Rattle.em_tree_walk.specs.declared.splitting.Root.{Root}
 use Rattle.em_devices.specs.Small.{small}
 use Rattle.em_tree_part_tests.specs.Ready.{IsReady, IsSmall, Keeps}
 

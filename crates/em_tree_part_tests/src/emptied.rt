@@ -100,13 +100,12 @@ pub fn emptied<D: Device>(rig: &mut Rig<'_, D>, children: u64, count: u64, at: u
     Ok([least, u64::from(has), 0, 0, 0, 0, 0, 0])
 }
 
-/// 17 moves write the chain, and 1 the node. Emptying loads the node, reads and releases 17
-/// blocks, and stores 17 blocks of 2043 records, 1 block of the five, and the node. 16 of the new
-/// blocks are freed ones, and each of these takes 1 move more. To look at the child takes 2. At
-/// first 18 blocks are in use and then 2 more, before the chain's first block is released. Frames
-/// are out for the node, the reader, two members and a block that is freed.
+/// 17 moves write the chain, and 1 the node. Emptying loads the node, reads 17 blocks, and stores 17 blocks
+/// of 2043 records, 1 block of the five, and the node. 16 of the new blocks are freed ones, whose numbers are
+/// kept. To look at the child takes 2: 17 + 1 + 1 + 17 + 17 + 1 + 1 + 2. At first 18 blocks are in use and then
+/// 2 more, before the chain's first block is released. Frames are out for the node, the reader and two members.
 ///
-/// If all 2048 records go to one child, its buffer is then full: 17 + 1 moves before, and 1 + 34 + 17 + 16 + 1 for
+/// If all 2048 records go to one child, its buffer is then full: 17 + 1 moves before, and 1 + 17 + 17 + 1 for
 /// the emptying. 17 + 1 to look at it.
 ///
 /// If there is no record, the node is stored, loaded and stored, and loaded to look at it. Frames are out for the
@@ -117,8 +116,8 @@ pub fn emptied<D: Device>(rig: &mut Rig<'_, D>, children: u64, count: u64, at: u
 /// isn't loaded. A node with no child, in block 17, is none to empty into, and a block that is no node isn't either:
 /// 18 moves before, and the load, with the node's frame out.
 const EMPTYINGS: &str = "\
-100 none 2 2048 1|ok none 1|19 20 90 5
-100 none 1 2048 0|ok 0 1|18 19 105 4
+100 none 2 2048 1|ok none 1|19 20 57 4
+100 none 1 2048 0|ok 0 1|18 19 72 3
 100 none 1 0 0|ok none 1|1 1 4 3
 19 none 2 2048 1|full 19|19 19 20 4
 100 19 2 2048 1|fault|18 18 19 1

@@ -168,15 +168,15 @@ pub fn cut<D: Device>(rig: &mut Rig<'_, D>) -> Answer
     Ok([taken, same, left, 0, 0, 0, 0, 0])
 }
 
-/// 9 moves store the tree. 3 find the leaf: one for each node and one for the leaf's block. Its list is loaded and
-/// released, and its block stored. The root is loaded and stored, the node below its first entry loaded and
-/// released, and the leaf's block released; then the other node is loaded and stored, since it begins with the
-/// least key now. 2 moves look at both. Of 9 blocks 3 were released.
-const WHOLE: &str = "20 none|ok 3 1 1 7 2 0 3|6 9 24 10";
+/// 9 moves store the tree. 3 find the leaf: one for each node and one for the leaf's block. Its list is loaded,
+/// and its block stored. The root is loaded and stored, the node below its first entry is loaded, and the other
+/// node is loaded and stored, since it begins with the least key now. 2 moves look at both:
+/// 9 + 3 + 2 + 2 + 1 + 2 + 2. Of 9 blocks 3 were released, by no move. A frame is out beside the area.
+const WHOLE: &str = "20 none|ok 3 1 1 7 2 0 3|6 9 21 9";
 
 /// 127 records fill a block. 4 moves store the list of two blocks, the leaf's block and the node. 2 find the leaf,
-/// its first block is loaded and released, and the leaf's block stored; 1 looks at it.
-const PART: &str = "20 none|ok 127 1 1|3 4 10 10";
+/// its first block is loaded, and the leaf's block stored; 1 looks at it.
+const PART: &str = "20 none|ok 127 1 1|3 4 9 9";
 
 #[test]
 fn a_first_leaf_is_taken_out_with_its_node(rt: HostRuntime) -> Result<(), Fail> {
@@ -190,9 +190,9 @@ fn a_first_leaf_is_taken_out_with_its_node(rt: HostRuntime) -> Result<(), Fail> 
 fn each_failing_move_is_a_fault(rt: HostRuntime) -> Result<(), Fail> {
     let given = [20, NONE, 0, 0, 0, 0, 0, 0];
     assert_eq!(rt;
-        first_unfaulted(rt.alloc(), Call::TakeFirst, given, 24)?,
+        first_unfaulted(rt.alloc(), Call::TakeFirst, given, 21)?,
         None
     );
-    assert_eq!(rt; first_unfaulted(rt.alloc(), Call::Cut, given, 10)?, None);
+    assert_eq!(rt; first_unfaulted(rt.alloc(), Call::Cut, given, 9)?, None);
     Ok(())
 }

@@ -68,14 +68,14 @@ pub fn grown<D: Device>(rig: &mut Rig<'_, D>, level: u64) -> Answer
 /// more read both. Two frames are out, one for each half. The upper half begins with the seventeenth entry, from
 /// 160 on.
 ///
-/// A block that was taken and freed by 1 move comes again by 1, and a frame more is out to read its header. With
+/// A block that was taken and freed comes again, by no move. With
 /// one block the node is stored and loaded, and no block is free for the upper half. Calls 2 to 4 of the device are
 /// those of the split: the load, and the stores of both halves, before which a block was taken. No node has the
 /// level 64.
 const SPLITS: &str = "\
 100 none 3 0|ok 160 2 3 16 150 3 16 310|2 2 6 2
 100 none 0 0|ok 160 2 0 16 150 0 16 310|2 2 6 2
-2 none 3 1|ok 160 2 3 16 150 3 16 310|2 2 8 3
+2 none 3 1|ok 160 2 3 16 150 3 16 310|2 2 6 2
 1 none 3 0|full 1|1 1 2 2
 100 2 3 0|fault|1 1 2 2
 100 3 3 0|fault|2 2 3 2

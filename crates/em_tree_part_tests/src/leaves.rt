@@ -147,8 +147,7 @@ fn kept(alloc: Global, count: u64) -> Result<Vec<Record>, AllocError> {
 /// The operations come in any order of the keys; those of a key in the order of their numbers.
 /// Nothing is stored of 7: it is put and removed. One block of answers and one of the leaf are
 /// stored, and each is read once: 4 moves. At most 11 frames are out: the area counts as 8, and the
-/// writer of answers, the reader of the old leaf and the writer of a part have one each. Both
-/// blocks are new, so that no frame is lent to read the header of a freed one.
+/// writer of answers, the reader of the old leaf and the writer of a part have one each.
 #[test]
 fn operations_of_a_key_are_settled_in_order(rt: HostRuntime) -> Result<(), Fail> {
     let case = Case {

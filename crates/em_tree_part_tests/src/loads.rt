@@ -131,13 +131,12 @@ pub fn loaded<D: Device>(rig: &mut Rig<'_, D>) -> Answer
     Ok([low, over, leaf, list, given, 0, 0, 0])
 }
 
-/// 6 moves store a list and a block of each leaf, the operations and the node. The load takes 10: the
-/// node, the leaf's block and the old list are loaded and stored anew or released, and so are the
-/// operations; the new list takes a freed block, whose link is read. Then one block of answers is
-/// stored, and 4 are looked at. The answer to the get of 7 takes the seventh block, since 9 wasn't
-/// read yet. Frames are out for the node, the answers, the old and the new list, and a freed
-/// block's link; an area counts as 8.
-const LOADS: &str = "200 none|ok none 1 1 1 1|6 7 21 13";
+/// 6 moves store a list and a block of each leaf, the operations and the node. The load takes 7: the
+/// node and the leaf's block are loaded and stored anew, the old list and the operations are loaded and
+/// released, and the new list is stored in a freed block. Then one block of answers is
+/// stored, and 4 are looked at: 6 + 7 + 1 + 4. The answer to the get of 7 takes the seventh block, since 9 wasn't
+/// read yet. Frames are out for the node, the answers, and the old and the new list; an area counts as 8.
+const LOADS: &str = "200 none|ok none 1 1 1 1|6 7 18 12";
 
 #[test]
 fn a_load_settles_what_waits_over_a_leaf(rt: HostRuntime) -> Result<(), Fail> {
@@ -149,6 +148,6 @@ fn a_load_settles_what_waits_over_a_leaf(rt: HostRuntime) -> Result<(), Fail> {
 #[test]
 fn each_failing_move_is_a_fault(rt: HostRuntime) -> Result<(), Fail> {
     let given = [200, NONE, 0, 0, 0, 0, 0, 0];
-    assert_eq!(rt; first_unfaulted(rt.alloc(), Call::Load, given, 21)?, None);
+    assert_eq!(rt; first_unfaulted(rt.alloc(), Call::Load, given, 18)?, None);
     Ok(())
 }

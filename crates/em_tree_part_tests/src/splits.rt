@@ -8,7 +8,8 @@ use crate::calls::Call;
 use crate::rows::{Answer, NONE, first_unfaulted, first_wrong_row};
 use em_frames::Device;
 use em_space::{EmFault, Rig};
-use em_tree_load::{Root, release_tree, split_up};
+use em_tree_load::release_tree;
+use em_tree_walk::{Root, split_up};
 use std::test::Fail;
 
 /// Stores a full root of level 1, if that is asked for, or else the tree of `blocks`, whose nodes have room.
@@ -86,10 +87,10 @@ fn full_nodes_of_a_path_are_split(rt: HostRuntime) -> Result<(), Fail> {
 }
 
 /// 4 moves store a list, two leaves and the node. The node is loaded. Of the first leaf the block is loaded and
-/// released, and so is that of its list; the other leaf takes 2 moves, and the node's own release 1. The node, in
+/// released, and so is that of its list; of the other leaf the block is loaded: 4 + 1 + 2 + 1. The node, in
 /// block 3, isn't of level 2.
 const RELEASES: &str = "\
-20 none 1|ok 4|0 4 12 2
+20 none 1|ok 4|0 4 8 2
 20 none 2|damaged 3|4 4 5 1
 ";
 
@@ -104,9 +105,6 @@ fn all_blocks_of_a_tree_are_released(rt: HostRuntime) -> Result<(), Fail> {
 fn each_failing_move_is_a_fault(rt: HostRuntime) -> Result<(), Fail> {
     let given = [20, NONE, 1, 0, 0, 0, 0, 0];
     assert_eq!(rt; first_unfaulted(rt.alloc(), Call::SplitUp, given, 8)?, None);
-    assert_eq!(rt;
-        first_unfaulted(rt.alloc(), Call::Release, given, 12)?,
-        None
-    );
+    assert_eq!(rt; first_unfaulted(rt.alloc(), Call::Release, given, 8)?, None);
     Ok(())
 }

@@ -6,3 +6,16 @@ pub mod Found
 pub mod Takings
 pub mod Insertions
 pub mod Lows
+pub mod Turning
+pub mod Regions
+pub mod Losses
+pub mod LowKeys
+pub mod Toward
+pub mod Takes
+pub mod Kept
+pub mod Children
+pub mod PathStages
+pub mod Fulls
+pub mod PathSteps
+pub mod Raised
+pub mod PathEnds

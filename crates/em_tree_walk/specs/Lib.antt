@@ -6,3 +6,8 @@ pub mod Lows
 pub mod Searches
 pub mod Taken
 pub mod Inserted
+pub mod Forms
+pub mod Paid
+pub mod PathSplit
+pub mod Turns
+pub mod SplitPaths

@@ -8,24 +8,26 @@ use Rattle.em_frames.specs.Device.{DeviceState}
 use Rattle.em_frames.specs.Pool.{PoolCounts}
 use Rattle.em_space.specs.Rig.{Opens, RigState}
 use Rattle.em_io.specs.declared.shelf.Slot.{Slot}
-use Rattle.emtool.specs.declared.job.Job.{Job}
-use Rattle.emtool.specs.declared.job.Origin.{Origin}
-use Rattle.emtool.specs.declared.job.Origin.TheVariants.{Files, Made}
-use Rattle.emtool.specs.declared.job.Task.{Task}
-use Rattle.emtool.specs.declared.job.Task.TheVariants.{Answer, Eval}
-use Rattle.emtool.specs.declared.status.Status.{Status}
-use Rattle.emtool.specs.declared.status.Status.TheVariants.{Done, Malformed, ReadFault, WriteFault, DeviceFault, Full, NoMemory, Damaged}
-use Rattle.emtool.specs.declared.status.Status.TheVariants as status
-use Rattle.emtool.specs.Asked.{Asked, asked_of}
+use Rattle.em_words.specs.declared.job.Job.{Job}
+use Rattle.em_words.specs.declared.job.Origin.{Origin}
+use Rattle.em_words.specs.declared.job.Origin.TheVariants.{Files, Made}
+use Rattle.em_words.specs.declared.job.Task.{Task}
+use Rattle.em_words.specs.declared.job.Task.TheVariants.{Answer, Eval}
+use Rattle.em_ends.specs.declared.status.Status.{Status}
+use Rattle.em_ends.specs.declared.status.Status.TheVariants.{Done, Malformed, ReadFault, WriteFault, DeviceFault, Full, NoMemory, Damaged}
+use Rattle.em_ends.specs.declared.status.Status.TheVariants as status
+use Rattle.em_ends.specs.Asked.{Asked}
+use Rattle.em_run.specs.Tasks.{asked_of, OpensNamed}
 use Rattle.emtool.specs.Bound.{transfer_bound}
-use Rattle.emtool.specs.Due.{due_by, texts_on}
-use Rattle.emtool.specs.Made.{read_whole}
-use Rattle.emtool.specs.Opens.{OpensNamed, ReadsNamed}
-use Rattle.emtool.specs.Origin.{LeavesOutside, OnMade, asked_on, slots_of, tells_of}
+use Rattle.em_run.specs.Due.{due_by, texts_on}
+use Rattle.em_run.specs.Made.{read_whole}
+use Rattle.em_ends.specs.Opens.{ReadsNamed}
+use Rattle.em_run.specs.Origin.{LeavesOutside, OnMade, asked_on, slots_of, tells_of}
 use Rattle.emtool.specs.Promise.{Completes, EndsAsDue, FullHasCause, GivesDue, KeepsCost, Run, room_of}
-use Rattle.emtool.specs.Run.{Caused, Ended, HasSizes, Outside, RunsJob, RunsOn, outside}
-use Rattle.emtool.specs.Status.{OnBegun, OnUsage}
-use Rattle.emtool.proofs.EndLaws.{ended_opened, told_if}
+use Rattle.em_ends.specs.Ended.{Caused, Ended, Outside, outside}
+use Rattle.em_run.specs.Runs.{HasSizes, RunsJob, RunsOn}
+use Rattle.em_ends.specs.Status.{OnBegun, OnUsage}
+use Rattle.em_ends.proofs.EndLaws.{ended_opened, told_if}
 
 -- the blocks that a task's run may hold are fewer than its bound, with four for each frame
 task_small : (task : Task) (shape : ShapeNumbers) (texts : Slot → List ℕ)

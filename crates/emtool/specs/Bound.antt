@@ -5,13 +5,13 @@ use Rattle.em_record.specs.Shape.{ShapeNumbers}
 use Rattle.em_io.specs.Shelf.{SlotState}
 use Rattle.em_io.specs.declared.shelf.Slot.{Slot}
 use Rattle.em_io.specs.declared.shelf.Slot.TheVariants.{First, Second}
-use Rattle.emtool.specs.EvalSize.{circuit_read, eval_cost, passes_read, rounds_of, steps_read}
-use Rattle.emtool.specs.Origin.{slots_of}
-use Rattle.emtool.specs.RunSize.{run_size}
-use Rattle.emtool.specs.declared.job.Job.{Job}
-use Rattle.emtool.specs.declared.job.Task.{Task}
-use Rattle.emtool.specs.declared.job.Task.TheVariants.{Answer, Eval}
-use Rattle.emtool.specs.Job.{start_of}
+use Rattle.em_eval.specs.EvalSize.{circuit_read, eval_cost, passes_read, rounds_of, steps_read}
+use Rattle.em_run.specs.Origin.{slots_of}
+use Rattle.em_lines.specs.RunSize.{run_size}
+use Rattle.em_words.specs.declared.job.Job.{Job}
+use Rattle.em_words.specs.declared.job.Task.{Task}
+use Rattle.em_words.specs.declared.job.Task.TheVariants.{Answer, Eval}
+use Rattle.em_eval.specs.EvalRun.{start_of}
 
 -- the transfer cost of a run's size, by the text of each slot and how far it was read
 abbrev pub transfer_bound : Task → ShapeNumbers → (Slot → List ℕ) → (Slot → SlotState) → ℕ

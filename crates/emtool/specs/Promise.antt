@@ -8,18 +8,21 @@ use Rattle.em_io.specs.declared.shelf.Shelf.{Ghosts as ShelfGhosts}
 use Rattle.em_io.specs.declared.sink.Sink.{Ghosts as SinkGhosts}
 use Rattle.em_frames.specs.declared.device.Device.{Ghosts as DeviceGhosts}
 use Rattle.emtool.specs.Bound.{stated_room, transfer_bound}
-use Rattle.emtool.specs.Asked.{ToldIf}
-use Rattle.emtool.specs.Due.{Due, due_of}
-use Rattle.emtool.specs.Origin.{LeavesOutside, OnMade, slots_of, tells_of}
-use Rattle.emtool.specs.Opens.{OpensNamed, ReadsNamed}
-use Rattle.emtool.specs.Job.{texts_of}
-use Rattle.emtool.specs.Outcome.{HasStats, report_text}
-use Rattle.emtool.specs.Run.{HasSizes, IsQuiet, Outside, outside}
-use Rattle.emtool.specs.Status.{IfEndsDamaged, IfEndsFull, OnBegun, OnEnd}
-use Rattle.emtool.specs.declared.outcome.Stats.{Stats}
-use Rattle.emtool.specs.declared.status.Status.{Status}
-use Rattle.emtool.specs.declared.status.Status.TheVariants.{NoMemory}
-use Rattle.emtool.specs.declared.status.Usage.{Usage}
+use Rattle.em_ends.specs.Asked.{ToldIf}
+use Rattle.em_run.specs.Due.{Due, due_of}
+use Rattle.em_run.specs.Origin.{LeavesOutside, OnMade, slots_of, tells_of}
+use Rattle.em_run.specs.Tasks.{OpensNamed}
+use Rattle.em_ends.specs.Opens.{ReadsNamed}
+use Rattle.em_words.specs.Job.{texts_of}
+use Rattle.emtool.specs.Statistics.{HasStats}
+use Rattle.em_ends.specs.Outcome.{report_text}
+use Rattle.em_run.specs.Runs.{HasSizes}
+use Rattle.em_ends.specs.Ended.{IsQuiet, Outside, outside}
+use Rattle.em_ends.specs.Status.{IfEndsDamaged, IfEndsFull, OnBegun, OnEnd}
+use Rattle.em_ends.specs.declared.outcome.Stats.{Stats}
+use Rattle.em_ends.specs.declared.status.Status.{Status}
+use Rattle.em_ends.specs.declared.status.Status.TheVariants.{NoMemory}
+use Rattle.em_ends.specs.declared.status.Usage.{Usage}
 
 -- A run: what is due, whether its texts are known (made ones are, and those of files if the shelf tells
 -- them), the rule of the output, and the outside before and after.

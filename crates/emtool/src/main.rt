@@ -6,40 +6,16 @@
 ghost use Rattle.std.specs.Prelude.{◌≡◌, ◌⊎◌, None};
 ghost use Rattle.em_record.specs.Count.{Rose};
 ghost use Rattle.em_io.specs.Sink.{SentPart};
-ghost use Rattle.emtool.specs.Outcome.{report_text};
-ghost use Rattle.emtool.specs.Status.{OnDone};
+ghost use Rattle.em_ends.specs.Outcome.{report_text};
+ghost use Rattle.em_ends.specs.Status.{OnDone};
 
-mod batch_service;
-mod byte;
-mod eval;
-mod generate;
 mod help;
-mod job;
-mod line;
-mod operand;
-mod option;
-mod ordering;
-mod outcome;
-mod print;
-mod read;
-mod report;
-mod run;
-mod scan_service;
-mod serve;
-mod service;
-mod stab_service;
-mod status;
-mod stop;
 #[cfg(test)]
 mod tests;
-mod text;
 mod top;
-mod word;
 
 use crate::help::{HELP, VERSION};
-use crate::outcome::Outcome;
-use crate::report::report;
-use crate::status::Status;
+use em_ends::{Outcome, Status, report};
 use em_file::FileDevice;
 use em_frames::Grant;
 use em_io::{DiskShelf, Sink, StdSink, send};

@@ -7,13 +7,11 @@
 mod each_call;
 mod each_evaluation;
 mod ends;
-mod made;
 mod odd_device;
-mod services;
 
-use crate::status::Status;
 use crate::tests::odd_device::OddDevice;
 use crate::top::emtool;
+use em_ends::Status;
 use em_frames::{Grant, MemDevice};
 use em_io::{MemShelf, MemSink, Printer};
 use em_record::Failed;
@@ -79,17 +77,6 @@ fn text_of(alloc: Global, field: &str) -> Result<MemSink, Fail> {
         }
     }
     Ok(text)
-}
-
-/// Adds a line of a word and some numbers to a text.
-fn add_line(text: &mut MemSink, word: &[u8], numbers: &[u64]) -> Result<(), Failed> {
-    let mut line = Printer::new();
-    line.add(text, word)?;
-    for number in numbers {
-        line.add(text, b" ")?;
-        line.add_number(text, *number)?;
-    }
-    line.end_line(text)
 }
 
 /// The call, if it is of the part in which something goes wrong.

@@ -3,21 +3,20 @@ ghost use Rattle.std.specs.Result.{result_err};
 ghost use Rattle.em_record.specs.Count.{Rose};
 ghost use Rattle.em_io.specs.Shelf.{IsFresh};
 ghost use Rattle.em_frames.specs.Pool.{fresh_pool};
-ghost use Rattle.emtool.specs.Due.{names_on};
-ghost use Rattle.emtool.specs.Job.{HasBlocks, IsOrigin, texts_of, job_of};
-ghost use Rattle.emtool.specs.Outcome.{HasStats};
+ghost use Rattle.em_run.specs.Due.{names_on};
+ghost use Rattle.em_words.specs.Job.{HasBlocks, IsOrigin, texts_of, job_of};
+ghost use Rattle.emtool.specs.Statistics.{HasStats};
 ghost use Rattle.emtool.specs.Promise.{run_of, Begins, Completes, DamageHasCause, EndsAsDue, FullHasCause, GivesDue, KeepsCost, LeavesAll, Opens, ReadsFiles, Reports, ReportsFront, SendsFront};
-ghost use Rattle.emtool.specs.Run.{outside, GoesOn, RunsJob};
-ghost use Rattle.emtool.specs.Status.{refusal_of, OnBegun, OnNoMemory, OnUsage};
+ghost use Rattle.em_ends.specs.Ended.{outside, GoesOn};
+ghost use Rattle.em_run.specs.Runs.{RunsJob};
+ghost use Rattle.em_ends.specs.Status.{refusal_of, OnBegun, OnNoMemory, OnUsage};
 
-use crate::job::{Job, name_at, read_job};
-use crate::outcome::{Outcome, stats_of, unmoved};
-use crate::report::report;
-use crate::run::run_on;
-use crate::status::Status;
+use em_ends::{Outcome, Status, report, stats_of, unmoved};
 use em_frames::{BeginFault, Device, Grant, Pool};
-use em_io::{Shelf, Sink, Slot};
+use em_io::{Shelf, Sink};
+use em_run::run_on;
 use em_space::Rig;
+use em_words::{Job, name_at, read_job};
 
 /// Runs a job with a pool of its shape, which it gives up. The names are those of the job's files, if
 /// it has some.
@@ -110,8 +109,8 @@ fn run_job<D: Device, H: Shelf, W: Sink>(
 ///
 /// Clauses on what texts and blocks hold are said of a shelf and a device that tell it, as each
 /// clause says; those on words, counts and numbers of every one. What a clause's word means is in
-/// `specs/Promise.antt`, what a run is due in `specs/Due.antt`, and what each task asks in
-/// `specs/Asked.antt`.
+/// `specs/Promise.antt`, what a run is due in `specs/Due.antt` of em_run, and what each task asks in
+/// `specs/Tasks.antt` there.
 pub fn emtool<D: Device, H: Shelf, W: Sink, E: Sink>(
     words: &[String],
     grant: Grant,

@@ -118,56 +118,57 @@ pub(super) fn wrong_in(rt: &HostRuntime, row: &str) -> Result<Option<(u8, u64)>,
 }
 
 /// Command files. The shelf is called once to open the file, once for each 3 bytes of it, and once where the
-/// end is found. The output is called for each 3 bytes of a line.
+/// end is found. The output of a queue is called for each 3 bytes of a line. That of the others gets all lines at
+/// the end of the run, or at its stop, and is called for each 3 bytes of them.
 const ROWS: [&str; 7] = [
-    // A map. The device: 36 calls. Call 0 begins it. Then 2 store the tree's leaf and root, and 1 the block of the
-    // commands. At the end 5 load the root, load and release the commands, store them as the leaf's buffer in a new block,
-    // and store the root; 1 loads the root and finds that buffer. The load makes 7: it loads root and leaf, loads and
-    // releases the buffer, takes a block for the answers, and stores root and leaf. 1 loads the root and finds no other
-    // buffer, 4 load and release both, and 1 stores the answers. A queue for them makes 4, which take and store its two
-    // blocks; 4 load and release the answers, take a block for them in order and store it; 4 end the queue. The last one
-    // reads the answers. The shelf: 16 calls, 14 of them for 42 bytes.
-    "map --block=128 --frames=64 a|put 5 10/get 5/put 5 11/get 5/del 5/get 5/||10/11/-/|0|36 0|16 0|1 0,1 3,1 6",
-    // The least and the greatest key. The device: 40 calls: the two values take a block, which is stored, and released by
-    // two calls. The shelf: 30 calls, since the end of the 77 bytes, of which the last is no newline, is found three times
-    // after 26 reads: by the last number, by the last line, and where the next line would begin.
-    "map --block=128 --frames=64 a|\
-     get 0/put 0 7/put 18446744073709551615 8/del 9/get 18446744073709551615/get 0||-/8/7/|0|40 0|30 0|1 0,1 2,1 4",
-    // 129 commands and 128 answers take two blocks each, and the value one. The device: 54 calls, 21 and 7 for each block
-    // of commands, 4 for that of the value, 7 for each block of answers, and one that begins it. The last two read the
-    // answers: before the very last, the lines of 127 answers were printed. The shelf: 261 calls, 259 of them for 776
+    // A map. The device: 25 calls; a release makes none, nor does a freed block that is taken. Call 0 begins it. Then 2 store
+    // the tree's leaf and root, and 1 the block of the commands. At the end 4 load the root, load the commands, store them as
+    // the leaf's buffer, and store the root; 1 loads the root and finds that buffer. The load makes 5: it loads root and leaf,
+    // loads the buffer, and stores root and leaf. 1 loads the root and finds no other buffer, 2 load both to release them,
+    // and 1 stores the answers. A queue for them makes 2, which store its two blocks; 2 load the answers and store them in
+    // order; 2 end the queue. The last one reads the answers. The shelf: 16 calls, 14 of them for 42 bytes. The output: 3 calls
+    // for 8 bytes.
+    "map --block=128 --frames=64 a|put 5 10/get 5/put 5 11/get 5/del 5/get 5/||10/11/-/|0|25 0|16 0|3 0+3",
+    // The least and the greatest key. The device: 27 calls: the block of the two values is stored, and loaded to be
+    // released. The shelf: 30 calls, since the end of the 77 bytes, of which the last is no newline, is found three times
+    // after 26 reads: by the last number, by the last line, and where the next line would begin. The output: 2 calls for 6
     // bytes.
-    "map --block=128 --frames=64 a|put 1 2/128*get 1/||128*2/|0|53 0,1 254|261 0|128 0+2",
+    "map --block=128 --frames=64 a|\
+     get 0/put 0 7/put 18446744073709551615 8/del 9/get 18446744073709551615/get 0||-/8/7/|0|27 0|30 0|2 0+3",
+    // 129 commands and 128 answers take two blocks each, and the value one. The device: 35 calls, 16 and 4 for each block
+    // of commands, 2 for that of the value, 4 for each block of answers, and one that begins it. The last two read the
+    // answers: before the very last, the lines of 127 answers were printed, and at the stop they are sent. The shelf: 261
+    // calls, 259 of them for 776 bytes. The output: 86 calls, 85 of them for 3 bytes each, and one for the last of 256.
+    "map --block=128 --frames=64 a|put 1 2/128*get 1/||128*2/|0|34 0,1 254|261 0|86 0+3",
     // A queue. The device: 3 calls. Call 0 begins it, and two store the leaf and the root of an empty tree. The items
     // stand in memory. The shelf: 17 calls, 15 of them for 43 bytes. The pops end in calls 8, 12, 13 and 15, and call 16
     // finds the end. The output: 7 calls, two for each line of 4 bytes.
     "queue --block=128 --frames=64 a|push 4 1/push 4 2/pop/push 4 0/pop/pop/pop/||4 1/4 2/4 0/-/|0|3 0|\
      9 0,4 4,1 8,2 12,1 14|1 0,1 3,1 4,1 7,1 8,1 11,1 12",
     // Memory holds 1024 items. The push after that gives 512 of them to the tree, and goes there too: the 513 fill five
-    // blocks. The device: 77 calls. Of 7 that come at pushes, three are those of a small queue, and four store blocks of
-    // the root's buffer. When 512 items were popped, the next pop makes 70:
+    // blocks. The device: 49 calls. Of 7 that come at pushes, three are those of a small queue, and four store blocks of
+    // the root's buffer. When 512 items were popped, the next pop makes 42:
     //
-    //     22   store the last block; load the root; load and release five blocks, store them as the leaf's buffer, four of
-    //          them in blocks that are taken; store the root
+    //     13   store the last block; load the root; load five blocks, store them as the leaf's buffer; store the root
     //     2    load the root, and find that no buffer is full; load it again, and find the leaf's
-    //     24   load the root and the leaf; load and release five blocks; take and store as many; store both
+    //     14   load the root and the leaf; load five blocks; store as many; store both
     //     1    loads the root, and finds no other buffer
-    //     13   load the root and the leaf; load and release five blocks; store the leaf, which is empty
-    //     8    load and release both, as nothing is left; take two blocks, and store a new leaf and root
-    "queue --block=128 --frames=64 a|1025*push 1 2/513*pop/||513*1 2/|0|7 0,70 2048|-|-",
-    // An interval list. The device: 24 calls. Call 0 begins it. At the end 2 store the two blocks of a queue, 1 the
-    // intervals, and 1 the stabs. 4 load and release the stabs, take a block for them in order, and store it. 4 load and
-    // release both lists, and 2 take a block for the pairs and store it. 4 put the pairs in order, as the stabs before; 4
-    // end the queue. The last one loads the pairs. The shelf: 34 calls, 32 of them for 94 bytes. The output: 6 calls, two
-    // for the last line.
+    //     8    load the root and the leaf; load five blocks; store the leaf, which is empty
+    //     4    load both to release them, as nothing is left; store a new leaf and root
+    "queue --block=128 --frames=64 a|1025*push 1 2/513*pop/||513*1 2/|0|7 0,42 2048|-|-",
+    // An interval list. The device: 15 calls. Call 0 begins it. At the end 2 store the two blocks of a queue, 1 the
+    // intervals, and 1 the stabs. 2 load the stabs, and store them in order. 2 load both lists, and 1 stores the pairs. 2
+    // put the pairs in order, as the stabs before; 2 end the queue. The last one loads the pairs. The
+    // shelf: 34 calls, 32 of them for 94 bytes. The output: 4 calls for 12 bytes.
     "stab --block=128 --frames=64 a|\
      stab 5/iv 5 5/iv 7 18446744073709551615/stab 5/stab 6/stab 18446744073709551615/iv 0 5/stab 5/||\
-     -/0/-/1/0 2/|0|24 0|34 0|1 0,1 2,1 4,1 6,1 8,1 11",
-    // 128 stabs and 128 pairs take two blocks each, and the interval one. The device: 38 calls, 6 and one that begins it, 3
-    // for the interval's block, 7 for each block of stabs, and 7 for each of pairs. The last two read the pairs. Whether a
-    // line goes on is seen by the next pair: so before the very last call the lines of 126 stabs were printed. The shelf:
-    // 303 calls, 301 of them for 903 bytes. The output: one call a line.
-    "stab --block=128 --frames=64 a|iv 1 2/128*stab 1/||128*0/|0|37 0,1 252|303 0|128 0+2",
+     -/0/-/1/0 2/|0|15 0|34 0|4 0+3",
+    // 128 stabs and 128 pairs take two blocks each, and the interval one. The device: 23 calls, 4 and one that begins it, 2
+    // for the interval's block, 4 for each block of stabs, and 4 for each of pairs. The last two read the pairs. Whether a
+    // line goes on is seen by the next pair: so before the very last call the lines of 126 stabs were printed, and the
+    // number of the next one; at the stop they are sent. The shelf: 303 calls, 301 of them for 903 bytes. The output: 86
+    // calls, as above.
+    "stab --block=128 --frames=64 a|iv 1 2/128*stab 1/||128*0/|0|22 0,1 253|303 0|86 0+3",
 ];
 
 #[test]

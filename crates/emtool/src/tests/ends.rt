@@ -1,7 +1,7 @@
 //! Runs that end early, or over a device that gives other records than were written.
-use crate::status::Status;
 use crate::tests::{Wrong, field_of, run, text_of};
 use crate::top::emtool;
+use em_ends::Status;
 use em_frames::{Grant, MemDevice};
 use em_io::{MemShelf, MemSink};
 use std::test::Fail;
@@ -51,7 +51,7 @@ fn ends_so(rt: &HostRuntime, row: &str) -> Result<bool, Fail> {
 
 /// A row has the words of a run, its file, what goes wrong, the exit code, what output and error stream took, and the moves of
 /// the device.
-const ROWS: [&str; 30] = [
+const ROWS: [&str; 32] = [
     // Call 2 of the shelf gives the end of line 1, which is faulty, and call 3 would fail: nothing is read after the first
     // fault.
     "map a|bogus/get 1/pop/stab 1/bogus/|shelf 3|2||emtool: malformed: Unknown at 1/|",
@@ -63,7 +63,11 @@ const ROWS: [&str; 30] = [
     "map --stats a|put 5 10/get 5/put 5 11/get 5/del 5/get 5/|shelf 0|3||\
      emtool: an input could not be read/moves 0 peak 0/|",
     "map --stats a|put 5 10/get 5/put 5 11/get 5/del 5/get 5/|output 0|4||\
-     emtool: the output could not be written/moves 35 peak 38/|",
+     emtool: the output could not be written/moves 24 peak 37/|",
+    // Lines of 2 bytes leave when 4096 are there: in 1365 calls for 3 bytes each, and one for the last. The next call comes
+    // for the other lines, at the end.
+    "map --block=128 --frames=64 a|put 1 2/3000*get 1/|output 1365|4|2047*2/2|emtool: the output could not be written/|",
+    "stab --block=128 --frames=64 a|iv 1 2/3000*stab 1/|output 1366|4|2048*0/|emtool: the output could not be written/|",
     // There is no file `b`. A failing error stream changes no status.
     "map b||errors 0|3|||",
     "map b||errors 1|3||emtool:|",
@@ -142,6 +146,40 @@ fn a_map_of_many_keys_has_several_leaves(rt: HostRuntime) -> Result<(), Fail> {
         assert!(rt; ended.status == Status::Done);
         assert_eq!(rt; ended.out.bytes(), lines.bytes());
         assert!(rt; ended.device.parted == parted);
+    }
+    Ok(())
+}
+
+/// Whether a run of which the last call of the device fails ends so after the output took these lines. A whole run calls
+/// the device as often as it moves blocks, and once to begin it.
+fn last_call_leaves(rt: &HostRuntime, words: &str, field: &str, lines: &str) -> Result<bool, Fail> {
+    let alloc = rt.alloc();
+    let text = text_of(alloc, field)?;
+    let lines = text_of(alloc, lines)?;
+    let whole = run(rt, words, text.bytes(), b"", Wrong::Nothing, 0)?;
+    let last = whole.device.kept.moves();
+    let ended = run(rt, words, text.bytes(), b"", Wrong::Device, last)?;
+    Ok(ended.status == Status::DeviceFault && ended.out.bytes() == lines.bytes())
+}
+
+/// Of 3000 answers, 127 a block, the last call reads the last 79. When it fails a piece of 4096 bytes was sent, and the
+/// other lines that were printed are sent then. Whether the line of a stab goes on would be seen by the next pair.
+#[test]
+fn lines_that_wait_are_sent_at_a_stop(rt: HostRuntime) -> Result<(), Fail> {
+    let rows = [
+        (
+            "map --block=128 --frames=64 a",
+            "put 1 2/3000*get 1/",
+            "2921*2/",
+        ),
+        (
+            "stab --block=128 --frames=64 a",
+            "iv 1 2/3000*stab 1/",
+            "2920*0/0",
+        ),
+    ];
+    for (words, field, lines) in rows {
+        assert!(rt; last_call_leaves(&rt, words, field, lines)?);
     }
     Ok(())
 }

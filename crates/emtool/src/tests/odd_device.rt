@@ -1,6 +1,5 @@
 //! A device that looks at what is written, and may give other records than were written.
 ghost use Rattle.std.specs.Prelude.{◌≡◌, false, []};
-ghost use Rattle.em_frames.specs.Device.{DeviceState};
 
 use crate::tests::Wrong;
 use em_frames::{BeginFault, Device, MemDevice};

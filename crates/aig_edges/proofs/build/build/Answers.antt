@@ -305,7 +305,7 @@ returns-in_err-sources-clause-builds g c =
     let all = sizes v i.sorts.count_is room size j.sorts.count_is e k.sorts in
     let may = may_compare q x m v all l (laws.blocks_most m _ k.queue)
     (unstored_frames (laws.unstored_most m _ k.queue) (laws.out m _ k.frames)
-    l.runs.runs.session.sound) in
+    l.runs.runs.session.sound) (laws.fits m _ k.frames) in
     of_error (λ (z : Result Graph AigStop). BuildsTo q x m (seen g.D.Device.state c.args.rig.now) (seen g.D.Device.state c.compare.new.rig) p z) _ _
     c.from_residual-in_err-sources.ensures.1
     (compare_none q x m p _ l may (sorted_of once l) c.in_err-sources.ensures.done)
@@ -383,7 +383,7 @@ returns-clause-builds g c =
     let all = sizes v i.sorts.count_is room size j.sorts.count_is e k.sorts in
     let may = may_compare q x m v all l (laws.blocks_most m _ k.queue)
     (unstored_frames (laws.unstored_most m _ k.queue) (laws.out m _ k.frames)
-    l.runs.runs.session.sound) in
+    l.runs.runs.session.sound) (laws.fits m _ k.frames) in
     let u = seen g.D.Device.state c.compare.new.rig in
     let h = c.in_ok-sources.ensures.done in
     let still = laws.stays m _ _ u k.queue h.runs.session.touches (queue_apart q x m l)

@@ -1,8 +1,11 @@
-use Rattle.std.proofs.Common.{◌++◌, ◌∙◌, arith, refl}
+use Rattle.std.proofs.Common.{◌++◌, ◌∙◌, refl, subst, sym}
 use Rattle.em_space.specs.Seen.{seen}
 use Rattle.em_space.proofs.Queues.{out_same}
 use Rattle.em_chain.specs.Chain.{chain_blocks}
 use Rattle.em_queued.proofs.Queued.{beside_out, unstored_frames}
+use Rattle.aig_defs.specs.Circuit.{columns}
+use Rattle.aig_table.specs.Steps.{Fits}
+use Rattle.aig_forward.proofs.StepCalls.{calls_nothing, calls_stop}
 use Rattle.aig_forward.proofs.StepPasses.{inputs_held, pass_chains, pass_refused, pass_unjoined, passed, passed_for, passes_err, queue_apart}
 use Rattle.aig_forward.proofs.evaluator.pass.Goals as goal
 
@@ -42,7 +45,8 @@ returns-in_err-bits-clause-passes g c =
     (pass_unjoined g.Q.Queue e c.args.inputs c.requires.sound i c.requires.inputs c.requires.holds k
     (laws.blocks_most e.queue s i.is)
     (unstored_frames (laws.unstored_most e.queue s i.is)
-    (laws.out e.queue s (laws.frames_of e.queue s i.is)) c.requires.sound) _ refl)
+    (laws.out e.queue s (laws.frames_of e.queue s i.is)) c.requires.sound)
+    (laws.fits e.queue s (laws.frames_of e.queue s i.is)) _ refl)
 
 pub evaluate-requires-clause-is : goal.evaluate-requires-clause-is
 evaluate-requires-clause-is g c =
@@ -120,4 +124,20 @@ returns-clause-values g c = λ z.
     (beside_out _ j.runs (laws.out e.queue s (laws.frames_of e.queue s i.is))) in
     passed_for g.Q.Queue e c.args.inputs c.requires.sound i c.requires.inputs c.requires.holds j
     kept.2 e _ c.evaluate.new.queue c.in_ok-sweeper.ensures.evaluates z
-    (c.in_ok-sweeper.ensures.values (j.runs.session.touches.told ∙ z) 0 (omega arith))
+    (c.in_ok-sweeper.ensures.values (j.runs.session.touches.told ∙ z))
+
+pub returns-in_err-bits-clause-few : goal.returns-in_err-bits-clause-few
+returns-in_err-bits-clause-few g c = λ f.
+    calls_nothing (columns c.args.sweeper.now.header) (g.Q.Queue.counts c.args.sweeper.now.queue)
+    c.from_residual.result c.from_residual.ensures.0
+
+pub returns-in_err-sweeper-clause-few : goal.returns-in_err-sweeper-clause-few
+returns-in_err-sweeper-clause-few g c = λ f.
+    let j = rw c.replace-state.ensures.value at c.in_ok-bits.ensures.done in
+    calls_stop c.from_residual-in_err-sweeper.result c.from_residual-in_err-sweeper.ensures.0
+    (c.in_err-sweeper.ensures.few (subst (Fits c.args.limit c.args.sweeper.now.header) (sym j.runs.frames.shape) f))
+
+pub returns-clause-few : goal.returns-clause-few
+returns-clause-few g c = λ f.
+    let j = rw c.replace-state.ensures.value at c.in_ok-bits.ensures.done in
+    c.in_ok-sweeper.ensures.few (subst (Fits c.args.limit c.args.sweeper.now.header) (sym j.runs.frames.shape) f)

@@ -38,7 +38,7 @@ returns-in_err-list-clause-finds g c =
     of_error (λ (k : Result Ordered AigStop). OrdersTo q x x s
     (seen g.D.Device.state c.merge_graph.new.rig) c.args.graph k) _ _ c.from_residual.ensures.1
     (merged_none q x c.args.graph (laws.blocks_most x s r.queue)
-    (unstored_frames (laws.unstored_most x s r.queue) (laws.out x s has) r.sound)
+    (unstored_frames (laws.unstored_most x s r.queue) (laws.out x s has) r.sound) (laws.fits x s has)
     c.in_err-list.ensures.merges)
 
 pub find_all-requires-clause-is : goal.find_all-requires-clause-is

@@ -1,10 +1,10 @@
-use Rattle.std.proofs.Common.{◌≡◌, ◌≢◌, ℕ, Result, arith, subst, sym}
+use Rattle.std.proofs.Common.{◌≡◌, ◌≢◌, ◌+◌, ℕ, Result, arith, subst, sym}
 use Rattle.em_space.specs.Seen.{seen}
 use Rattle.em_space.specs.declared.fault.EmFault.{EmFault}
 use Rattle.aig_edges.proofs.Looks.{of_fault}
 use Rattle.aig_order.specs.declared.passing.Found.{Found}
 use Rattle.aig_order.specs.Findings.{FindsAll, FindsTo}
-use Rattle.aig_order.proofs.Finds.{finds_all, finds_end, finds_stop, passed_can, passed_fits, passed_next, passed_none}
+use Rattle.aig_order.proofs.Finds.{finds_all, finds_end, finds_stop, finds_whole, passed_can, passed_fits, passed_next, passed_none}
 use Rattle.aig_order.proofs.passing.find_all.Goals as goal
 
 pub loop-init : goal.loop-init
@@ -103,3 +103,30 @@ returns-clause-finds g c =
 
 pub returns-clause-frames : goal.returns-clause-frames
 returns-clause-frames g c = g.met.Q.Queue.frames_of c.loop.queue _ c.loop.invariant.queue
+
+pub returns-then-next-end-clause-finds : goal.returns-then-next-end-clause-finds
+returns-then-next-end-clause-finds g c =
+    let x = c.args.queue.now in
+    let z = c.sweep_twice.new.queue in
+    let s = seen g.D.Device.state c.args.rig.now in
+    let u = seen g.D.Device.state c.sweep_twice.new.rig in
+    let other = c.if-swept-next.false in
+    let next : c.in_ok-swept.swept.next ≢ c.loop.next = λ same. absurd (omega (arith, same, other)) in
+    let passed = passed_next g.Q.Queue c.args.header.now c.args.list c.loop.counter c.loop.next x
+    c.loop.queue z c.loop.list c.in_ok-swept.swept c.requires.can c.loop.invariant.passed
+    (rw c.len.ensures at c.in_ok-swept.ensures.sweeps) next in
+    let last = c.if-next-end.true in
+    let all : FindsAll g.Q.Queue c.args.header.now x z c.args.list (record {
+      list = c.in_ok-swept.swept.list;
+      passes = c.loop.counter + 1;
+      next = c.in_ok-swept.swept.next;
+    }) s u =
+    finds_whole g.Q.Queue c.args.header.now c.args.list (c.loop.counter + 1)
+    c.in_ok-swept.swept.next x z c.in_ok-swept.swept.list (omega (arith, c.loop-test.true))
+    (omega (arith, last)) passed in
+    let count : c.loop.counter + 1 ≡ c.loop.passes + 1 = omega (arith, c.loop.invariant.passes) in
+    subst (λ (n : ℕ). FindsAll g.Q.Queue c.args.header.now x z c.args.list (record {
+      list = c.in_ok-swept.swept.list;
+      passes = n;
+      next = c.in_ok-swept.swept.next;
+    }) s u) count all

@@ -1,6 +1,6 @@
 use Rattle.std.proofs.Common.{ℕ, List, Result, length, ap, arith, sym, ◌∙◌}
 use Rattle.em_record.specs.declared.record.Record.{Record}
-use Rattle.em_space.specs.Rig.{Cause}
+use Rattle.em_space.specs.Rig.{BlockCause}
 use Rattle.em_space.specs.Seen.{seen}
 use Rattle.em_space.specs.declared.fault.EmFault.{EmFault}
 use Rattle.em_space.specs.declared.fault.EmFault.TheVariants.{Damaged}
@@ -145,7 +145,7 @@ returns-then-len-ne0-clause-sweeps g c =
     let told = f.meets.told in
     let some = c.if-len-ne0.true in
     let len = c.len.ensures in
-    let cause : Cause s u (Damaged 0) = (
+    let cause : BlockCause s u (Damaged 0) = (
       untold_by u.device.told (λ d.
           let now = sym next.meets.told ∙ d in
           let old = sym told ∙ now in

@@ -59,7 +59,7 @@ returns-in_err-put_both-clause-meets g c =
     (meet_refused g.Q.Queue h c.args.sweep c.args.number c.args.item x y c.args.standing w notes
     c.requires.can e.passes (laws.blocks_most y t e.queue)
     (unstored_frames (laws.unstored_most y t e.queue) (laws.out y t e.frames)
-    e.passes.runs.runs.session.sound) puts)
+    e.passes.runs.runs.session.sound) (laws.fits y t e.frames) puts)
 
 pub returns-clause-frames : goal.returns-clause-frames
 returns-clause-frames g c =

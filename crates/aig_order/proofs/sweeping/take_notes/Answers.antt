@@ -26,7 +26,7 @@ returns-in_err-pop-2-clause-takes g c =
     let k = c.in_err-pop-2.ensures in
     of_fault (λ (r : Result (Record × Record) EmFault). TakesTo g.Q.Queue x c.pop-2.new.self s
     (seen g.D.Device.state c.pop-2.new.rig) r) _ _ c.from_residual-in_err-pop-2.ensures.1
-    (take_refused g.Q.Queue x y c.pop-2.new.self one (refused k.serves k.owes k.cause))
+    (take_refused g.Q.Queue x y c.pop-2.new.self one (refused _ k.serves k.owes k.cause k.full))
 
 pub returns-clause-takes : goal.returns-clause-takes
 returns-clause-takes g c =

@@ -52,3 +52,21 @@ returns-clause-in_use g c =
           rw e1 (o.in_use.told y);
       untold = λ y. b;
     })
+
+pub returns-then-not-leads_to-clause-in_use : goal.returns-then-not-leads_to-clause-in_use
+returns-then-not-leads_to-clause-in_use g c =
+    let s = seen g.D.Device.state c.args.rig.now in
+    let m = seen g.D.Device.state c.lend-frame.new.self in
+    let u = seen g.D.Device.state c.load-loaded.new.self in
+    let t = seen g.D.Device.state c.give.new.self in
+    let b = c.requires.row.below in
+    in_use_kept [] s t c.args.block (touches_then [] s u t
+    (touches_then [] s m u c.lend-frame.ensures.touches c.load-loaded.ensures.goes.touches)
+    c.give.ensures.touches) (λ _. tt) (record {
+      told = λ y.
+          let o = row_head s (c.args.block + 1) c.args.left (c.requires.row.row_is y) in
+          let lk = o.link_is in
+          let e1 : c.args.block ≡ o.first = omega arith in
+          rw e1 (o.in_use.told y);
+      untold = λ y. b;
+    })

@@ -8,7 +8,7 @@ use Rattle.em_segment.proofs.BelowAnswers.{last_call, last_some}
 use Rattle.em_segment.proofs.BelowLists.{calls_length}
 use Rattle.em_segment.proofs.BelowRuns.{below_all, below_ends, below_err, below_next, below_none, last_by, last_taken}
 use Rattle.em_segment.proofs.CallAnswers.{below_can, call_held, discards_answer, node_by, strip_fewer, strips_some}
-use Rattle.em_segment.proofs.Chains.{chains_length}
+use Rattle.em_segment_parts.proofs.Chains.{chains_length}
 use Rattle.em_segment.proofs.answering.+answer.Goals as goal
 use Rattle.em_segment.proofs.answering.+answer.Goals.{answer-then-len-eq0-via-else-len-eq0+then-len-eq0-2, answer-then-len-eq0-via-then-len-eq0}
 

@@ -116,7 +116,7 @@ returns-in_err-points g c =
     let r = c.from_residual-in_err-points in
     let e = c.in_err-points.ensures in
     let all = sort_refused g.Q.Queue x c.order_points.new.queue r.result (laws_of g) c.requires.sound
-    c.requires.is c.requires.queue c.requires.can c.in_ok-pieces.ensures.closes e.sorts e.full r.ensures.1 in
+    c.requires.is c.requires.queue c.requires.can c.in_ok-pieces.ensures.closes e.sorts r.ensures.1 in
     record {
       frames = e.frames;
       queue = all.queue;
@@ -168,7 +168,7 @@ returns g c =
     let last = c.order_pairs.ensures in
     let all = last_sorted g.Q.Queue x y c.order_pairs.new.queue t c.order_pairs.result (laws_of g)
     c.requires.sound c.requires.is c.requires.can (laws.out x s (laws.frames_of x s c.requires.queue)) a
-    c.in_ok-pairs.ensures.reports last.sorts last.full last.queue in record {
+    c.in_ok-pairs.ensures.reports last.sorts last.queue in record {
       frames = last.frames;
       queue = all.queue;
       answers = all.answers;

@@ -1,6 +1,6 @@
 use Rattle.std.proofs.Common.{arith}
 use Rattle.em_segment.proofs.LeafWrites.{range_all, range_more, range_none, range_past, range_stop}
-use Rattle.em_segment.proofs.Writing.{pairs_is, writes_err}
+use Rattle.em_segment_parts.proofs.Writing.{pairs_is, writes_err}
 use Rattle.em_segment.proofs.leaf.add_piece.Goals as goal
 
 pub loop-k-init : goal.loop-k-init

@@ -1,8 +1,8 @@
 use Rattle.std.proofs.Common.{ap, sym, ◌∙◌, arith}
 use Rattle.em_frames.specs.Pool.{load_of}
-use Rattle.em_segment.proofs.Areas.{gives_area, lends_area}
+use Rattle.em_segment_parts.proofs.Areas.{gives_area, lends_area}
 use Rattle.em_segment.proofs.LeafAreas.{answers_go, call_by, call_lent}
-use Rattle.em_segment.proofs.StripAreas.{area_frame}
+use Rattle.em_segment_parts.proofs.StripAreas.{area_frame}
 use Rattle.em_segment.proofs.leaf.answer_leaf.Goals as goal
 
 pub leaf_by-done-requires-clause-call : goal.leaf_by-done-requires-clause-call

@@ -1,8 +1,8 @@
 use Rattle.std.proofs.Common.{List, ap, length, arith}
 use Rattle.em_segment_model.specs.Sizes.{fan_root}
 use Rattle.em_segment_model.specs.declared.strip.Span.{Span}
-use Rattle.em_segment.specs.declared.list.Listed.{Listed}
-use Rattle.em_segment.proofs.Chains.{chains_length}
+use Rattle.em_segment_parts.specs.declared.list.Listed.{Listed}
+use Rattle.em_segment_parts.proofs.Chains.{chains_length}
 use Rattle.em_segment.proofs.NodeBounds.{strips_reach}
 use Rattle.em_segment.proofs.NodeCalls.{listed_reports, listed_stops, node_err, node_few, node_listed, node_reportable}
 use Rattle.em_segment.proofs.NodeDone.{node_done}

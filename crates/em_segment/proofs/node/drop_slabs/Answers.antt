@@ -1,4 +1,4 @@
-use Rattle.em_segment.proofs.Dropping.{discard_stops, discards, drops_chain, drops_err, drops_next, drops_none, drops_stop}
+use Rattle.em_segment_parts.proofs.Dropping.{discard_stops, discards, drops_chain, drops_err, drops_next, drops_none, drops_stop}
 use Rattle.em_segment.proofs.node.drop_slabs.Goals as goal
 
 pub loop-last-init : goal.loop-last-init

@@ -1,6 +1,6 @@
 use Rattle.std.proofs.Common.{length}
 use Rattle.em_space.specs.Seen.{seen}
-use Rattle.em_segment.proofs.Dropping.{DropsSome}
+use Rattle.em_segment_parts.proofs.Dropping.{DropsSome}
 use Rattle.em_segment.proofs.node.drop_slabs.Given as goal
 
 abbrev pub invariant-loop-last : goal.invariant-loop-last

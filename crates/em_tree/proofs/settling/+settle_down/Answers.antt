@@ -1,7 +1,7 @@
 use Rattle.std.proofs.Common.{arith}
 use Rattle.em_space.specs.Seen.{seen}
 use Rattle.em_tree.proofs.DownLevels.{down_can, down_level, down_next, down_none, down_to}
-use Rattle.em_tree.proofs.SettledTrees.{can_after}
+use Rattle.em_trunk.proofs.Works.{can_after}
 use Rattle.em_tree.proofs.settling.+settle_down.Goals as goal
 
 pub returns-then-level-eq0 : goal.returns-then-level-eq0

@@ -1,5 +1,6 @@
 use Rattle.em_space.specs.Seen.{seen}
-use Rattle.em_tree.proofs.SettledTrees.{can_after, root_all, root_settles, root_stops}
+use Rattle.em_tree.proofs.SettledTrees.{root_all, root_settles, root_stops}
+use Rattle.em_trunk.proofs.Works.{can_after}
 use Rattle.em_tree.proofs.settling.settle_tree.Goals as goal
 
 pub returns-in_err-empty_root : goal.returns-in_err-empty_root

@@ -32,3 +32,9 @@ returns-in-None-clause-takes g c =
     let P : Option (Record × Chain) → Type 0 = λ o. Takes 0 (new_leaves o) s t
     c.store_kept.result in
     subst P (sym c.in-None.is) c.store_kept.ensures.takes
+
+pub returns-in-Some-clause-peaks : goal.returns-in-Some-clause-peaks
+returns-in-Some-clause-peaks g c = c.store_parts.ensures.peaks
+
+pub returns-in-None-clause-peaks : goal.returns-in-None-clause-peaks
+returns-in-None-clause-peaks g c = c.store_kept.ensures.peaks

@@ -3,6 +3,7 @@ use Rattle.em_space.specs.Seen.{seen}
 use Rattle.em_space.proofs.Ledgers.{full_never}
 use Rattle.em_tree_load.proofs.LoadRooms.{takes_of}
 use Rattle.em_tree_load.proofs.Changed.{changes_of, kept_leaf, leaf_in_use, leaf_unstored, node_unstored}
+use Rattle.em_tree_load.proofs.Peaks.{peaks_same, peaks_then}
 use Rattle.em_tree_load.proofs.changing.store_kept.Goals as goal
 
 pub store_leaf-requires-clause-sound : goal.store_leaf-requires-clause-sound
@@ -56,3 +57,17 @@ returns-clause-takes g c =
     let a = c.in_ok-store_rest.ensures.stores.moves.same.used in
     let b = c.in_ok-store_leaf.ensures.moves.same.used in
     omega (arith, a, b)
+
+pub returns-in_err-store_rest-clause-peaks : goal.returns-in_err-store_rest-clause-peaks
+returns-in_err-store_rest-clause-peaks g c =
+    peaks_same 1 c.in_err-store_rest.ensures.stores.moves.same
+
+pub returns-in_err-store_leaf-clause-peaks : goal.returns-in_err-store_leaf-clause-peaks
+returns-in_err-store_leaf-clause-peaks g c =
+    peaks_then 1 (peaks_same 0 c.in_ok-store_rest.ensures.stores.moves.same)
+    (peaks_same 1 c.in_err-store_leaf.ensures.moves.same) (omega arith)
+
+pub returns-clause-peaks : goal.returns-clause-peaks
+returns-clause-peaks g c =
+    peaks_then 1 (peaks_same 0 c.in_ok-store_rest.ensures.stores.moves.same)
+    (peaks_same 1 c.in_ok-store_leaf.ensures.moves.same) (omega arith)

@@ -12,9 +12,9 @@ returns-in_err-store_leaf g c =
     let o = c.in_ok-block.ensures in
     new_of _ _ _ c.from_residual-in_err-store_leaf.result _
     c.from_residual-in_err-store_leaf.ensures.1
-    (new_stops o.goes o.given o.moves o.owes c.in_err-store_leaf.ensures)
+    (new_stops o.goes o.given o.moves o.owes o.most c.in_err-store_leaf.ensures)
 
 pub returns : goal.returns
 returns g c =
     let o = c.in_ok-block.ensures in
-    new_stored o.goes o.given o.moves o.owes c.args.stored.now c.in_ok-store_leaf.ensures
+    new_stored o.goes o.given o.moves o.owes o.most c.args.stored.now c.in_ok-store_leaf.ensures

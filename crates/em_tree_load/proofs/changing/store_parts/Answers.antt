@@ -6,6 +6,7 @@ use Rattle.std.proofs.lemmas.Bool.{false≢true}
 use Rattle.em_record.specs.Shape.{ShapeNumbers}
 use Rattle.em_tree_load.proofs.Alterations.{room_later}
 use Rattle.em_tree_load.proofs.Changed.{changes_of, last_unstored, leaf_in_use_after, new_unstored, node_in_use, node_later, parted_leaf, two_unstored, unfollowed}
+use Rattle.em_tree_load.proofs.Peaks.{peaks_same, peaks_then}
 use Rattle.em_tree_load.proofs.changing.store_parts.Goals as goal
 
 pub store_two-requires-clause-sound : goal.store_two-requires-clause-sound
@@ -117,3 +118,27 @@ returns-clause-takes g c =
     let b = c.in_ok-store_two.ensures.stores.moves.same.used in
     let d = c.in_ok-store_leaf.ensures.moves.same.used in
     omega (arith, a, b, d)
+
+pub returns-then-not-can_follow-clause-peaks : goal.returns-then-not-can_follow-clause-peaks
+returns-then-not-can_follow-clause-peaks g c =
+    record { used = omega arith; most = omega arith }
+
+pub returns-in_err-block-clause-peaks : goal.returns-in_err-block-clause-peaks
+returns-in_err-block-clause-peaks g c = c.in_err-block.ensures.peaks
+
+pub returns-in_err-store_two-clause-peaks : goal.returns-in_err-store_two-clause-peaks
+returns-in_err-store_two-clause-peaks g c =
+    peaks_then 1 c.in_ok-block.ensures.peaks
+    (peaks_same 0 c.in_err-store_two.ensures.stores.moves.same) (omega arith)
+
+pub returns-in_err-store_leaf-clause-peaks : goal.returns-in_err-store_leaf-clause-peaks
+returns-in_err-store_leaf-clause-peaks g c =
+    peaks_then 1 (peaks_then 1 c.in_ok-block.ensures.peaks
+    (peaks_same 0 c.in_ok-store_two.ensures.stores.moves.same) (omega arith))
+    (peaks_same 0 c.in_err-store_leaf.ensures.moves.same) (omega arith)
+
+pub returns-clause-peaks : goal.returns-clause-peaks
+returns-clause-peaks g c =
+    peaks_then 1 (peaks_then 1 c.in_ok-block.ensures.peaks
+    (peaks_same 0 c.in_ok-store_two.ensures.stores.moves.same) (omega arith))
+    (peaks_same 0 c.in_ok-store_leaf.ensures.moves.same) (omega arith)

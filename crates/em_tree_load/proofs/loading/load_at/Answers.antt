@@ -1,4 +1,4 @@
-use Rattle.std.proofs.Common.{◌<◌, ◌≤◌, IsTrue, ap, arith, subst, sym, ◌∙◌}
+use Rattle.std.proofs.Common.{◌+◌, ◌<◌, ◌≤◌, IsTrue, length, ap, arith, subst, sym, ◌∙◌}
 use Rattle.em_record.specs.Shape.{ShapeNumbers}
 use Rattle.em_frames.specs.Pool.{load_of, singles_of}
 use Rattle.em_space.specs.Rig.{RigState, Sound}
@@ -9,6 +9,10 @@ use Rattle.em_tree_load.specs.LoadRoom.{TakesHere}
 use Rattle.em_tree_load.specs.NodeLoads.{LoadsHereTo}
 use Rattle.em_tree_load.proofs.NodeFrames.{can_lent, given_both, here_sound, lent_both, loaded_back, writer_back}
 use Rattle.em_tree_load.proofs.LoadTaken.{here_back}
+use Rattle.em_leaf.specs.Effects.{loading_room}
+use Rattle.em_tree_load.specs.LeafLoads.{taken_of, waiting_over}
+use Rattle.em_tree_load.specs.Peaks.{Peaks}
+use Rattle.em_tree_load.proofs.LoadPeaks.{peaks_back}
 use Rattle.em_tree_load.proofs.loading.load_at.Goals as goal
 
 pub lend_area-area-requires-clause-free : goal.lend_area-area-requires-clause-free
@@ -134,3 +138,15 @@ returns-clause-takes g c =
     c.args.at w c.load_in-loaded.result in
     subst Q (sym u) (λ z. here_back key step s t c.args.node c.args.at w c.load_in-loaded.result
     (subst P e c.load_in-loaded.ensures.takes z))
+
+pub returns-clause-peaks : goal.returns-clause-peaks
+returns-clause-peaks g c =
+    let s = seen g.D.Device.state c.args.rig.now in
+    let t = seen g.D.Device.state c.load_in-loaded.new.rig in
+    let e = lent_both s c.lend-frame.ensures.lent c.lend_area-area.ensures.lent in
+    let u = given_both t c.give_area.ensures.given c.give.ensures.given in
+    let P : RigState → Type 0 = λ r. IsTrue r.device.told → Peaks (loading_room r (taken_of r
+    (length (waiting_over r c.args.node c.args.at))) + 1) r t in
+    let Q : RigState → Type 0 = λ r. IsTrue s.device.told → Peaks (loading_room s (taken_of s
+    (length (waiting_over s c.args.node c.args.at))) + 1) s r in
+    subst Q (sym u) (λ z. peaks_back c.args.node c.args.at (subst P e c.load_in-loaded.ensures.peaks z))

@@ -1,4 +1,4 @@
-use Rattle.std.proofs.Common.{ℕ, ◌<◌, ◌*◌, length, ap, arith, subst, sym, ◌∙◌, Err, Ok}
+use Rattle.std.proofs.Common.{ℕ, ◌+◌, ◌<◌, ◌*◌, length, ap, arith, subst, sym, ◌∙◌, Err, Ok}
 use Rattle.std.proofs.lemmas.Bool.{false≢true}
 use Rattle.em_record.specs.Shape.{ShapeNumbers, fan_of}
 use Rattle.em_frames.specs.Pool.{load_of}
@@ -13,6 +13,10 @@ use Rattle.em_tree_load.proofs.NodeStops.{can_change, can_settle, frames_changed
 use Rattle.em_space.proofs.Ledgers.{full_never}
 use Rattle.em_tree_load.specs.LoadRoom.{LacksLoad}
 use Rattle.em_tree_load.proofs.LoadTaken.{changed_takes, here_stops, settling_lacks, took_settling}
+use Rattle.em_leaf.specs.Effects.{loading_room}
+use Rattle.em_tree_load.specs.LeafLoads.{taken_of, waiting_over}
+use Rattle.em_tree_load.proofs.LoadPeaks.{here_peaks, stored_peaks}
+use Rattle.em_tree_load.proofs.Peaks.{peaks_same, peaks_wider}
 use Rattle.em_tree_load.proofs.loading.load_in.Goals as goal
 
 pub load_node-requires-clause-leads : goal.load_node-requires-clause-leads
@@ -216,3 +220,33 @@ returns-clause-takes g c z =
     (seen g.D.Device.state c.store_change.new.rig) (entries_of c.load_node.new.frame) _
     c.store_change.result
     c.store_change.ensures.changes c.store_change.ensures.takes
+
+pub returns-in_err-load_node-clause-peaks : goal.returns-in_err-load_node-clause-peaks
+returns-in_err-load_node-clause-peaks g c z =
+    let s = seen g.D.Device.state c.args.rig.now in
+    peaks_same (loading_room s (taken_of s (length (waiting_over s c.args.node c.args.at))) + 1)
+    c.in_err-load_node.ensures.reads.stops.reads.same
+
+pub returns-then-not-has_room_at-clause-peaks : goal.returns-then-not-has_room_at-clause-peaks
+returns-then-not-has_room_at-clause-peaks g c z =
+    let s = seen g.D.Device.state c.args.rig.now in
+    peaks_same (loading_room s (taken_of s (length (waiting_over s c.args.node c.args.at))) + 1)
+    c.in_ok-load_node.ensures.reads.reads.same
+
+pub returns-in_err-settled-clause-peaks : goal.returns-in_err-settled-clause-peaks
+returns-in_err-settled-clause-peaks g c z =
+    let s = seen g.D.Device.state c.args.rig.now in
+    let x = c.in_ok-load_node.ensures.reads in
+    let one = (c.has_room_at.ensures.0 c.if-not-has_room_at.false).0 in
+    let buffer = c.buffer_of-buffer.ensures ∙ ap buffer_of c.entry_at-entry.ensures in
+    peaks_wider (loading_room s (taken_of s (length (waiting_over s c.args.node c.args.at))) + 1)
+    (omega arith) (here_peaks c.requires.sound c.requires.can x one c.child_in-leaf.ensures buffer
+    (g.S.Settle.step_of c.args.settle.now) z c.in_err-settled.ensures.peaks)
+
+pub returns-clause-peaks : goal.returns-clause-peaks
+returns-clause-peaks g c z =
+    let x = c.in_ok-load_node.ensures.reads in
+    let one = (c.has_room_at.ensures.0 c.if-not-has_room_at.false).0 in
+    let buffer = c.buffer_of-buffer.ensures ∙ ap buffer_of c.entry_at-entry.ensures in
+    stored_peaks c.requires.sound c.requires.can x one c.child_in-leaf.ensures buffer
+    (g.S.Settle.step_of c.args.settle.now) z c.in_ok-settled.ensures.peaks c.store_change.ensures.peaks

@@ -6,6 +6,7 @@ use Rattle.em_tree_load.specs.declared.changing.Split.{Split}
 use Rattle.em_tree_load.proofs.PouredLoads.{loaded_cut, loaded_poured, loaded_whole, pouring_stops, rest_pours, stops_of}
 use Rattle.em_tree_load.specs.LoadRoom.{TakesHere}
 use Rattle.em_tree_load.proofs.LoadTaken.{here_loading, need_never, need_pours, ok_never, pour_never, room_never, room_pours}
+use Rattle.em_tree_load.proofs.LoadPeaks.{poured_peaks, whole_peaks}
 use Rattle.em_tree_load.proofs.loading.load_leaf.Goals as goal
 
 pub returns-in-None-clause-loads : goal.returns-in-None-clause-loads
@@ -14,7 +15,8 @@ returns-in-None-clause-loads g c =
     (g.S.Settle.step_of c.args.settle.now) (seen g.D.Device.state c.args.rig.now)
     (seen g.D.Device.state c.load_at.new.rig) c.args.node c.args.at c.args.answers.now
     c.load_at.new.answers o in
-    loaded_whole (subst P c.in-None.is c.in_ok-split.ensures.loads)
+    loaded_whole (λ z. whole_peaks c.args.node c.args.at (c.in_ok-split.ensures.peaks z))
+    (subst P c.in-None.is c.in_ok-split.ensures.loads)
 
 pub returns-then-len-eq0-clause-loads : goal.returns-then-len-eq0-clause-loads
 returns-then-len-eq0-clause-loads g c =
@@ -24,7 +26,8 @@ returns-then-len-eq0-clause-loads g c =
     c.load_at.new.answers o in
     let none = c.len.ensures in
     let test = c.if-len-eq0.true in
-    loaded_cut (subst P c.in-Some.is c.in_ok-split.ensures.loads) (omega (arith, none, test))
+    loaded_cut (subst P c.in-Some.is c.in_ok-split.ensures.loads)
+    (λ z. whole_peaks c.args.node c.args.at (c.in_ok-split.ensures.peaks z)) (omega (arith, none, test))
 
 pub empty_node-requires-clause-can : goal.empty_node-requires-clause-can
 empty_node-requires-clause-can g c =
@@ -41,10 +44,16 @@ returns-in_err-empty_node-clause-loads g c =
     (g.S.Settle.step_of c.args.settle.now) (seen g.D.Device.state c.args.rig.now)
     (seen g.D.Device.state c.load_at.new.rig) c.args.node c.args.at c.args.answers.now
     c.load_at.new.answers o in
+    let s = seen g.D.Device.state c.args.rig.now in
+    let t = seen g.D.Device.state c.load_at.new.rig in
+    let Q : Option Split → Type 0 = λ o. TakesHere (g.S.Settle.key_of c.args.settle.now)
+    (g.S.Settle.step_of c.args.settle.now) s t c.args.node c.args.at c.args.answers.now (Ok o) in
+    let h = subst P c.in-Some.is c.in_ok-split.ensures.loads in
     let e = c.in_err-empty_node.ensures in
     stops_of _ _ _ _ _ _ _ _ c.from_residual-in_err-empty_node.result
     c.in_err-empty_node.field-0.0 c.from_residual-in_err-empty_node.ensures.1
-    (pouring_stops (subst P c.in-Some.is c.in_ok-split.ensures.loads) e.leaves e.costs e.cause)
+    (pouring_stops h (λ z. poured_peaks h (subst Q c.in-Some.is (c.in_ok-split.ensures.takes z)) z
+    (c.in_ok-split.ensures.peaks z) e.costs) e.leaves e.costs e.cause)
 
 pub returns-clause-loads : goal.returns-clause-loads
 returns-clause-loads g c =
@@ -52,6 +61,11 @@ returns-clause-loads g c =
     (g.S.Settle.step_of c.args.settle.now) (seen g.D.Device.state c.args.rig.now)
     (seen g.D.Device.state c.load_at.new.rig) c.args.node c.args.at c.args.answers.now
     c.load_at.new.answers o in
+    let s = seen g.D.Device.state c.args.rig.now in
+    let t = seen g.D.Device.state c.load_at.new.rig in
+    let Q : Option Split → Type 0 = λ o. TakesHere (g.S.Settle.key_of c.args.settle.now)
+    (g.S.Settle.step_of c.args.settle.now) s t c.args.node c.args.at c.args.answers.now (Ok o) in
+    let h = subst P c.in-Some.is c.in_ok-split.ensures.loads in
     let e = c.in_ok-empty_node.ensures in
     let done : EmptiedAt (g.S.Settle.key_of c.args.settle.now)
     (seen g.D.Device.state c.load_at.new.rig) (seen g.D.Device.state c.empty_node.new.rig)
@@ -62,7 +76,8 @@ returns-clause-loads g c =
       costs = e.costs;
       frees = e.frees;
     } in
-    loaded_poured (subst P c.in-Some.is c.in_ok-split.ensures.loads) done
+    loaded_poured h done (λ z. poured_peaks h (subst Q c.in-Some.is (c.in_ok-split.ensures.takes z)) z
+    (c.in_ok-split.ensures.peaks z) e.costs)
 
 pub returns-in_err-split-clause-complete : goal.returns-in_err-split-clause-complete
 returns-in_err-split-clause-complete g c l z r = ok_never c.from_residual.result
@@ -129,4 +144,5 @@ returns-clause-enough g c l z r = refl
 pub returns-in_err-split-clause-loads : goal.returns-in_err-split-clause-loads
 returns-in_err-split-clause-loads g c =
     stops_of _ _ _ _ _ _ _ _ c.from_residual.result c.in_err-split.field-0.0
-    c.from_residual.ensures.1 (here_loading c.in_err-split.ensures.loads)
+    c.from_residual.ensures.1 (here_loading
+    (λ z. whole_peaks c.args.node c.args.at (c.in_err-split.ensures.peaks z)) c.in_err-split.ensures.loads)

@@ -8,7 +8,11 @@ use Rattle.em_space.specs.Seen.{seen}
 use Rattle.em_space.proofs.Ledgers.{full_never}
 use Rattle.em_tree_blocks.specs.Reading.{stored_chain}
 use Rattle.em_tree_load.proofs.LoadRooms.{settling_from, settling_never}
+use Rattle.em_leaf.specs.Effects.{loading_room}
+use Rattle.em_tree_load.proofs.LoadPeaks.{settling_peaks}
+use Rattle.em_tree_load.proofs.Peaks.{peaks_same}
 use Rattle.em_tree_load.proofs.settling.settle_leaf.Goals as goal
+use Rattle.em_tree_load.specs.LeafSettles.{load_count}
 
 pub returns-then-not-can_grow-clause-settles : goal.returns-then-not-can_grow-clause-settles
 returns-then-not-can_grow-clause-settles g c =
@@ -82,3 +86,16 @@ returns-clause-takes g c =
     (read_items can.buffer_is can.writer can.told o.reads o.is (λ z. (can.leads.told z).is.stored))
     (read_buffer can.buffer_is can.writer can.told o.reads o.is
     (λ z. (can.leads.told z).is.stored)).items c.settle_stored.ensures.takes
+
+pub returns-then-not-can_grow-clause-peaks : goal.returns-then-not-can_grow-clause-peaks
+returns-then-not-can_grow-clause-peaks g c =
+    record { used = omega arith; most = omega arith }
+
+pub returns-in_err-stored-clause-peaks : goal.returns-in_err-stored-clause-peaks
+returns-in_err-stored-clause-peaks g c =
+    let s = seen g.D.Device.state c.args.rig.now in
+    peaks_same (loading_room s (load_count s c.args.buffer)) c.in_err-stored.ensures.stops.reads.same
+
+pub returns-clause-peaks : goal.returns-clause-peaks
+returns-clause-peaks g c =
+    settling_peaks c.args.buffer c.in_ok-stored.ensures.reads c.settle_stored.ensures.peaks

@@ -2,6 +2,10 @@ use Rattle.std.proofs.Common.{arith, ◌∙◌}
 use Rattle.em_tree_load.proofs.FirstSettles.{filled_can, filling_frame, filling_stops, settled_first, settled_stops, settles_of}
 use Rattle.em_space.specs.Seen.{seen}
 use Rattle.em_tree_load.proofs.LoadRooms.{applied_stops, applied_takes, settling_never}
+use Rattle.em_leaf.specs.Effects.{loading_room}
+use Rattle.em_tree_load.specs.LeafSettles.{load_count}
+use Rattle.em_tree_load.proofs.LoadPeaks.{load_peaks, load_stops}
+use Rattle.em_tree_load.proofs.Peaks.{peaks_wider}
 use Rattle.em_tree_load.proofs.settling.settle_stored.Goals as goal
 
 pub apply_load-requires-clause-can : goal.apply_load-requires-clause-can
@@ -66,3 +70,22 @@ returns-clause-takes g c =
     c.requires.sound c.requires.can c.in_ok-rest.ensures.fills c.in_ok-rest.ensures.takes
     c.requires.count (omega (arith, c.requires.count, c.fill_area.ensures.len, c.requires.room))
     c.in_ok-change.change _ o.runs o.settles o.leaves o.answers
+
+pub returns-in_err-rest-clause-peaks : goal.returns-in_err-rest-clause-peaks
+returns-in_err-rest-clause-peaks g c =
+    let s = seen g.D.Device.state c.args.rig.now in
+    peaks_wider (loading_room s (load_count s c.args.buffer)) (omega arith)
+    c.in_err-rest.ensures.peaks
+
+pub returns-in_err-change-clause-peaks : goal.returns-in_err-change-clause-peaks
+returns-in_err-change-clause-peaks g c =
+    load_stops c.args.buffer c.args.answers.now c.args.stored c.in_ok-rest.ensures.peaks
+    c.in_ok-rest.ensures.fills.runs.session.touches.shape c.requires.count
+    c.in_err-change.ensures.runs.halts
+
+pub returns-clause-peaks : goal.returns-clause-peaks
+returns-clause-peaks g c =
+    load_peaks c.args.buffer c.apply_load.new.answers c.args.answers.now c.args.stored c.in_ok-change.change
+    c.in_ok-rest.ensures.peaks
+    c.in_ok-rest.ensures.fills.runs.session.touches.shape c.requires.count
+    c.in_ok-change.ensures.runs.spends

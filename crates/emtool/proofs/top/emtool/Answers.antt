@@ -1,5 +1,5 @@
 use Rattle.std.proofs.Common.{rules}
-use Rattle.emtool.specs.Due.{names_on}
+use Rattle.em_run.specs.Due.{names_on}
 use Rattle.emtool.proofs.TopLaws.{answers_end, complete_end, due_end, full_end, moves_end}
 use Rattle.emtool.proofs.top.emtool.Goals as goal
 use Rattle.emtool.proofs.top.emtool.Goals.{in-Ok, in-Err}

@@ -1,5 +1,5 @@
 use Rattle.std.proofs.Common.{refl, rules}
-use Rattle.emtool.proofs.EndLaws.{unmoved_memory}
+use Rattle.em_ends.proofs.EndLaws.{unmoved_memory}
 use Rattle.emtool.proofs.TopLaws.{job_run, leaves_no_memory}
 use Rattle.emtool.proofs.top.run_job.Goals as goal
 

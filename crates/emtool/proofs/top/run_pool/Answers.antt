@@ -1,7 +1,7 @@
 use Rattle.std.proofs.Common.{ap, refl, rules}
 use Rattle.em_frames.specs.Pool.{PoolCounts}
 use Rattle.em_space.specs.Seen.{seen}
-use Rattle.emtool.proofs.EndLaws.{unmoved_device, unmoved_memory}
+use Rattle.em_ends.proofs.EndLaws.{unmoved_device, unmoved_memory}
 use Rattle.emtool.proofs.TopLaws.{job_run, leaves_no_memory, leaves_unbegun, opened_run}
 use Rattle.emtool.proofs.top.run_pool.Goals as goal
 

@@ -1,6 +1,7 @@
 use Rattle.em_space.specs.Seen.{seen}
 use Rattle.em_map.proofs.Batches.{batch_costs, finishes_batch}
 use Rattle.em_map.proofs.batch.Batch.finish.Goals as goal
+use Rattle.em_map.proofs.Rooms.{longest_few, over_more, within_more}
 
 pub returns-clause-finishes : goal.returns-clause-finishes
 returns-clause-finishes g c =
@@ -11,3 +12,16 @@ returns-clause-finishes g c =
 pub returns-clause-costs : goal.returns-clause-costs
 returns-clause-costs g c =
     batch_costs c.args.self c.requires.sound c.requires.is c.finish.ensures.costs
+
+pub returns-clause-room : goal.returns-clause-room
+returns-clause-room g c = λ told.
+    let b = c.args.self in
+    within_more b.tree.trunk.longest b.calls
+    (longest_few (seen g.D.Device.state c.args.rig.now) b c.requires.is) (c.finish.ensures.room told)
+
+pub returns-clause-over : goal.returns-clause-over
+returns-clause-over g c =
+    let b = c.args.self in
+    let s = seen g.D.Device.state c.args.rig.now in
+    over_more s b.tree.trunk c.finish.result b.tree.trunk.longest b.calls (longest_few s b c.requires.is)
+    c.finish.ensures.over

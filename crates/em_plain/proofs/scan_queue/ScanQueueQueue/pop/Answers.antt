@@ -1,6 +1,6 @@
 use Rattle.std.proofs.Common.{◌+◌, ◌-◌, arith}
 use Rattle.em_space.specs.Seen.{seen}
-use Rattle.em_plain.proofs.Calls.{called, frames_after, settled_frames, taken_is}
+use Rattle.em_plain.proofs.Calls.{called, frames_after, settled_frames, taken_is, taken_served}
 use Rattle.em_plain.proofs.scan_queue.ScanQueueQueue.pop.Goals as goal
 
 pub returns-in_err-item-clause-frames : goal.returns-in_err-item-clause-frames
@@ -42,3 +42,11 @@ returns-clause-is g c =
     let takes = rw c.count_call.ensures at c.in_ok-item.ensures.takes in
     rw (c.settle.ensures, c.count_call.ensures) (taken_is s t q v c.in_ok-item.item _
     c.requires.sound goes.sound c.requires.is frames goes.touches.shape takes)
+
+pub returns-clause-served : goal.returns-clause-served
+returns-clause-served g c =
+    let s = seen g.D.Device.state c.args.rig.now in
+    let t = seen g.D.Device.state c.take_least-taken.new.rig in
+    let takes = rw c.count_call.ensures at c.in_ok-item.ensures.takes in
+    rw (c.settle.ensures, c.count_call.ensures) (taken_served s t c.args.self.now
+    c.take_least-taken.new.list c.in_ok-item.item _ takes)

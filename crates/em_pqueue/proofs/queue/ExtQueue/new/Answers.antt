@@ -19,5 +19,5 @@ returns-clause-makes g c =
       longest = refl;
       since = refl;
       blocks = omega (arith, c.used.ensures, c.used-used.ensures);
-      most = (let b = a.touches.blocks in omega (arith, c.blocks-2.ensures, b));
+      most = refl;
     })

@@ -22,10 +22,11 @@ returns-in_err-push g c =
     let w : ExtQueue = record c.args.self.now { tree = c.push.new.self } in
     of_err (λ (r : Result (Unit {0}) EmFault). PushesDown c.args.item s t c.args.self.now w r) _ _
     c.from_residual.ensures.1 (push_refused s t c.args.self.now w c.in_err-push.field-0.0
-    c.in_err-push.ensures.pushes c.in_err-push.ensures.counts refl)
+    c.in_err-push.ensures.pushes c.in_err-push.ensures.counts refl c.requires.sound c.requires.tree
+    c.in_err-push.ensures.room c.in_err-push.ensures.over)
 
 pub returns : goal.returns
 returns g c =
     pushed_one (seen g.D.Device.state c.args.rig.now) (seen g.D.Device.state c.push.new.rig)
     c.args.self.now _ c.args.item c.requires.tree c.requires.lacks c.in_ok-push.ensures.pushes
-    c.in_ok-push.ensures.counts refl
+    c.in_ok-push.ensures.counts refl c.requires.sound c.in_ok-push.ensures.room

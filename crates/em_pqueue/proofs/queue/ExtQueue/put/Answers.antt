@@ -1,52 +1,37 @@
-use Rattle.std.proofs.Common.{◌≡◌, arith, inl, inr, sym, subst, ◌∙◌, IsTrue, List}
-use Rattle.em_record.specs.Order.{Lacks}
-use Rattle.em_record.specs.declared.record.Record.{Record}
+use Rattle.std.proofs.Common.{arith}
 use Rattle.em_space.specs.Seen.{seen}
-use Rattle.em_pqueue.specs.ExtQueue.{GivesDown, GoesDown}
-use Rattle.em_pqueue.proofs.Puts.{put_after}
-use Rattle.em_pqueue.proofs.Working.{on_err, on_err_so}
+use Rattle.em_pqueue.proofs.Notes.{notes_as}
+use Rattle.em_pqueue.proofs.Puts.{puts_kept, puts_later}
 use Rattle.em_pqueue.proofs.queue.ExtQueue.put.Goals as goal
 
-pub put_beside-requires-2-clause-lacks : goal.put_beside-requires-2-clause-lacks
-put_beside-requires-2-clause-lacks g c = λ told.
-    let m = c.in_ok-spill.ensures.0 in
+pub note_most-requires-clause-within : goal.note_most-requires-clause-within
+note_most-requires-clause-within g c =
+    let n = c.requires.sound.numbers.used_most in omega (arith, n, c.used-used.ensures, c.most-most.ensures)
+
+pub note_most-requires-clause-later : goal.note_most-requires-clause-later
+note_most-requires-clause-later g c =
     let s = seen g.D.Device.state c.args.rig.now in
-    let back : IsTrue s.device.told = sym m.works.session.touches.told ∙ told in
-    let P : List Record → Type 0 = Lacks c.args.item in
-    subst P (sym (m.items back)) (c.requires.lacks back)
+    let t = seen g.D.Device.state c.put_in-done.new.rig in
+    let l = puts_later s t c.args.self.now c.put_in-done.new.self c.args.item c.put_in-done.result c.put_in-done.ensures.puts in
+    omega (arith, l, c.most-most.ensures)
 
 pub returns-clause-puts : goal.returns-clause-puts
-returns-clause-puts g c =
-    put_after (seen g.D.Device.state c.args.rig.now) (seen g.D.Device.state c.spill.new.rig)
-    (seen g.D.Device.state c.put_beside-2.new.rig) c.args.self.now c.spill.new.self
-    c.put_beside-2.new.self c.args.item c.put_beside-2.result c.in_ok-spill.ensures.0
-    c.put_beside-2.ensures.puts
+returns-clause-puts g c = record {
+  mid = c.put_in-done.new.self;
+  done = c.put_in-done.ensures.puts;
+  notes = notes_as (seen g.D.Device.state c.put_in-done.new.rig) c.put_in-done.new.self c.note_most.new.self
+      c.used-used.ensures c.most-most.ensures c.note_most.ensures;
+}
 
-pub returns-then-goes_down-clause-needs : goal.returns-then-goes_down-clause-needs
-returns-then-goes_down-clause-needs g c =
-    on_err_so (GoesDown c.args.self.now c.args.item) (GivesDown c.args.self.now c.args.item)
-    c.put_beside.result inl c.put_beside.ensures.needs
+pub note_most-requires-clause-sound : goal.note_most-requires-clause-sound
+note_most-requires-clause-sound g c =
+    let s = seen g.D.Device.state c.args.rig.now in
+    let t = seen g.D.Device.state c.put_in-done.new.rig in
+    (puts_kept s t c.args.self.now c.put_in-done.new.self c.args.item c.put_in-done.result c.put_in-done.ensures.puts).0
 
-pub returns-clause-needs : goal.returns-clause-needs
-returns-clause-needs g c =
-    let full : c.args.self.now.heap.len ≡ c.args.self.now.heap.capacity =
-    omega (
-      arith,
-      c.if-len-capacity.false,
-      c.len.ensures.value,
-      c.len.ensures.within,
-      c.capacity.ensures,
-    ) in
-    on_err (GivesDown c.args.self.now c.args.item) c.put_beside-2.result (inr full)
-
-pub returns-clause-still : goal.returns-clause-still
-returns-clause-still g c = λ here.
-    let full : c.args.self.now.heap.len ≡ c.args.self.now.heap.capacity =
-    omega (
-      arith,
-      c.if-len-capacity.false,
-      c.len.ensures.value,
-      c.len.ensures.within,
-      c.capacity.ensures,
-    ) in
-    absurd (here (inr full))
+pub note_most-requires-clause-few : goal.note_most-requires-clause-few
+note_most-requires-clause-few g c =
+    let s = seen g.D.Device.state c.args.rig.now in
+    let t = seen g.D.Device.state c.put_in-done.new.rig in
+    let e = (puts_kept s t c.args.self.now c.put_in-done.new.self c.args.item c.put_in-done.result c.put_in-done.ensures.puts).1 in
+    omega (arith, e, c.requires.blocks)

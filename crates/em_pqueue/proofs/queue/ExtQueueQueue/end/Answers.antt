@@ -20,8 +20,9 @@ returns-in_err-answers-clause-ends g c =
     let t = seen g.D.Device.state c.finish.new.rig in
     let e = c.give_area.ensures in
     (end_unfinished s a c.args.self c.requires.is
-    (record { sound = e.sound; touches = e.touches; is = e.given }) t c.in_err-answers.field-0.0
-    c.in_err-answers.ensures.finishes c.in_err-answers.ensures.costs c.from_residual.result
+    (record { sound = e.sound; touches = e.touches; is = e.given }) t c.in_err-answers.ensures.room
+    c.in_err-answers.field-0.0 c.in_err-answers.ensures.finishes c.in_err-answers.ensures.costs
+    c.in_err-answers.ensures.over c.from_residual.result
     c.from_residual.ensures.1).ends
 
 pub returns-in_err-discard-clause-ends : goal.returns-in_err-discard-clause-ends
@@ -34,7 +35,7 @@ returns-in_err-discard-clause-ends g c =
     let f = c.in_ok-answers.ensures in
     let d = c.in_err-discard.ensures in
     (end_kept s a c.args.self c.requires.is
-    (record { sound = e.sound; touches = e.touches; is = e.given }) t u c.in_ok-answers.answers
+    (record { sound = e.sound; touches = e.touches; is = e.given }) t f.room u c.in_ok-answers.answers
     f.finishes f.costs d.goes c.in_err-discard.field-0.0 d.frees d.cause
     c.from_residual-in_err-discard.result c.from_residual-in_err-discard.ensures.1).ends
 
@@ -48,7 +49,7 @@ returns-in_err-discard-clause-owes g c =
     let f = c.in_ok-answers.ensures in
     let d = c.in_err-discard.ensures in
     (end_kept s a c.args.self c.requires.is
-    (record { sound = e.sound; touches = e.touches; is = e.given }) t u c.in_ok-answers.answers
+    (record { sound = e.sound; touches = e.touches; is = e.given }) t f.room u c.in_ok-answers.answers
     f.finishes f.costs d.goes c.in_err-discard.field-0.0 d.frees d.cause
     c.from_residual-in_err-discard.result c.from_residual-in_err-discard.ensures.1).owes
 
@@ -62,7 +63,7 @@ returns-in_err-discard-clause-full g c =
     let f = c.in_ok-answers.ensures in
     let d = c.in_err-discard.ensures in
     (end_kept s a c.args.self c.requires.is
-    (record { sound = e.sound; touches = e.touches; is = e.given }) t u c.in_ok-answers.answers
+    (record { sound = e.sound; touches = e.touches; is = e.given }) t f.room u c.in_ok-answers.answers
     f.finishes f.costs d.goes c.in_err-discard.field-0.0 d.frees d.cause
     c.from_residual-in_err-discard.result c.from_residual-in_err-discard.ensures.1).full
 
@@ -76,7 +77,7 @@ returns-in_err-discard-clause-cause g c =
     let f = c.in_ok-answers.ensures in
     let d = c.in_err-discard.ensures in
     (end_kept s a c.args.self c.requires.is
-    (record { sound = e.sound; touches = e.touches; is = e.given }) t u c.in_ok-answers.answers
+    (record { sound = e.sound; touches = e.touches; is = e.given }) t f.room u c.in_ok-answers.answers
     f.finishes f.costs d.goes c.in_err-discard.field-0.0 d.frees d.cause
     c.from_residual-in_err-discard.result c.from_residual-in_err-discard.ensures.1).cause
 
@@ -90,7 +91,7 @@ returns-then-used-blocks-clause-ends g c =
     let f = c.in_ok-answers.ensures in
     let d = c.in_ok-discard.ensures in
     (end_wrong s a c.args.self c.requires.is
-    (record { sound = e.sound; touches = e.touches; is = e.given }) t u c.in_ok-answers.answers
+    (record { sound = e.sound; touches = e.touches; is = e.given }) t f.room u c.in_ok-answers.answers
     f.finishes f.costs d.goes c.damaged-damaged.result d.frees c.damaged-damaged.ensures
     (λ z. c.if-used-blocks.true (omega (arith, z, c.used.ensures, c.used-used.ensures)))).ends
 
@@ -104,7 +105,7 @@ returns-then-used-blocks-clause-owes g c =
     let f = c.in_ok-answers.ensures in
     let d = c.in_ok-discard.ensures in
     (end_wrong s a c.args.self c.requires.is
-    (record { sound = e.sound; touches = e.touches; is = e.given }) t u c.in_ok-answers.answers
+    (record { sound = e.sound; touches = e.touches; is = e.given }) t f.room u c.in_ok-answers.answers
     f.finishes f.costs d.goes c.damaged-damaged.result d.frees c.damaged-damaged.ensures
     (λ z. c.if-used-blocks.true (omega (arith, z, c.used.ensures, c.used-used.ensures)))).owes
 
@@ -118,7 +119,7 @@ returns-then-used-blocks-clause-cause g c =
     let f = c.in_ok-answers.ensures in
     let d = c.in_ok-discard.ensures in
     (end_wrong s a c.args.self c.requires.is
-    (record { sound = e.sound; touches = e.touches; is = e.given }) t u c.in_ok-answers.answers
+    (record { sound = e.sound; touches = e.touches; is = e.given }) t f.room u c.in_ok-answers.answers
     f.finishes f.costs d.goes c.damaged-damaged.result d.frees c.damaged-damaged.ensures
     (λ z. c.if-used-blocks.true (omega (arith, z, c.used.ensures, c.used-used.ensures)))).cause
 
@@ -132,7 +133,7 @@ returns-clause-ends g c =
     let f = c.in_ok-answers.ensures in
     let d = c.in_ok-discard.ensures in
     (end_ok s a c.args.self c.requires.is
-    (record { sound = e.sound; touches = e.touches; is = e.given }) t u c.in_ok-answers.answers
+    (record { sound = e.sound; touches = e.touches; is = e.given }) t f.room u c.in_ok-answers.answers
     f.finishes f.costs d.goes d.frees
     (omega (arith, c.if-used-blocks.false, c.used.ensures, c.used-used.ensures))).ends
 
@@ -146,7 +147,7 @@ returns-clause-ended g c =
     let f = c.in_ok-answers.ensures in
     let d = c.in_ok-discard.ensures in
     (end_ok s a c.args.self c.requires.is
-    (record { sound = e.sound; touches = e.touches; is = e.given }) t u c.in_ok-answers.answers
+    (record { sound = e.sound; touches = e.touches; is = e.given }) t f.room u c.in_ok-answers.answers
     f.finishes f.costs d.goes d.frees
     (omega (arith, c.if-used-blocks.false, c.used.ensures, c.used-used.ensures))).ended
 
@@ -171,8 +172,9 @@ returns-in_err-answers-clause-unused g c =
     let t = seen g.D.Device.state c.finish.new.rig in
     let e = c.give_area.ensures in
     (end_unfinished s a c.args.self c.requires.is
-    (record { sound = e.sound; touches = e.touches; is = e.given }) t c.in_err-answers.field-0.0
-    c.in_err-answers.ensures.finishes c.in_err-answers.ensures.costs c.from_residual.result
+    (record { sound = e.sound; touches = e.touches; is = e.given }) t c.in_err-answers.ensures.room
+    c.in_err-answers.field-0.0 c.in_err-answers.ensures.finishes c.in_err-answers.ensures.costs
+    c.in_err-answers.ensures.over c.from_residual.result
     c.from_residual.ensures.1).unused
 
 pub returns-in_err-discard-clause-unused : goal.returns-in_err-discard-clause-unused
@@ -185,7 +187,7 @@ returns-in_err-discard-clause-unused g c =
     let f = c.in_ok-answers.ensures in
     let d = c.in_err-discard.ensures in
     (end_kept s a c.args.self c.requires.is
-    (record { sound = e.sound; touches = e.touches; is = e.given }) t u c.in_ok-answers.answers
+    (record { sound = e.sound; touches = e.touches; is = e.given }) t f.room u c.in_ok-answers.answers
     f.finishes f.costs d.goes c.in_err-discard.field-0.0 d.frees d.cause
     c.from_residual-in_err-discard.result c.from_residual-in_err-discard.ensures.1).unused
 
@@ -199,7 +201,7 @@ returns-then-used-blocks-clause-unused g c =
     let f = c.in_ok-answers.ensures in
     let d = c.in_ok-discard.ensures in
     (end_wrong s a c.args.self c.requires.is
-    (record { sound = e.sound; touches = e.touches; is = e.given }) t u c.in_ok-answers.answers
+    (record { sound = e.sound; touches = e.touches; is = e.given }) t f.room u c.in_ok-answers.answers
     f.finishes f.costs d.goes c.damaged-damaged.result d.frees c.damaged-damaged.ensures
     (λ z. c.if-used-blocks.true (omega (arith, z, c.used.ensures, c.used-used.ensures)))).unused
 
@@ -213,6 +215,124 @@ returns-clause-unused g c =
     let f = c.in_ok-answers.ensures in
     let d = c.in_ok-discard.ensures in
     (end_ok s a c.args.self c.requires.is
-    (record { sound = e.sound; touches = e.touches; is = e.given }) t u c.in_ok-answers.answers
+    (record { sound = e.sound; touches = e.touches; is = e.given }) t f.room u c.in_ok-answers.answers
     f.finishes f.costs d.goes d.frees
     (omega (arith, c.if-used-blocks.false, c.used.ensures, c.used-used.ensures))).unused
+
+pub returns-in_err-answers-clause-room : goal.returns-in_err-answers-clause-room
+returns-in_err-answers-clause-room g c =
+    let s = seen g.D.Device.state c.args.rig.now in
+    let a = seen g.D.Device.state c.give_area.new.self in
+    let t = seen g.D.Device.state c.finish.new.rig in
+    let e = c.give_area.ensures in
+    (end_unfinished s a c.args.self c.requires.is
+    (record { sound = e.sound; touches = e.touches; is = e.given }) t c.in_err-answers.ensures.room
+    c.in_err-answers.field-0.0 c.in_err-answers.ensures.finishes c.in_err-answers.ensures.costs
+    c.in_err-answers.ensures.over c.from_residual.result
+    c.from_residual.ensures.1).room
+
+pub returns-in_err-answers-clause-over : goal.returns-in_err-answers-clause-over
+returns-in_err-answers-clause-over g c =
+    let s = seen g.D.Device.state c.args.rig.now in
+    let a = seen g.D.Device.state c.give_area.new.self in
+    let t = seen g.D.Device.state c.finish.new.rig in
+    let e = c.give_area.ensures in
+    (end_unfinished s a c.args.self c.requires.is
+    (record { sound = e.sound; touches = e.touches; is = e.given }) t c.in_err-answers.ensures.room
+    c.in_err-answers.field-0.0 c.in_err-answers.ensures.finishes c.in_err-answers.ensures.costs
+    c.in_err-answers.ensures.over c.from_residual.result
+    c.from_residual.ensures.1).over
+
+pub returns-in_err-discard-clause-room : goal.returns-in_err-discard-clause-room
+returns-in_err-discard-clause-room g c =
+    let s = seen g.D.Device.state c.args.rig.now in
+    let a = seen g.D.Device.state c.give_area.new.self in
+    let t = seen g.D.Device.state c.finish.new.rig in
+    let u = seen g.D.Device.state c.discard.new.rig in
+    let e = c.give_area.ensures in
+    let f = c.in_ok-answers.ensures in
+    let d = c.in_err-discard.ensures in
+    (end_kept s a c.args.self c.requires.is
+    (record { sound = e.sound; touches = e.touches; is = e.given }) t f.room u c.in_ok-answers.answers
+    f.finishes f.costs d.goes c.in_err-discard.field-0.0 d.frees d.cause
+    c.from_residual-in_err-discard.result c.from_residual-in_err-discard.ensures.1).room
+
+pub returns-in_err-discard-clause-over : goal.returns-in_err-discard-clause-over
+returns-in_err-discard-clause-over g c =
+    let s = seen g.D.Device.state c.args.rig.now in
+    let a = seen g.D.Device.state c.give_area.new.self in
+    let t = seen g.D.Device.state c.finish.new.rig in
+    let u = seen g.D.Device.state c.discard.new.rig in
+    let e = c.give_area.ensures in
+    let f = c.in_ok-answers.ensures in
+    let d = c.in_err-discard.ensures in
+    (end_kept s a c.args.self c.requires.is
+    (record { sound = e.sound; touches = e.touches; is = e.given }) t f.room u c.in_ok-answers.answers
+    f.finishes f.costs d.goes c.in_err-discard.field-0.0 d.frees d.cause
+    c.from_residual-in_err-discard.result c.from_residual-in_err-discard.ensures.1).over
+
+pub returns-then-used-blocks-clause-room : goal.returns-then-used-blocks-clause-room
+returns-then-used-blocks-clause-room g c =
+    let s = seen g.D.Device.state c.args.rig.now in
+    let a = seen g.D.Device.state c.give_area.new.self in
+    let t = seen g.D.Device.state c.finish.new.rig in
+    let u = seen g.D.Device.state c.discard.new.rig in
+    let e = c.give_area.ensures in
+    let f = c.in_ok-answers.ensures in
+    let d = c.in_ok-discard.ensures in
+    (end_wrong s a c.args.self c.requires.is
+    (record { sound = e.sound; touches = e.touches; is = e.given }) t f.room u c.in_ok-answers.answers
+    f.finishes f.costs d.goes c.damaged-damaged.result d.frees c.damaged-damaged.ensures
+    (λ z. c.if-used-blocks.true (omega (arith, z, c.used.ensures, c.used-used.ensures)))).room
+
+pub returns-then-used-blocks-clause-over : goal.returns-then-used-blocks-clause-over
+returns-then-used-blocks-clause-over g c =
+    let s = seen g.D.Device.state c.args.rig.now in
+    let a = seen g.D.Device.state c.give_area.new.self in
+    let t = seen g.D.Device.state c.finish.new.rig in
+    let u = seen g.D.Device.state c.discard.new.rig in
+    let e = c.give_area.ensures in
+    let f = c.in_ok-answers.ensures in
+    let d = c.in_ok-discard.ensures in
+    (end_wrong s a c.args.self c.requires.is
+    (record { sound = e.sound; touches = e.touches; is = e.given }) t f.room u c.in_ok-answers.answers
+    f.finishes f.costs d.goes c.damaged-damaged.result d.frees c.damaged-damaged.ensures
+    (λ z. c.if-used-blocks.true (omega (arith, z, c.used.ensures, c.used-used.ensures)))).over
+
+pub returns-clause-room : goal.returns-clause-room
+returns-clause-room g c =
+    let s = seen g.D.Device.state c.args.rig.now in
+    let a = seen g.D.Device.state c.give_area.new.self in
+    let t = seen g.D.Device.state c.finish.new.rig in
+    let u = seen g.D.Device.state c.discard.new.rig in
+    let e = c.give_area.ensures in
+    let f = c.in_ok-answers.ensures in
+    let d = c.in_ok-discard.ensures in
+    (end_ok s a c.args.self c.requires.is
+    (record { sound = e.sound; touches = e.touches; is = e.given }) t f.room u c.in_ok-answers.answers
+    f.finishes f.costs d.goes d.frees
+    (omega (arith, c.if-used-blocks.false, c.used.ensures, c.used-used.ensures))).room
+
+pub returns-in_err-answers-clause-owes : goal.returns-in_err-answers-clause-owes
+returns-in_err-answers-clause-owes g c =
+    let s = seen g.D.Device.state c.args.rig.now in
+    let a = seen g.D.Device.state c.give_area.new.self in
+    let t = seen g.D.Device.state c.finish.new.rig in
+    let e = c.give_area.ensures in
+    (end_unfinished s a c.args.self c.requires.is
+    (record { sound = e.sound; touches = e.touches; is = e.given }) t c.in_err-answers.ensures.room
+    c.in_err-answers.field-0.0 c.in_err-answers.ensures.finishes c.in_err-answers.ensures.costs
+    c.in_err-answers.ensures.over c.from_residual.result
+    c.from_residual.ensures.1).owes
+
+pub returns-in_err-answers-clause-full : goal.returns-in_err-answers-clause-full
+returns-in_err-answers-clause-full g c =
+    let s = seen g.D.Device.state c.args.rig.now in
+    let a = seen g.D.Device.state c.give_area.new.self in
+    let t = seen g.D.Device.state c.finish.new.rig in
+    let e = c.give_area.ensures in
+    (end_unfinished s a c.args.self c.requires.is
+    (record { sound = e.sound; touches = e.touches; is = e.given }) t c.in_err-answers.ensures.room
+    c.in_err-answers.field-0.0 c.in_err-answers.ensures.finishes c.in_err-answers.ensures.costs
+    c.in_err-answers.ensures.over c.from_residual.result
+    c.from_residual.ensures.1).full

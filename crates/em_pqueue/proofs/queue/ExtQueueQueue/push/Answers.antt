@@ -1,5 +1,5 @@
 use Rattle.em_space.specs.Seen.{seen}
-use Rattle.em_pqueue.proofs.PushCalls.{push_ends, push_leaves, push_needs, push_still, put_few, still_few, still_lacks}
+use Rattle.em_pqueue.proofs.PushCalls.{push_ends, push_leaves, push_needs, push_still, put_blocks, put_few, still_blocks, still_few, still_lacks}
 use Rattle.em_pqueue.specs.ExtQueue.{GivesDown}
 use Rattle.em_pqueue.proofs.Serves.{call_stands, recount_full}
 use Rattle.em_pqueue.proofs.queue.ExtQueueQueue.push.Goals as goal
@@ -159,3 +159,55 @@ returns-in_err-put-clause-full g c =
     (push_ends c.args.item s t c.args.self.now c.count_call.new.self c.requires.is
     c.count_call.ensures c.put.new.self c.in_err-put.field-0.0 c.in_err-put.ensures.puts
     c.from_residual.result c.from_residual.ensures.1).full
+
+pub returns-in_err-put-clause-room : goal.returns-in_err-put-clause-room
+returns-in_err-put-clause-room g c =
+    let s = seen g.D.Device.state c.args.rig.now in
+    let t = seen g.D.Device.state c.put.new.rig in
+    (push_ends c.args.item s t c.args.self.now c.count_call.new.self c.requires.is
+    c.count_call.ensures c.put.new.self c.in_err-put.field-0.0 c.in_err-put.ensures.puts
+    c.from_residual.result c.from_residual.ensures.1).room
+
+pub returns-in_err-put-clause-over : goal.returns-in_err-put-clause-over
+returns-in_err-put-clause-over g c =
+    let s = seen g.D.Device.state c.args.rig.now in
+    let t = seen g.D.Device.state c.put.new.rig in
+    (push_ends c.args.item s t c.args.self.now c.count_call.new.self c.requires.is
+    c.count_call.ensures c.put.new.self c.in_err-put.field-0.0 c.in_err-put.ensures.puts
+    c.from_residual.result c.from_residual.ensures.1).over
+
+pub returns-clause-room : goal.returns-clause-room
+returns-clause-room g c =
+    let s = seen g.D.Device.state c.args.rig.now in
+    let t = seen g.D.Device.state c.put.new.rig in
+    (push_leaves c.args.item s t c.args.self.now c.count_call.new.self c.requires.is
+    c.count_call.ensures c.put.new.self c.recount.new.self c.in_ok-put.ensures.puts
+    c.requires.limit c.used-used.result c.used-used.ensures c.recount.result c.recount.ensures).room
+
+pub returns-clause-over : goal.returns-clause-over
+returns-clause-over g c =
+    let s = seen g.D.Device.state c.args.rig.now in
+    let t = seen g.D.Device.state c.put.new.rig in
+    (push_leaves c.args.item s t c.args.self.now c.count_call.new.self c.requires.is
+    c.count_call.ensures c.put.new.self c.recount.new.self c.in_ok-put.ensures.puts
+    c.requires.limit c.used-used.result c.used-used.ensures c.recount.result c.recount.ensures).over
+
+pub put-requires-clause-blocks : goal.put-requires-clause-blocks
+put-requires-clause-blocks g c =
+    let s = seen g.D.Device.state c.args.rig.now in
+    still_blocks c.args.item s s c.args.self.now c.count_call.new.self c.requires.is c.count_call.ensures
+
+pub recount-requires-clause-few : goal.recount-requires-clause-few
+recount-requires-clause-few g c =
+    let s = seen g.D.Device.state c.args.rig.now in
+    let t = seen g.D.Device.state c.put.new.rig in
+    put_blocks c.args.item s t c.args.self.now c.count_call.new.self c.requires.is
+    c.count_call.ensures c.put.new.self c.put.new.self c.in_ok-put.ensures.puts
+
+pub returns-in_err-put-clause-frames : goal.returns-in_err-put-clause-frames
+returns-in_err-put-clause-frames g c =
+    let s = seen g.D.Device.state c.args.rig.now in
+    let t = seen g.D.Device.state c.put.new.rig in
+    (push_ends c.args.item s t c.args.self.now c.count_call.new.self c.requires.is
+    c.count_call.ensures c.put.new.self c.in_err-put.field-0.0 c.in_err-put.ensures.puts
+    c.from_residual.result c.from_residual.ensures.1).frames

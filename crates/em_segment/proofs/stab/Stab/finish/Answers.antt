@@ -19,7 +19,7 @@ returns-in-Ok-end g c =
     let calls = laws.k_most x s (laws.frames_of x s c.requires.queue) in record {
       finishes = finished g.Q.Queue x y e.answers d c.in-Ok-end.ensures.ended;
       costs = λ z cs has. end_costs g.Q.Queue x y cs (λ none. (e.nothing none).queue) (e.costs z cs has) c.requires.sound e.frames
-          (laws.fits y t e.frames) laws.rising_room calls e.answers
+          (laws.fits y t e.frames (e.answers.session.touches.told ∙ z)) laws.rising_room calls e.answers
           (answers_few g.Q.Queue x y cs c.requires.sound c.requires.is e.answers z has) d
           (e.answers.session.touches.told ∙ z);
       full = λ z cs has. tt;
@@ -38,12 +38,12 @@ returns-in-Err-end g c =
     let calls = laws.k_most x s (laws.frames_of x s c.requires.queue) in record {
       finishes = end_stops g.Q.Queue x y e.answers f.ends f.owes f.cause;
       costs = λ z cs has. end_costs g.Q.Queue x y cs (λ none. (e.nothing none).queue) (e.costs z cs has) c.requires.sound e.frames
-          (laws.fits y t e.frames) laws.rising_room calls e.answers
+          (laws.fits y t e.frames (e.answers.session.touches.told ∙ z)) laws.rising_room calls e.answers
           (answers_few g.Q.Queue x y cs c.requires.sound c.requires.is e.answers z has) f.ends
           (e.answers.session.touches.told ∙ z);
       full = λ z cs has. end_small g.Q.Queue x y cs c.in-Err-end.fault (e.costs z cs has) e.answers
           (answers_few g.Q.Queue x y cs c.requires.sound c.requires.is e.answers z has) calls
-          laws.rising_room f.full;
+          laws.rising_room f.full z;
       asked = end_asked g.Q.Queue x y c.in-Err-end.fault e.answers e.nothing f.full;
     }
 
@@ -59,9 +59,9 @@ returns-in-Err g c =
     let calls = laws.k_most x s (laws.frames_of x s c.requires.queue) in record {
       finishes = left_stops g.Q.Queue x y e.answers leaves;
       costs = λ z cs has. left_costs g.Q.Queue x y cs (λ none. (e.nothing none).queue) (e.costs z cs has) c.requires.sound e.frames
-          (laws.fits y t e.frames) laws.rising_room calls e.answers leaves
+          (laws.fits y t e.frames (e.answers.touches.told ∙ z)) laws.rising_room calls e.answers leaves
           (laws.spends y t e.frames (e.answers.touches.told ∙ z));
       full = λ z cs has. stops_small g.Q.Queue x y cs c.in-Err.fault (e.costs z cs has) calls
-          laws.rising_room (e.full z cs has);
+          laws.rising_room (e.full z cs has) z;
       asked = stops_asked g.Q.Queue x y s c.args.self c.in-Err.fault e.nothing;
     }

@@ -1,6 +1,6 @@
 use Rattle.std.proofs.Common.{arith}
 use Rattle.em_segment.proofs.StabCalls.{interval_takes, take_costs, take_small}
-use Rattle.em_segment.proofs.Writing.{pairs_grow}
+use Rattle.em_segment_parts.proofs.Writing.{pairs_grow}
 use Rattle.em_segment.proofs.stab.Stab.interval.Goals as goal
 
 pub append-requires-clause-room : goal.append-requires-clause-room

@@ -1,4 +1,4 @@
-use Rattle.std.proofs.Common.{◌-◌, List, [], ap, sym, ◌∙◌, arith}
+use Rattle.std.proofs.Common.{◌-◌, List, length, [], ap, sym, ◌∙◌, arith}
 use Rattle.em_record.specs.declared.record.Record.{Record}
 use Rattle.em_space.specs.Free.{link_at}
 use Rattle.em_space.specs.Seen.{seen}
@@ -15,7 +15,7 @@ returns-then-not-is_free-clause-cause g c =
     let e = c.in_ok-first.ensures in
     let same = e.reads.blocks in (
       e.reads.told ∙ untold_first s k c.in_ok-first.first c.requires.sound (omega arith) e.header
-          (λ h.
+          c.requires.spare (λ h.
           let yes = c.is_free.ensures.1 (rw (same, e.reads.same.most, e.reads.same.used) h) in
           let no = c.if-not-is_free.true in
           cc),
@@ -33,6 +33,7 @@ first g c =
     let test = c.is_free.ensures.0 c.if-not-is_free.false in
     record {
       sound = e.sound;
+      none = ap length e.reads.spare ∙ c.requires.spare;
       head = omega arith;
       link_is = λ y. ap (λ (r : Record). r.a) (e.header (sym e.reads.told ∙ y))
           ∙ sym (ap (λ (bs : List (List Record)). link_at bs k) e.reads.contents);

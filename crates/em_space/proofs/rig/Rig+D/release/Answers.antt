@@ -28,6 +28,7 @@ freed g c =
       in_use = c.requires.in_use;
       goes = e.goes;
       same = e.blocks;
+      spare = e.spare;
       link = e.linked;
       some = search rules;
     }

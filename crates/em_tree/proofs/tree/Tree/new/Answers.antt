@@ -1,4 +1,4 @@
-use Rattle.em_tree.proofs.NewTrunk.{fresh_is_new}
+use Rattle.em_tree.proofs.NewTree.{fresh_is_new}
 use Rattle.em_tree.proofs.tree.Tree.new.Goals as goal
 
 pub returns-clause-makes : goal.returns-clause-makes

@@ -1,8 +1,10 @@
-use Rattle.std.proofs.Common.{refl}
+use Rattle.std.proofs.Common.{IsTrue, refl}
 use Rattle.em_space.specs.Seen.{seen}
-use Rattle.em_tree.proofs.SettleCall.{call_counts, call_later, call_needs, call_settles, call_spent}
+use Rattle.em_tree.proofs.SettleCall.{call_counts, call_later, call_needs, call_room, call_settles, call_spent}
 use Rattle.em_tree.proofs.SettlingBegins.{begins_settles, begins_works}
 use Rattle.em_tree.proofs.tree.Tree.settle_all.Goals as goal
+use Rattle.em_tree.proofs.RoomCalls.{err_told}
+use Rattle.em_trunk.specs.Room.{FullOverRoom}
 
 pub settle_tree-settled-requires-clause-can : goal.settle_tree-settled-requires-clause-can
 settle_tree-settled-requires-clause-can g c =
@@ -63,3 +65,25 @@ returns-clause-needs g c =
     c.settle_tree-settled.new.trunk c.count_moves.new.self c.moves-before.result _ c.shape.result
     c.shape.ensures c.count_settling.ensures c.moves-before.ensures c.requires.sound c.requires.is
     c.settle_tree-settled.result c.settle_tree-settled.ensures.settles c.count_moves.ensures refl
+
+pub returns-clause-room : goal.returns-clause-room
+returns-clause-room g c told =
+    let settle = c.args.self.now.settle in
+    (call_room (g.S.Settle.key_of settle) (g.S.Settle.step_of settle) (g.S.Settle.IsOp settle)
+    (g.S.Settle.IsKept settle) (seen g.D.Device.state c.args.rig.now)
+    (seen g.D.Device.state c.settle_tree-settled.new.rig) c.args.self.now.trunk c.count_settling.new.self
+    c.settle_tree-settled.new.trunk c.settle_tree-settled.new.trunk c.moves-before.result 0 c.shape.result
+    c.shape.ensures c.count_settling.ensures c.moves-before.ensures c.requires.sound c.requires.is
+    c.settle_tree-settled.result c.settle_tree-settled.ensures.settles told).0
+
+pub returns-clause-over : goal.returns-clause-over
+returns-clause-over g c =
+    let settle = c.args.self.now.settle in
+    let s = seen g.D.Device.state c.args.rig.now in
+    err_told c.settle_tree-settled.result (FullOverRoom c.args.self.now.trunk.longest s
+    c.args.self.now.trunk) (IsTrue s.device.told) (λ told. (call_room (g.S.Settle.key_of settle) (g.S.Settle.step_of settle) (g.S.Settle.IsOp settle)
+    (g.S.Settle.IsKept settle) (seen g.D.Device.state c.args.rig.now)
+    (seen g.D.Device.state c.settle_tree-settled.new.rig) c.args.self.now.trunk c.count_settling.new.self
+    c.settle_tree-settled.new.trunk c.settle_tree-settled.new.trunk c.moves-before.result 0 c.shape.result
+    c.shape.ensures c.count_settling.ensures c.moves-before.ensures c.requires.sound c.requires.is
+    c.settle_tree-settled.result c.settle_tree-settled.ensures.settles told).1)

@@ -1,9 +1,11 @@
 use Rattle.em_settle.specs.Laws.{IsSettle}
 use Rattle.em_space.specs.Seen.{seen}
-use Rattle.std.proofs.Common.{refl}
-use Rattle.em_tree.proofs.TakeCall.{take_can, take_err, take_later, take_needs, take_rest, take_some, take_spent, take_works}
+use Rattle.std.proofs.Common.{Err, IsTrue, refl}
+use Rattle.em_tree.proofs.TakeCall.{take_can, take_err, take_later, take_needs, take_rest, take_room, take_some, take_spent, take_works}
 use Rattle.em_tree.proofs.tree.Tree.take_first.Given as given
 use Rattle.em_tree.proofs.tree.Tree.take_first.Goals as goal
+use Rattle.em_tree.proofs.RoomCalls.{full_as}
+use Rattle.em_trunk.specs.Room.{FullOverRoom}
 
 -- what the tree's rule promises
 laws : (g : given.Over) (settle : g.row.S.Denot)
@@ -43,6 +45,7 @@ count_moves-requires-clause-spent g c =
 pub returns-in_err-count : goal.returns-in_err-count
 returns-in_err-count g c =
     let called = c.take_all_first-taken in
+    let s = seen g.D.Device.state c.args.rig.now in
     let result = c.from_residual.result in
     let fault = c.in_err-count.field-0.0 in
     let is_fault = c.from_residual.ensures.1 in
@@ -58,6 +61,13 @@ returns-in_err-count g c =
       needs = take_needs _ (g.S.Settle.step_of c.args.self.now.settle) _ _ c.shape.result c.shape.ensures
           c.allow_steps.ensures c.requires.sound c.requires.is result fault is_fault stopped;
       counts = ends.1;
+      room = λ told. (take_room _ (g.S.Settle.step_of c.args.self.now.settle) _ _ c.shape.result c.shape.ensures
+          c.allow_steps.ensures c.requires.sound c.requires.is called.new.into called.new.trunk called.result
+          called.ensures.takes told).0;
+      over = full_as result fault (λ f. IsTrue s.device.told → FullOverRoom c.args.self.now.trunk.longest s
+          c.args.self.now.trunk f) is_fault (λ told. (take_room _ (g.S.Settle.step_of c.args.self.now.settle) _ _
+          c.shape.result c.shape.ensures c.allow_steps.ensures c.requires.sound c.requires.is called.new.into
+          called.new.trunk (Err fault) stopped told).1);
     }
 
 pub returns-then-not-reset : goal.returns-then-not-reset
@@ -67,7 +77,17 @@ returns-then-not-reset g c =
     c.requires.is (laws g c.args.self.now.settle) (seen g.D.Device.state called.new.rig) called.new.trunk
     called.new.into c.moves-before.ensures c.count_moves.ensures refl c.in_ok-count.field-0
     c.in_ok-count.ensures.takes c.if-not-reset.true in
-    record { rule = refl; len = called.ensures.len; takes = ends.0; needs = tt; counts = ends.1 }
+    record {
+      rule = refl;
+      len = called.ensures.len;
+      takes = ends.0;
+      needs = tt;
+      counts = ends.1;
+      room = λ told. (take_room _ (g.S.Settle.step_of c.args.self.now.settle) _ _ c.shape.result c.shape.ensures
+          c.allow_steps.ensures c.requires.sound c.requires.is called.new.into called.new.trunk called.result
+          called.ensures.takes told).0;
+      over = tt;
+    }
 
 pub returns : goal.returns
 returns g c =
@@ -76,4 +96,14 @@ returns g c =
     c.requires.is (laws g c.args.self.now.settle) (seen g.D.Device.state called.new.rig) called.new.trunk
     called.new.into c.moves-before.ensures c.count_moves.ensures refl c.in_ok-count.field-0
     c.in_ok-count.ensures.takes c.count_reset.ensures c.if-not-reset.false c.requires.few in
-    record { rule = refl; len = called.ensures.len; takes = ends.0; needs = tt; counts = ends.1 }
+    record {
+      rule = refl;
+      len = called.ensures.len;
+      takes = ends.0;
+      needs = tt;
+      counts = ends.1;
+      room = λ told. (take_room _ (g.S.Settle.step_of c.args.self.now.settle) _ _ c.shape.result c.shape.ensures
+          c.allow_steps.ensures c.requires.sound c.requires.is called.new.into called.new.trunk called.result
+          called.ensures.takes told).0;
+      over = tt;
+    }

@@ -1,0 +1,11 @@
+pub mod Around
+pub mod Ends
+pub mod Filled
+pub mod Framed
+pub mod Followed
+pub mod Kept
+pub mod Loaded
+pub mod Pushed
+pub mod Stepped
+pub mod Swept
+pub mod Tables

@@ -1,5 +1,0 @@
-use Rattle.aig_tests.proofs.Making.{has_opened}
-use Rattle.aig_tests.proofs.lines.print_made.Goals as goal
-
-pub evaluate_texts-ending-requires-clause-has : goal.evaluate_texts-ending-requires-clause-has
-evaluate_texts-ending-requires-clause-has c = has_opened _ _ _ c.in_ok-rig.ensures.opened

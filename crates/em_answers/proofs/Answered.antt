@@ -1,0 +1,98 @@
+-- The records of answers give the text of the answers.
+use Rattle.std.proofs.Common.{◌≡◌, ◌≢◌, ℕ, ◌+◌, ◌≤◌, List, [], ◌∷◌, ◌++◌, length, map, refl, ap, ◌∙◌, arith, Option, Some, None}
+use Rattle.std.specs.List.{sum_by}
+use Rattle.std.proofs.lemmas.Bool.{cond-true, cond-false, eq-eqb, ne_eqb}
+use Rattle.std.proofs.lemmas.List.{length-append, length-map}
+use Rattle.std.proofs.lemmas.List.Sums.{sum_by-cons}
+use Rattle.em_model.specs.Map.{Map, no_keys, map_answers_from, map_step}
+use Rattle.em_model.specs.Stab.{stab_answers}
+use Rattle.em_model.specs.declared.command.Command.{Command}
+use Rattle.em_model.specs.declared.command.Command.TheVariants.{Put, Del, Get, Push, Pop, Interval, Stab}
+use Rattle.em_model.specs.MapAnswers.{answer_record, get_numbers, with_numbers}
+use Rattle.em_model.specs.StabAnswers.{pair_record, pairs_from, stab_pairs}
+use Rattle.em_answers.specs.Answer.{map_text, stab_text, text_for}
+use Rattle.em_answers.specs.Print.{answer_in, answers_in, groups_from, intervals_at, pairs_behind, records_text}
+use Rattle.em_lines.specs.RunSize.{pairs_reported}
+use Rattle.em_services.specs.Service.{records_for}
+use Rattle.em_lines.specs.declared.text.FileKind.{FileKind}
+use Rattle.em_lines.specs.declared.text.FileKind.TheVariants as kind
+
+-- the answer of a record is the one that it was made of
+answer_back : (n : ℕ) (answer : Option ℕ) → answer_in (answer_record n answer) ≡ answer
+answer_back n None = refl
+answer_back n (Some value) = refl
+
+answers_back : (n : ℕ) (m : Map) (cs : List Command)
+    → answers_in (with_numbers (get_numbers n cs) (map_answers_from m cs)) ≡ map_answers_from m cs
+answers_back n m [] = refl
+answers_back n m (Put key value ∷ cs) = answers_back (n + 1) (map_step m (Put key value)) cs
+answers_back n m (Del key ∷ cs) = answers_back (n + 1) (map_step m (Del key)) cs
+answers_back n m (Get key ∷ cs) =
+    ap (λ a. a ∷ answers_in (with_numbers (get_numbers (n + 1) cs) (map_answers_from m cs)))
+    (answer_back n (m key))
+    ∙ ap (λ t. m key ∷ t) (answers_back (n + 1) m cs)
+answers_back n m (Push key value ∷ cs) = answers_back (n + 1) m cs
+answers_back n m (Pop ∷ cs) = answers_back (n + 1) m cs
+answers_back n m (Interval low high ∷ cs) = answers_back (n + 1) m cs
+answers_back n m (Stab point ∷ cs) = answers_back (n + 1) m cs
+
+-- the pairs of later stabs aren't of an earlier one
+none_at : (stab n : ℕ) (answers : List (List ℕ)) → stab + 1 ≤ n
+    → intervals_at stab (pairs_from n answers) ≡ []
+none_at stab n [] h = refl
+none_at stab n ([] ∷ answers) h = none_at stab (n + 1) answers (omega arith)
+none_at stab n ((x ∷ xs) ∷ answers) h = cond-false _ _ _ (ne_eqb n stab (λ e. omega (arith, e, h)))
+
+none_behind : (stab n : ℕ) (answers : List (List ℕ)) → stab + 1 ≤ n
+    → pairs_behind stab (pairs_from n answers) ≡ pairs_from n answers
+none_behind stab n [] h = refl
+none_behind stab n ([] ∷ answers) h = none_behind stab (n + 1) answers (omega arith)
+none_behind stab n ((x ∷ xs) ∷ answers) h =
+    cond-false _ _ _ (ne_eqb n stab (λ e. omega (arith, e, h)))
+
+-- the pairs of a stab, and those after them
+own_at : (stab : ℕ) (numbers : List ℕ) (answers : List (List ℕ))
+    → intervals_at stab (map (pair_record stab) numbers ++ pairs_from (stab + 1) answers)
+    ≡ numbers
+own_at stab [] answers = none_at stab (stab + 1) answers (omega arith)
+own_at stab (x ∷ xs) answers =
+    cond-true _ _ _ (eq-eqb stab stab refl) ∙ ap (λ t. x ∷ t) (own_at stab xs answers)
+
+own_behind : (stab : ℕ) (numbers : List ℕ) (answers : List (List ℕ))
+    → pairs_behind stab (map (pair_record stab) numbers ++ pairs_from (stab + 1) answers)
+    ≡ pairs_from (stab + 1) answers
+own_behind stab [] answers = none_behind stab (stab + 1) answers (omega arith)
+own_behind stab (x ∷ xs) answers =
+    cond-true _ _ _ (eq-eqb stab stab refl) ∙ own_behind stab xs answers
+
+groups_back : (stab : ℕ) (answers : List (List ℕ))
+    → groups_from stab (length answers) (pairs_from stab answers) ≡ answers
+groups_back stab [] = refl
+groups_back stab (numbers ∷ answers) =
+    ap (λ a. a ∷ groups_from (stab + 1) (length answers)
+    (pairs_behind stab (map (pair_record stab) numbers ++ pairs_from (stab + 1) answers)))
+    (own_at stab numbers answers)
+    ∙ ap (λ t. numbers ∷ groups_from (stab + 1) (length answers) t)
+    (own_behind stab numbers answers)
+    ∙ ap (λ t. numbers ∷ t) (groups_back (stab + 1) answers)
+
+-- The text of the records is that of the answers.
+pub text_same : (k : FileKind) (cs : List Command) → k ≢ kind.Queue
+    → records_text k (length (stab_answers cs)) (records_for k cs) ≡ text_for k cs
+text_same kind.Map cs n = ap map_text (answers_back 1 no_keys cs)
+text_same kind.Queue cs n = absurd (n refl)
+text_same kind.Stab cs n = ap stab_text (groups_back 0 (stab_answers cs))
+
+pairs_length : (n : ℕ) (answers : List (List ℕ))
+    → length (pairs_from n answers) ≡ sum_by length answers
+pairs_length n [] = refl
+pairs_length n (numbers ∷ answers) =
+    let e = length-append (map (pair_record n) numbers) (pairs_from (n + 1) answers) in
+    let m = length-map numbers (pair_record n) in
+    let r = pairs_length (n + 1) answers in
+    let s = sum_by-cons length numbers answers in
+    omega (arith, e, m, r, s)
+
+-- as many pairs are reported as there are
+pub pairs_counted : (cs : List Command) → length (stab_pairs cs) ≡ pairs_reported cs
+pairs_counted cs = pairs_length 0 (stab_answers cs)

@@ -1,0 +1,11 @@
+pub mod Answered
+pub mod Listing
+pub mod Looking
+pub mod Moves
+pub mod PairLaws
+pub mod Pieces
+pub mod QueueModel
+pub mod ReadingStops
+pub mod Running
+pub mod Served
+pub mod ServiceMoves

@@ -1,0 +1,341 @@
+-- A file whose commands are given to a service, one after another.
+use Rattle.std.proofs.Common.{◌≡◌, ℕ, suc, ◌+◌, ◌*◌, ◌-◌, ◌≤◌, ◌^◌, ◌⊎◌, List, [], ◌∷◌, length, take, refl, subst, ap, sym, ◌∙◌, arith, Bool, IsTrue, Option, Some, None, IfSome, inl, inr, ⊎_elim}
+use Rattle.em_record.specs.Shape.{IsShape, ShapeNumbers, fan_of}
+use Rattle.em_model.specs.Stab.{NumberedInterval, stab_answer_of, stab_answers, stab_answers_from, stab_step}
+use Rattle.em_model.specs.declared.command.Command.{Command}
+use Rattle.em_model.specs.declared.command.Command.TheVariants.{Put, Del, Get, Push, Pop, Interval, Stab}
+use Rattle.em_frames.specs.Pool.{GivenFrames, LentFrames, PoolCounts, SameFrames}
+use Rattle.em_space.specs.Held.{Within}
+use Rattle.em_space.specs.Queue.{CanServe, Pays}
+use Rattle.em_space.specs.Rig.{RigState, Cause, Goes, Sound, Touches}
+use Rattle.em_space.specs.declared.fault.EmFault.{EmFault}
+use Rattle.em_space.specs.declared.fault.EmFault.TheVariants as em
+use Rattle.em_space.proofs.Within.{touches_within, within_none, within_then}
+use Rattle.em_ends.specs.Asked.{ToldIf}
+use Rattle.em_lines.specs.CommandLine.{good_commands}
+use Rattle.em_services.specs.Service.{CountsBy, CanAnswer, GivesFrames, MakesService, RisesBySize, ServiceCounts, TakesCommand, WithinAllowance, WithinRoom, size_of}
+use Rattle.em_ready.specs.Ready.{IsReady, IsUnused}
+use Rattle.em_lines.specs.RunSize.{commands_taken, pairs_reported, run_size}
+use Rattle.em_answers.specs.Reading.{IsFilled, StandsAlone, most_within, service_limits, told_within}
+use Rattle.em_ends.specs.Stop.{IfStopsFull}
+use Rattle.em_ends.specs.declared.stop.Stop.TheVariants.{Em}
+use Rattle.em_lines.specs.declared.text.FileKind.{FileKind}
+use Rattle.em_lines.specs.declared.text.FileKind.TheVariants.{Map, Queue}
+use Rattle.em_lines.specs.declared.text.FileKind.TheVariants as kind
+use Rattle.std.proofs.lemmas.List.{take_all}
+use Rattle.em_answers.proofs.Answered.{pairs_counted}
+
+-- the commands that were taken are at most the size of the run
+pub taken_most : (kind : FileKind) (text left : List ℕ)
+    → commands_taken kind text left ≤ run_size kind text left
+taken_most Map text left = omega arith
+taken_most Queue text left = omega arith
+taken_most kind.Stab text left = omega arith
+
+-- how many stabs there are doesn't depend on the intervals
+stabs_same : (xs ys : List NumberedInterval) (cs : List Command)
+    → length (stab_answers_from xs cs) ≡ length (stab_answers_from ys cs)
+stabs_same xs ys [] = refl
+stabs_same xs ys (Put key value ∷ cs) = stabs_same xs ys cs
+stabs_same xs ys (Del key ∷ cs) = stabs_same xs ys cs
+stabs_same xs ys (Get key ∷ cs) = stabs_same xs ys cs
+stabs_same xs ys (Push key value ∷ cs) = stabs_same xs ys cs
+stabs_same xs ys (Pop ∷ cs) = stabs_same xs ys cs
+stabs_same xs ys (Interval low high ∷ cs) =
+    stabs_same (stab_step xs (Interval low high)) (stab_step ys (Interval low high)) cs
+stabs_same xs ys (Stab point ∷ cs) = ap suc (stabs_same xs ys cs)
+
+-- the stabs of a command and of those after it
+pub stabs_next : (c : Command) (cs : List Command)
+    → length (stab_answers (c ∷ cs)) ≡ length (stab_answer_of [] c) + length (stab_answers cs)
+stabs_next (Put key value) cs = omega arith
+stabs_next (Del key) cs = omega arith
+stabs_next (Get key) cs = omega arith
+stabs_next (Push key value) cs = omega arith
+stabs_next Pop cs = omega arith
+stabs_next (Interval low high) cs =
+    let e = stabs_same (stab_step [] (Interval low high)) [] cs in omega (arith, e)
+stabs_next (Stab point) cs = omega arith
+
+-- The frames of a call are free beside those of a service, also after calls that lent none.
+pub serves_beside : (frames : ℕ) (p q : PoolCounts) → IsReady p → LentFrames frames p q
+    → frames ≤ 4 → CanServe q
+serves_beside frames p q r l few =
+    let f = ap (λ (x : ShapeNumbers). fan_of x) l.shape in
+    record {
+      singles = omega (arith, r.singles, l.free, few, f);
+      areas = omega (arith, r.areas, l.free_areas);
+      rack = l.rack ∙ r.rack;
+    }
+
+-- So are those of the answers.
+pub answers_beside : (frames : ℕ) (p q r : PoolCounts) → IsReady p → LentFrames frames p q
+    → frames ≤ 4 → SameFrames q r → CanAnswer r
+answers_beside frames p q r ready l few s =
+    let e = ap (λ (x : ShapeNumbers). fan_of x) l.shape in
+    let f = ap (λ (x : ShapeNumbers). fan_of x) s.shape in
+    record {
+      singles = omega (arith, ready.singles, l.free, s.free, few, e, f);
+      areas = omega (arith, ready.areas, l.free_areas, s.free_areas);
+      rack = s.rack ∙ l.rack ∙ ready.rack;
+    }
+
+pub serves_same : (p q : PoolCounts) → CanServe p → SameFrames p q → CanServe q
+serves_same p q c s =
+    let f = ap (λ (x : ShapeNumbers). fan_of x) s.shape in
+    record {
+      singles = omega (arith, c.singles, s.free, f);
+      areas = omega (arith, c.areas, s.free_areas);
+      rack = s.rack ∙ c.rack;
+    }
+
+-- The frames that were lent came back.
+pub frames_back : (frames : ℕ) (a b c d : PoolCounts) → LentFrames frames a b → SameFrames b c
+    → GivenFrames frames c d → SameFrames a d
+frames_back frames a b c d l s g = record {
+  shape = g.shape ∙ s.shape ∙ l.shape;
+  free = omega (arith, l.free, s.free, g.free);
+  rack = g.rack ∙ s.rack ∙ l.rack;
+  free_areas = g.free_areas ∙ s.free_areas ∙ l.free_areas;
+  peak = omega (arith, l.peak, s.peak, g.peak);
+}
+
+-- A service was made over a rig of which no block is or was in use: it is alone there.
+made_used : (room : Option (ShapeNumbers → ℕ → ℕ)) (s t : RigState) (c : ServiceCounts)
+    → s.used ≡ 0 → IfSome room (λ f. t.used ≡ s.used + c.blocks)
+    → IfSome room (λ f. t.used ≡ c.blocks)
+made_used None s t c none used = tt
+made_used (Some f) s t c none used = omega (arith, none, used)
+
+made_most : (room : Option (ShapeNumbers → ℕ → ℕ)) (s t : RigState) (c : ServiceCounts)
+    → IsUnused s → t.pool.shape ≡ s.pool.shape → c.n ≡ 0 → WithinRoom room 0 0 s t
+    → IfSome room (λ f. t.most ≤ f t.pool.shape c.n)
+made_most None s t c u shape n w = tt
+made_most (Some f) s t c u shape n w =
+    let most = w.is in
+    rw (shape, n) (omega (arith, most, u.used, u.none_ever))
+
+made_moved : (allowance : Option (ShapeNumbers → ℕ → ℕ)) (s t : RigState) (c : ServiceCounts)
+    → s.moves ≡ 0 → IfSome allowance (λ f. t.moves ≤ s.moves + c.spent)
+    → IfSome allowance (λ f. t.moves ≤ c.spent)
+made_moved None s t c none spent = tt
+made_moved (Some f) s t c none spent = omega (arith, none, spent)
+
+made_within : (allowance : Option (ShapeNumbers → ℕ → ℕ)) (s t : RigState) (c : ServiceCounts)
+    → s.moves ≡ 0 → t.pool.shape ≡ s.pool.shape → c.n ≡ 0 → WithinAllowance allowance 0 0 s t
+    → IsTrue s.device.told → IfSome allowance (λ f. t.moves ≤ f t.pool.shape c.n)
+made_within None s t c none shape n w told = tt
+made_within (Some f) s t c none shape n w told =
+    let moves = w told in rw (shape, n) (omega (arith, none, moves))
+
+pub alone_made : (allowance room : Option (ShapeNumbers → ℕ → ℕ)) (frames : ℕ) (held : List ℕ)
+    (c : ServiceCounts) (s t : RigState) → IsUnused s → s.moves ≡ 0
+    → MakesService allowance room frames held c s t → WithinRoom room 0 0 s t
+    → WithinAllowance allowance 0 0 s t → StandsAlone allowance room c t
+alone_made allowance room frames held c s t u none m w a = record {
+  paid = ⊎_elim
+      (λ (h : 2 ^ 64 - 1 ≤ t.moves). inl h)
+      (λ (h : t.used + s.moves + 0 ≤ s.used + t.moves + c.unstored).
+      inr (omega (arith, h, u.used)))
+      m.pays.is;
+  used = made_used room s t c u.used m.used;
+  most = made_most room s t c u m.touches.shape m.n w;
+  moved = made_moved allowance s t c none m.spent;
+  within = λ told.
+      made_within allowance s t c none m.touches.shape m.n a (sym m.touches.told ∙ told);
+}
+
+-- before a service is made, none of its blocks is in use
+abbrev pub no_counts : ServiceCounts
+no_counts = record { n = 0; spent = 0; blocks = 0; unstored = 0 }
+
+unused_used : (room : Option (ShapeNumbers → ℕ → ℕ)) (s : RigState) → s.used ≡ 0
+    → IfSome room (λ f. s.used ≡ 0)
+unused_used None s e = tt
+unused_used (Some f) s e = e
+
+unused_most : (room : Option (ShapeNumbers → ℕ → ℕ)) (s : RigState) → s.most ≡ 0
+    → IfSome room (λ f. s.most ≤ f s.pool.shape 0)
+unused_most None s e = tt
+unused_most (Some f) s e = omega (arith, e)
+
+unused_moved : (allowance : Option (ShapeNumbers → ℕ → ℕ)) (s : RigState) (n : ℕ) → s.moves ≡ 0
+    → IfSome allowance (λ f. s.moves ≤ n)
+unused_moved None s n e = tt
+unused_moved (Some f) s n e = omega (arith, e)
+
+unused_within : (allowance : Option (ShapeNumbers → ℕ → ℕ)) (s : RigState) → s.moves ≡ 0
+    → IfSome allowance (λ f. s.moves ≤ f s.pool.shape 0)
+unused_within None s e = tt
+unused_within (Some f) s e = omega (arith, e)
+
+pub alone_unused : (allowance room : Option (ShapeNumbers → ℕ → ℕ)) (s : RigState) → IsUnused s
+    → s.moves ≡ 0 → StandsAlone allowance room no_counts s
+alone_unused allowance room s u none = record {
+  paid = inr (omega (arith, u.used));
+  used = unused_used room s u.used;
+  most = unused_most room s u.none_ever;
+  moved = unused_moved allowance s 0 none;
+  within = λ told. unused_within allowance s none;
+}
+
+-- One command more was taken.
+next_used : (room : Option (ShapeNumbers → ℕ → ℕ)) (s t : RigState) (c d : ServiceCounts)
+    → IfSome room (λ f. s.used ≡ c.blocks)
+    → IfSome room (λ f. t.used + c.blocks ≡ s.used + d.blocks)
+    → IfSome room (λ f. t.used ≡ d.blocks)
+next_used None s t c d before now = tt
+next_used (Some f) s t c d before now = omega (arith, before, now)
+
+next_most : (room : Option (ShapeNumbers → ℕ → ℕ)) (s t : RigState) (c d : ServiceCounts)
+    → IfSome room RisesBySize → IsShape s.pool.shape → IfSome room (λ f. s.used ≡ c.blocks)
+    → IfSome room (λ f. s.most ≤ f s.pool.shape c.n) → t.pool.shape ≡ s.pool.shape
+    → d.n ≡ c.n + 1 → WithinRoom room (c.n + 1) c.blocks s t
+    → IfSome room (λ f. t.most ≤ f t.pool.shape d.n)
+next_most None s t c d rises is used before shape n w = tt
+next_most (Some f) s t c d rises is used before shape n w =
+    let most = w.is in
+    let more = rises s.pool.shape c.n (c.n + 1) is (omega arith) in
+    rw (shape, n) (omega (arith, most, used, before, more))
+
+next_moved : (allowance : Option (ShapeNumbers → ℕ → ℕ)) (s t : RigState) (c d : ServiceCounts)
+    → IfSome allowance (λ f. s.moves ≤ c.spent)
+    → IfSome allowance (λ f. t.moves + c.spent ≤ s.moves + d.spent)
+    → IfSome allowance (λ f. t.moves ≤ d.spent)
+next_moved None s t c d before now = tt
+next_moved (Some f) s t c d before now = omega (arith, before, now)
+
+next_within : (allowance : Option (ShapeNumbers → ℕ → ℕ)) (s t : RigState) (c d : ServiceCounts)
+    → IfSome allowance (λ f. s.moves ≤ c.spent) → t.pool.shape ≡ s.pool.shape → d.n ≡ c.n + 1
+    → WithinAllowance allowance (c.n + 1) c.spent s t → IsTrue s.device.told
+    → IfSome allowance (λ f. t.moves ≤ f t.pool.shape d.n)
+next_within None s t c d before shape n w told = tt
+next_within (Some f) s t c d before shape n w told =
+    let moves = w told in rw (shape, n) (omega (arith, before, moves))
+
+pub alone_next : (allowance room : Option (ShapeNumbers → ℕ → ℕ)) (held now : List ℕ)
+    (c d : ServiceCounts) (s t : RigState) → IfSome room RisesBySize → IsShape s.pool.shape
+    → StandsAlone allowance room c s → Touches held s t
+    → TakesCommand allowance room held now c d s t → WithinRoom room (c.n + 1) c.blocks s t
+    → WithinAllowance allowance (c.n + 1) c.spent s t → StandsAlone allowance room d t
+alone_next allowance room held now c d s t rises is a touches k w m = record {
+  paid = ⊎_elim
+      (λ (h : 2 ^ 64 - 1 ≤ s.moves). inl (let later = touches.moves in omega (arith, h, later)))
+      (λ (h : s.used ≤ s.moves + c.unstored).
+      ⊎_elim
+      (λ (y : 2 ^ 64 - 1 ≤ t.moves). inl y)
+      (λ (y : t.used + s.moves + c.unstored ≤ s.used + t.moves + d.unstored).
+      inr (omega (arith, h, y)))
+      k.pays.is)
+      a.paid;
+  used = next_used room s t c d a.used k.used;
+  most = next_most room s t c d rises is a.used a.most touches.shape k.n w;
+  moved = next_moved allowance s t c d a.moved k.spent;
+  within = λ told.
+      next_within allowance s t c d a.moved touches.shape k.n m (sym touches.told ∙ told);
+}
+
+-- The blocks of a full device are at most the moves and two for each frame.
+pub full_paid : (owed : ShapeNumbers → ℕ) (held : List ℕ) (t u : RigState) (n used : ℕ)
+    → Touches held t u
+    → (2 ^ 64 - 1 ≤ t.moves) ⊎ (t.used ≤ t.moves + n) → Pays n (owed t.pool.shape) t u
+    → (used ≡ u.blocks) × (u.used ≡ u.blocks)
+    → (2 ^ 64 - 1 ≤ u.moves) ⊎ (used ≤ u.moves + owed u.pool.shape)
+full_paid owed held t u n used touches paid p full =
+    let f : owed u.pool.shape ≡ owed t.pool.shape = ap owed touches.shape in
+    ⊎_elim
+    (λ (h : 2 ^ 64 - 1 ≤ t.moves). inl (let later = touches.moves in omega (arith, h, later)))
+    (λ (h : t.used ≤ t.moves + n).
+    ⊎_elim
+    (λ (y : 2 ^ 64 - 1 ≤ u.moves). inl y)
+    (λ (y : u.used + t.moves + n ≤ t.used + u.moves + owed t.pool.shape).
+    inr (omega (arith, h, y, full.0, full.1, f)))
+    p.is)
+    paid
+
+-- A call on a service that took c.n commands was within its room for this size, which is at most that
+-- of the run.
+pub record IsSized (room : Option (ShapeNumbers → ℕ → ℕ)) (run size : ℕ) (c : ServiceCounts)
+    (s u : RigState) : Type 0 where
+  pub within : WithinRoom room size c.blocks s u
+  pub least : c.n ≤ size
+  pub most : size ≤ run
+
+-- So the blocks of a full device are within what the service may hold in the run.
+filled_most : (room : Option (ShapeNumbers → ℕ → ℕ)) (kind : FileKind) (told : Bool)
+    (run size blocks used : ℕ) (c : ServiceCounts) (s u : RigState) → IfSome room RisesBySize
+    → IsShape s.pool.shape → u.used ≤ u.most → u.blocks ≡ blocks
+    → IfSome room (λ f. s.used ≡ c.blocks) → IfSome room (λ f. s.most ≤ f s.pool.shape c.n)
+    → (used ≡ u.blocks) × (u.used ≡ u.blocks) → (CountsBy kind told → IsSized room run size c s u)
+    → ToldIf (told_within room kind) told → used ≤ most_within room blocks s.pool.shape run
+filled_most None kind told run size blocks used c s u rises is numbers same held before full sized counts =
+    omega (arith, full.0, same)
+filled_most (Some f) kind told run size blocks used c s u rises is numbers same held before full sized
+    counts =
+    let w = sized counts in
+    let most = w.within.is in
+    let low = rises s.pool.shape c.n size is w.least in
+    let high = rises s.pool.shape size run is w.most in
+    omega (arith, most, held, before, low, high, numbers, full.0, full.1)
+
+-- What a full device says of a call on a service that is alone.
+pub filled_call : (allowance room : Option (ShapeNumbers → ℕ → ℕ)) (blocks size : ℕ) (tells : Bool)
+    (kind : FileKind) (text left : List ℕ) (held : List ℕ) (c : ServiceCounts) (s u : RigState)
+    (fault : EmFault) → IfSome room RisesBySize → IsShape s.pool.shape → Sound u
+    → Touches held s u → s.blocks ≡ blocks → StandsAlone allowance room c s
+    → Pays c.unstored (2 * s.pool.shape.frames) s u → Cause s u fault
+    → (IsTrue tells → CountsBy kind s.device.told
+    → IsSized room (run_size kind text left) size c s u)
+    → IfStopsFull (Em fault)
+    (IsFilled (service_limits allowance room blocks kind) tells kind text left u)
+filled_call allowance room blocks size tells kind text left held c s u em.DeviceFault rises is sound touches e a p
+    cause sized = tt
+filled_call allowance room blocks size tells kind text left held c s u (em.Damaged block) rises is sound touches e
+    a p cause sized = tt
+filled_call allowance room blocks size tells kind text left held c s u (em.Full used) rises is sound touches e a p
+    cause sized = record {
+      paid = full_paid (λ shape. 2 * shape.frames) held s u c.unstored used touches a.paid p cause;
+      size = λ told counts.
+          let here : ToldIf (told_within room kind) s.device.told =
+          subst (λ (b : Bool). ToldIf (told_within room kind) b) touches.told counts in
+          rw (touches.shape) (filled_most room kind s.device.told (run_size kind text left) size blocks
+          used c s u rises is sound.numbers.used_most (touches.blocks ∙ e) a.used a.most cause
+          (sized told) here);
+    }
+
+-- the size of the commands of a whole file is within that of the run
+pub size_within : (kind : FileKind) (text left : List ℕ)
+    → length (good_commands kind text) ≤ commands_taken kind text left
+    → size_of kind (good_commands kind text) ≤ run_size kind text left
+size_within Map text left taken = taken
+size_within Queue text left taken = taken
+size_within kind.Stab text left taken =
+    let good = good_commands kind.Stab text in
+    let all : take (commands_taken kind.Stab text left) good ≡ good =
+    take_all (commands_taken kind.Stab text left) good (omega (arith, taken)) in
+    let pairs = pairs_counted good in
+    let reported = ap pairs_reported all in
+    omega (arith, taken, pairs, reported)
+
+pub size_least : (kind : FileKind) (cs : List Command) → length cs ≤ size_of kind cs
+size_least Map cs = omega arith
+size_least Queue cs = omega arith
+size_least kind.Stab cs = omega arith
+
+-- The frames of a service came back after its calls: as many are free as before it was made.
+pub ended_service : (frames : ℕ) (held now : List ℕ) (s t u v : RigState) → Touches [] s t
+    → LentFrames frames s.pool t.pool → Within s [] held → Goes held t u → Within t held now
+    → GivesFrames frames now u v → Goes [] s v
+ended_service frames held now s t u v made lent fresh calls within gives = record {
+  sound = gives.sound;
+  touches = touches_within s u v [] now (touches_within s t u [] held made fresh calls.touches)
+      (within_then s t [] held now made fresh within) gives.touches;
+  frames = frames_back frames s.pool t.pool u.pool v.pool lent calls.frames gives.frames_are;
+}
+
+-- The same if it was given up.
+pub left_service : (frames : ℕ) (held : List ℕ) (s t u v : RigState) → Touches [] s t
+    → LentFrames frames s.pool t.pool → Within s [] held → Goes held t u
+    → GivesFrames frames [] u v → Goes [] s v
+left_service frames held s t u v made lent fresh calls gives =
+    ended_service frames held [] s t u v made lent fresh calls (within_none t held [] (λ z. refl)) gives

@@ -1,0 +1,106 @@
+-- A queue file that is answered command by command.
+use Rattle.std.proofs.Common.{◌≡◌, ℕ, ◌+◌, ◌-◌, ◌≤◌, ◌^◌, List, ◌∷◌, ◌++◌, ap, ◌∙◌, arith, Result, Ok, Err, inl, inr, ⊎_elim}
+use Rattle.std.proofs.lemmas.Grind.{flat_map-append}
+use Rattle.std.specs.Prelude.{IsErr}
+use Rattle.std.specs.Result.{IsErrAnd}
+use Rattle.em_io.specs.Sink.{Sent, SentPart}
+use Rattle.em_record.specs.declared.record.Record.{Record}
+use Rattle.em_model.specs.Queue.{Queue, queue_answer_of, queue_answers_from, queue_step}
+use Rattle.em_model.specs.declared.command.Command.{Command}
+use Rattle.em_space.specs.Queue.{Pays, QueueCounts, Served, Serves}
+use Rattle.em_space.specs.Rig.{RigState}
+use Rattle.em_space.specs.declared.fault.EmFault.TheVariants.{DeviceFault, Full, Damaged}
+use Rattle.em_answers.specs.Answer.{popped_line, queue_text}
+use Rattle.em_answers.specs.Serve.{Answers, Follows, IsAlone, IsFilledBy, ServeCause}
+use Rattle.em_ends.specs.Stop.{IfStopsFull, OnFault}
+use Rattle.em_ends.specs.declared.stop.Stop.{Stop}
+use Rattle.em_ends.specs.declared.stop.Stop.TheVariants.{Fault, Read, Write, Em}
+use Rattle.em_answers.proofs.Listing.{full_paid}
+
+-- The answers so far went out, and those to the commands that are left are to go.
+pub record Serving (took : List ℕ → List ℕ → List ℕ) (whole : List ℕ) (left : List Command)
+    (items : List Record) (pushes : ℕ) (old new : List ℕ) : Type 0 where
+  pub model : Queue
+  pub follows : Follows items pushes model
+  pub sent : Sent took old whole new (queue_text (queue_answers_from model left))
+
+-- the answer to the next command, and those to the others
+pub next_answer : (q : Queue) (c : Command) (left cs : List Command) → left ≡ c ∷ cs
+    → queue_text (queue_answers_from q left)
+    ≡ queue_text (queue_answer_of q c) ++ queue_text (queue_answers_from (queue_step q c) cs)
+next_answer q c left cs e =
+    ap (λ l. queue_text (queue_answers_from q l)) e
+    ∙ flat_map-append popped_line (queue_answer_of q c) (queue_answers_from (queue_step q c) cs)
+
+-- The queue stays alone on the device.
+pub alone_next : (held : List ℕ) (s t : RigState) (c d : QueueCounts) → IsAlone s c
+    → Serves held c d s t → Served c d s t → IsAlone t d
+alone_next held s t c d a v w = record {
+  used = let u = w.used in omega (arith, u, a.used);
+  most = let m = v.most in let n = v.more in omega (arith, m, n, a.used, a.most);
+  paid = ⊎_elim
+      (λ (x : 2 ^ 64 - 1 ≤ s.moves). inl (let m = v.touches.moves in omega (arith, x, m)))
+      (λ (x : s.used ≤ s.moves + c.unstored).
+      ⊎_elim
+      (λ (y : 2 ^ 64 - 1 ≤ t.moves). inl y)
+      (λ (y : t.used + s.moves + c.unstored ≤ s.used + t.moves + d.unstored).
+      inr (omega (arith, x, y)))
+      w.pays.is)
+      a.paid;
+  moved = let e = v.spent in omega (arith, e, a.moved);
+}
+
+filled_by : (held : List ℕ) (s t : RigState) (c d : QueueCounts) (used : ℕ) → IsAlone s c
+    → Serves held c d s t → Pays c.unstored s.pool.shape.frames s t
+    → (used ≡ t.blocks) × (t.used ≡ t.blocks) → IsFilledBy d t used
+filled_by held s t c d used a v p full = record {
+  paid = full_paid (λ shape. shape.frames) held s t c.unstored used v.touches a.paid p full;
+  most =
+      let m = v.most in let n = v.more in let u = v.sound.numbers.used_most in
+      omega (arith, m, n, u, full.0, full.1, a.used, a.most);
+}
+
+-- What a full device says.
+pub stops_full : (held : List ℕ) (s t : RigState) (c d : QueueCounts) (faults after : ℕ)
+    (stop : Stop) → IsAlone s c → Serves held c d s t → ServeCause faults after s t stop
+    → IfStopsFull stop (λ used. Pays c.unstored s.pool.shape.frames s t)
+    → IfStopsFull stop (IsFilledBy d t)
+stops_full held s t c d faults after (Fault kind line) a v cause p = tt
+stops_full held s t c d faults after Read a v cause p = tt
+stops_full held s t c d faults after Write a v cause p = tt
+stops_full held s t c d faults after (Em DeviceFault) a v cause p = tt
+stops_full held s t c d faults after (Em (Full used)) a v cause p =
+    filled_by held s t c d used a v p cause
+stops_full held s t c d faults after (Em (Damaged block)) a v cause p = tt
+
+-- A call that answers one command stops at no fault of the text.
+
+abbrev NoFault : Stop → Type 0
+NoFault stop = OnFault stop ⊥
+
+no_fault : (faults after : ℕ) (s t : RigState) (stop : Stop) → ServeCause faults after s t stop
+    → NoFault stop
+no_fault faults after s t (Fault kind line) cause = cause
+no_fault faults after s t Read cause = tt
+no_fault faults after s t Write cause = tt
+no_fault faults after s t (Em fault) cause = tt
+
+never : (stop : Stop) (P : Type 0) → NoFault stop → OnFault stop P
+never (Fault kind line) P h = absurd h
+never Read P h = tt
+never Write P h = tt
+never (Em fault) P h = tt
+
+-- what went out where the run stopped while it answered a command
+pub stopped : {T : Type 0} {took : List ℕ → List ℕ → List ℕ} {text old new : List ℕ}
+    (faults after : ℕ) (s t : RigState) (stop : Stop) (result : Result T Stop) → IsErr result
+    → IsErrAnd result (λ e. e ≡ stop) → ServeCause faults after s t stop
+    → SentPart took old text new → Answers took text old new result
+stopped faults after s t stop (Ok x) e and cause p = cc
+stopped {T} {took} {text} {old} {new} faults after s t stop (Err other) e and cause p = record {
+  all = tt;
+  fault =
+      let same : other ≡ stop = and in
+      rw same (never stop (new ≡ took old text) (no_fault faults after s t stop cause));
+  part = p;
+}

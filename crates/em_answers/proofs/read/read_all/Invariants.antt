@@ -1,0 +1,51 @@
+use Rattle.std.proofs.Common.{◌≡◌, ◌+◌, ◌-◌, ◌*◌, ◌≤◌, ◌^◌, ◌++◌, List, length, IsTrue}
+use Rattle.em_io.specs.Feed.{rest}
+use Rattle.em_model.specs.Stab.{stab_answers}
+use Rattle.em_model.specs.declared.command.Command.{Command}
+use Rattle.em_space.specs.Held.{Within}
+use Rattle.em_space.specs.Queue.{CanServe}
+use Rattle.em_space.specs.Rig.{Goes}
+use Rattle.em_space.specs.Seen.{seen}
+use Rattle.em_lines.specs.CommandLine.{parsed_from, first_fault, good_commands}
+use Rattle.em_lines.specs.Lines.{lines_of}
+use Rattle.em_lines.specs.Reads.{Reads}
+use Rattle.em_answers.specs.Reading.{StandsAlone}
+use Rattle.em_lines.proofs.ReadLaws.{Counted}
+use Rattle.em_answers.proofs.read.read_all.Given as goal
+
+abbrev pub invariant-loop-next : goal.invariant-loop-next
+invariant-loop-next g l =
+    let kind = g.S.Service.KIND in
+    let first = seen g.D.Device.state l.fn.rig in
+    let now = seen g.D.Device.state l.rig in
+    let text = rest l.fn.feed (g.H.Shelf.stand l.fn.shelf) in
+    let left = rest l.feed (g.H.Shelf.stand l.shelf) in
+    let n = (g.S.Service.counts l.service).n in
+    let held = g.S.Service.blocks l.fn.service first in
+    record {
+      goes : Goes held first now;
+      free : CanServe now.pool;
+      is : g.S.Service.IsService l.service now;
+      within : Within first held (g.S.Service.blocks l.service now);
+      alone : StandsAlone g.S.Service.allowance g.S.Service.room (g.S.Service.counts l.service)
+          now;
+      given : List Command;
+      has : g.S.Service.Has l.service now given;
+      number : l.number ≡ n + 1;
+      few : n ≤ 2 ^ 40;
+      place : l.feed.place ≤ 48 * n;
+      reads : Reads g.H.Shelf.tells l.fn.feed (g.H.Shelf.stand l.fn.shelf)
+          l.feed (g.H.Shelf.stand l.shelf);
+      later : g.H.Shelf.faults l.fn.shelf ≤ g.H.Shelf.faults l.shelf;
+      stabs_most : l.stabs ≤ n;
+      good : IsTrue g.H.Shelf.tells
+          → good_commands kind text ≡ given ++ (parsed_from kind (n + 1) (lines_of left)).good;
+      fault : IsTrue g.H.Shelf.tells
+          → first_fault kind text ≡ (parsed_from kind (n + 1) (lines_of left)).fault;
+      counted : IsTrue g.H.Shelf.tells → Counted kind text left n;
+      stabs : IsTrue g.H.Shelf.tells → length (stab_answers (good_commands kind text)) ≡ l.stabs
+          + length (stab_answers (parsed_from kind (n + 1) (lines_of left)).good);
+    }
+
+abbrev pub decreases-loop-next : goal.decreases-loop-next
+decreases-loop-next g l = 2 ^ 40 + 1 - l.number

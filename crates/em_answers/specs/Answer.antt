@@ -1,0 +1,56 @@
+-- What is printed for the commands of a command file: docs/FORMATS.md, "Output".
+use Rattle.std.specs.Prelude.{ℕ, List, [], ◌∷◌, ◌++◌, Option, Some, None, decimal, codes}
+use Rattle.std.specs.List.{flat_map}
+use Rattle.em_model.specs.Map.{map_answers}
+use Rattle.em_model.specs.Queue.{queue_answers}
+use Rattle.em_model.specs.Stab.{stab_answers}
+use Rattle.em_model.specs.declared.command.Command.{Command}
+use Rattle.em_lines.specs.declared.text.FileKind.{FileKind}
+use Rattle.em_lines.specs.declared.text.FileKind.TheVariants.{Map, Queue, Stab}
+
+-- an answer of a map in words: the value, or a dash
+abbrev pub answer_word : Option ℕ → List ℕ
+answer_word None = codes "-"
+answer_word (Some value) = decimal value
+
+-- one line for each answer
+abbrev pub answer_line : Option ℕ → List ℕ
+answer_line answer = answer_word answer ++ 10 ∷ []
+
+-- the lines of some answers of a map
+abbrev pub map_text : List (Option ℕ) → List ℕ
+map_text answers = flat_map answer_line answers
+
+-- an answer of a queue in words: the key and the value with a space between, or a dash
+abbrev pub popped_word : Option (ℕ × ℕ) → List ℕ
+popped_word None = codes "-"
+popped_word (Some item) = decimal item.0 ++ 32 ∷ decimal item.1
+
+abbrev pub popped_line : Option (ℕ × ℕ) → List ℕ
+popped_line answer = popped_word answer ++ 10 ∷ []
+
+-- the lines of some answers of a queue
+abbrev pub queue_text : List (Option (ℕ × ℕ)) → List ℕ
+queue_text answers = flat_map popped_line answers
+
+-- numbers, each after a space
+abbrev pub further_words : List ℕ → List ℕ
+further_words numbers = flat_map (λ n. 32 ∷ decimal n) numbers
+
+-- an answer of an interval list in words: the numbers with a space between, or a dash
+abbrev pub numbers_word : List ℕ → List ℕ
+numbers_word [] = codes "-"
+numbers_word (n ∷ ns) = decimal n ++ further_words ns
+
+abbrev pub numbers_line : List ℕ → List ℕ
+numbers_line numbers = numbers_word numbers ++ 10 ∷ []
+
+-- the lines of some answers of an interval list
+abbrev pub stab_text : List (List ℕ) → List ℕ
+stab_text answers = flat_map numbers_line answers
+
+-- the text of the answers to some commands of a file of this kind
+abbrev pub text_for : FileKind → List Command → List ℕ
+text_for Map commands = map_text (map_answers commands)
+text_for Queue commands = queue_text (queue_answers commands)
+text_for Stab commands = stab_text (stab_answers commands)

@@ -1,0 +1,94 @@
+-- A command file that is read into a service, and why the reading of a file stops.
+use Rattle.std.specs.Prelude.{◌≡◌, ℕ, ◌+◌, ◌*◌, ◌-◌, ◌≤◌, ◌^◌, ◌⊎◌, Bool, false, IsTrue, List, [], Option, Some, None, IfSome}
+use Rattle.em_io.specs.Feed.{Fed, rest}
+use Rattle.em_io.specs.declared.shelf.Shelf.{Ghosts as ShelfGhosts}
+use Rattle.em_record.specs.Shape.{ShapeNumbers, payload_of}
+use Rattle.em_space.specs.Rig.{RigState, Cause}
+use Rattle.em_chain.specs.Counts.{ceiling}
+use Rattle.em_answers.specs.Limits.{Limits}
+use Rattle.em_ends.specs.Asked.{ToldIf}
+use Rattle.em_services.specs.Service.{counts_pairs, ServiceCounts}
+use Rattle.em_lines.specs.RunSize.{run_size}
+use Rattle.em_ends.specs.Stop.{IfStopsFull, reading, Faults}
+use Rattle.em_ends.specs.declared.stop.Stop.{Stop}
+use Rattle.em_lines.specs.declared.text.FileKind.{FileKind}
+use Rattle.em_record.specs.Count.{Rose}
+use Rattle.em_lines.specs.CommandLine.{first_fault}
+use Rattle.em_ends.specs.declared.status.Malform.TheVariants.{Text, Aig}
+use Rattle.em_ends.specs.declared.stop.Stop.TheVariants.{Fault, Read, Write, Em}
+
+-- The service is alone on the rig: each block in use was moved or isn't stored yet. If it states a
+-- room, all blocks in use are its own, and at no moment more than that. If it states an allowance, all
+-- moves are its own, and within that, if the device tells.
+pub record StandsAlone (allowance room : Option (ShapeNumbers → ℕ → ℕ)) (c : ServiceCounts)
+    (s : RigState) : Type 0 where
+  pub paid : (2 ^ 64 - 1 ≤ s.moves) ⊎ (s.used ≤ s.moves + c.unstored)
+  pub used : IfSome room (λ f. s.used ≡ c.blocks)
+  pub most : IfSome room (λ f. s.most ≤ f s.pool.shape c.n)
+  pub moved : IfSome allowance (λ f. s.moves ≤ c.spent)
+  pub within : IsTrue s.device.told → IfSome allowance (λ f. s.moves ≤ f s.pool.shape c.n)
+
+-- the most blocks that a service may hold: its room, or if it states none, all of the device
+abbrev pub most_within : Option (ShapeNumbers → ℕ → ℕ) → ℕ → (ShapeNumbers → ℕ → ℕ)
+most_within None blocks = λ shape size. blocks
+most_within (Some f) blocks = f
+
+-- whether this is said only of a device that tells: a room may count pairs
+abbrev pub told_within : Option (ShapeNumbers → ℕ → ℕ) → FileKind → Bool
+told_within None kind = false
+told_within (Some f) kind = counts_pairs kind
+
+-- the most moves of a run over a service that states an allowance: those of the service, and one for each
+-- block of the answers, which are packed
+abbrev pub moves_within : Option (ShapeNumbers → ℕ → ℕ) → Option (ShapeNumbers → ℕ → ℕ)
+moves_within None = None
+moves_within (Some f) = Some (λ shape size. f shape size + ceiling size (payload_of shape))
+
+-- What a run over a service is held to, on a device of this many blocks.
+abbrev pub service_limits : (allowance room : Option (ShapeNumbers → ℕ → ℕ)) → ℕ → FileKind → Limits
+service_limits allowance room blocks kind = record {
+  moves = moves_within allowance;
+  most = most_within room blocks;
+  most_told = told_within room kind;
+}
+
+-- All moves on a rig that moved none at first are within the allowance of a service for the size of what
+-- was read of a text, if it states one and the device tells.
+abbrev pub KeepsAllowance : Option (ShapeNumbers → ℕ → ℕ) → FileKind → (text left : List ℕ) → RigState
+    → RigState → Type 0
+KeepsAllowance None kind text left old new = Unit {0}
+KeepsAllowance (Some f) kind text left old new =
+    IsTrue old.device.told → new.moves ≤ f old.pool.shape (run_size kind text left)
+
+-- What a full device says, where this much of the text is left: its blocks are at most the moves and
+-- two for each frame, and at most as many as a run of this size with these limits may hold.
+pub record IsFilled (limits : Limits) (tells : Bool) (kind : FileKind) (text left : List ℕ)
+    (new : RigState) (used : ℕ) : Type 0 where
+  pub paid : (2 ^ 64 - 1 ≤ new.moves) ⊎ (used ≤ new.moves + 2 * new.pool.shape.frames)
+  pub size : IsTrue tells → ToldIf limits.most_told new.device.told
+      → used ≤ limits.most new.pool.shape (run_size kind text left)
+
+-- the text has no fault, and all of it was read
+pub record ReadsAll (kind : FileKind) (text left : List ℕ) : Type 0 where
+  pub fault : first_fault kind text ≡ None
+  pub end : left ≡ []
+
+-- A stop of a call that answers a command file has its cause: the first fault of the text, if the
+-- shelf tells it; a count of faults that rose; or what a call on the rig says.
+abbrev pub StopCause : Bool → FileKind → List ℕ → Faults → Faults → RigState → RigState → Stop
+    → Type 0
+StopCause tells kind text faults after old new (Fault (Text fault) line) =
+    IsTrue tells → first_fault kind text ≡ Some (fault, line)
+StopCause tells kind text faults after old new (Fault (Aig fault) place) = ⊥
+StopCause tells kind text faults after old new Read = Rose faults.read after.read
+StopCause tells kind text faults after old new Write = Rose faults.write after.write
+StopCause tells kind text faults after old new (Em fault) = Cause old new fault
+
+-- Why the reading of a file stopped, and what a full device says then.
+pub record StopsReading {H : Type 0} (h : ShelfGhosts H) (limits : Limits)
+    (kind : FileKind) (feed : Fed) (shelf shelf_after : H) (old new : RigState) (stop : Stop)
+    : Type 0 where
+  pub cause : StopCause h.tells kind (rest feed (h.stand shelf)) (reading (h.faults shelf))
+      (reading (h.faults shelf_after)) old new stop
+  pub full : IfStopsFull stop (IsFilled limits h.tells kind (rest feed (h.stand shelf))
+      ((h.stand shelf_after).slot feed.slot).left new)

@@ -1,0 +1,108 @@
+//! The run of a command file whose slot is open: by a service, or by a queue.
+ghost use Rattle.std.specs.Prelude.{◌≡◌, true, [], IsTrue};
+ghost use Rattle.em_space.specs.Queue.{CanServe, IsNew};
+ghost use Rattle.em_space.specs.Rig.{Goes, Sound};
+ghost use Rattle.em_space.specs.Seen.{seen};
+ghost use Rattle.em_answers.specs.Serve.{GivesUp, WithinCalls, IsAlone};
+ghost use Rattle.em_answers.specs.Limits.{queue_limits};
+ghost use Rattle.em_ready.specs.Ready.{IsReady, IsUnused};
+ghost use Rattle.em_answers.specs.FileRun.{Runs, RunsWithin};
+ghost use Rattle.em_lines.specs.RunSize.{commands_taken};
+ghost use Rattle.em_answers.specs.Reading.{service_limits};
+
+use crate::print::print_answers;
+use crate::read::read_answers;
+use crate::serving::serve;
+use em_ends::{Status, Stop, status_of};
+use em_frames::Device;
+use em_io::{Feed, Shelf, Sink, Slot};
+use em_lines::FileKind;
+use em_map::Batch;
+use em_pqueue::ExtQueue;
+use em_segment::Stab;
+use em_services::Service;
+use em_space::{Queue, Rig};
+
+/// Reads the commands of the open slot into a new service of type S, and prints their answers.
+pub fn run_service<D: Device, H: Shelf, W: Sink, S: Service>(
+    rig: &mut Rig<'_, D>,
+    shelf: &mut H,
+    out: &mut W,
+) -> Status
+    requires unused { IsUnused (seen D.state rig.old) }
+    requires none_moved { (seen D.state rig.old).moves ≡ 0 }
+    requires free { IsReady (seen D.state rig.old).pool }
+    requires ready { ((H.stand shelf.old).slot Slot.First).ready ≡ true }
+    ensures goes { Goes [] (seen D.state rig.old) (seen D.state rig.new) }
+    ensures runs { RunsWithin H.Shelf W.Sink
+        (service_limits S.allowance S.room (seen D.state rig.old).blocks S.KIND)
+        S.KIND (seen D.state rig.old) (seen D.state rig.new)
+        shelf.old out.old shelf.new out.new result }
+{
+    let mut feed = Feed::new(Slot::First);
+    match read_answers::<D, H, S>(rig, &mut feed, shelf) {
+        Ok(answers) => match print_answers(S::KIND, rig, &answers, out) {
+            Ok(()) => Status::Done,
+            Err(stop) => status_of(stop),
+        },
+        Err(stop) => status_of(stop),
+    }
+}
+
+/// Answers the commands of the open slot by a queue that was never called, on a rig of which all blocks
+/// in use are the queue's, and prints each answer when its pop is read. The queue is given up.
+pub fn run_queue<D: Device, H: Shelf, W: Sink, Q: Queue>(
+    rig: &mut Rig<'_, D>,
+    mut queue: Q,
+    shelf: &mut H,
+    out: &mut W,
+) -> Status
+    requires sound { Sound (seen D.state rig.old) }
+    requires queue { Q.IsQueue queue (seen D.state rig.old) }
+    requires free { CanServe (seen D.state rig.old).pool }
+    requires fresh { IsNew (Q.counts queue) }
+    requires alone { IsAlone (seen D.state rig.old) (Q.counts queue) }
+    requires ready { ((H.stand shelf.old).slot Slot.First).ready ≡ true }
+    ensures gives { GivesUp Q.Queue queue (seen D.state rig.old) (seen D.state rig.new) }
+    ensures runs { RunsWithin H.Shelf W.Sink (queue_limits (seen D.state rig.old).blocks)
+        FileKind.Queue (seen D.state rig.old) (seen D.state rig.new)
+        shelf.old out.old shelf.new out.new result }
+    ensures moves { IsTrue H.tells → IsTrue (seen D.state rig.old).device.told
+        → WithinCalls Q.allowance (seen D.state rig.old).pool.shape
+        (commands_taken FileKind.Queue ((H.stand shelf.old).slot Slot.First).left
+        ((H.stand shelf.new).slot Slot.First).left) (seen D.state rig.new).moves }
+{
+    let mut feed = Feed::new(Slot::First);
+    let done = serve(rig, &mut queue, &mut feed, shelf, out);
+    queue.abandon(rig);
+    match done {
+        Ok(()) => Status::Done,
+        Err(stop) => status_of(stop),
+    }
+}
+
+/// Answers the commands of the open slot, on a rig of which no block is or was in use.
+#[tactic(auto, using(crate::proofs::Moves::queue_alone, crate::proofs::Moves::queue_serves))]
+pub fn run_open<D: Device, H: Shelf, W: Sink>(
+    kind: FileKind,
+    rig: &mut Rig<'_, D>,
+    shelf: &mut H,
+    out: &mut W,
+) -> Status
+    requires unused { IsUnused (seen D.state rig.old) }
+    requires free { IsReady (seen D.state rig.old).pool }
+    requires none_moved { (seen D.state rig.old).moves ≡ 0 }
+    requires ready { ((H.stand shelf.old).slot Slot.First).ready ≡ true }
+    ensures goes { Goes [] (seen D.state rig.old) (seen D.state rig.new) }
+    ensures runs { Runs H.Shelf W.Sink kind (seen D.state rig.old) (seen D.state rig.new)
+        shelf.old out.old shelf.new out.new result }
+{
+    match kind {
+        FileKind::Map => run_service::<D, H, W, Batch>(rig, shelf, out),
+        FileKind::Queue => match ExtQueue::new(rig) {
+            Ok(queue) => run_queue(rig, queue, shelf, out),
+            Err(fault) => status_of(Stop::Em(fault)),
+        },
+        FileKind::Stab => run_service::<D, H, W, Stab>(rig, shelf, out),
+    }
+}

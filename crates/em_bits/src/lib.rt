@@ -1,0 +1,7 @@
+//! A bit for each number, in a row of records.
+#![tactic(auto)]
+
+mod bits;
+mod word;
+
+pub use bits::{and_in, fill, get};

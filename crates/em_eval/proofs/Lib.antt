@@ -1,0 +1,20 @@
+pub mod Circuit
+pub mod CircuitCosts
+pub mod CircuitEdges
+pub mod CircuitMade
+pub mod CircuitMoves
+pub mod EvalCosts
+pub mod EvalEnds
+pub mod EvalMoves
+pub mod EvalOpens
+mod EvalRows
+pub mod Evaluated
+pub mod Evaluating
+pub mod GroupRound
+pub mod LoopEnds
+pub mod LoopPrints
+pub mod Making
+pub mod RoundLoop
+pub mod Rounds
+pub mod StepRound
+pub mod Stepping

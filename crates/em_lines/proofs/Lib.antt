@@ -1,0 +1,5 @@
+pub mod LineLemmas
+mod NumberLemmas
+pub mod ReadLaws
+pub mod Steps
+mod TextRows

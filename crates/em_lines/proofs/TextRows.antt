@@ -1,0 +1,141 @@
+-- Worked texts: what the definitions of command files say of them.
+use Rattle.std.specs.Prelude.{◌≡◌, [], ◌∷◌, codes, map, refl, Some, None, Ok, Err}
+use Rattle.em_model.specs.declared.command.Command.TheVariants as command
+use Rattle.em_lines.specs.declared.text.FileKind.TheVariants.{Map, Queue, Stab}
+use Rattle.em_lines.specs.declared.text.TextKind.TheVariants.{BadNumber, TooLarge, BadSeparator, Unknown, EmptyLine, LowAboveHigh, TooLong}
+use Rattle.em_lines.specs.Lines.{lines_of, parts_of}
+use Rattle.em_lines.specs.CommandLine.{command_of, numbered, first_fault, good_commands}
+use Rattle.em_lines.specs.RunSize.{lines_given}
+
+-- How a text is cut.
+
+no_lines : lines_of [] ≡ []
+no_lines = refl
+
+a_lone_newline : lines_of (codes "\n") ≡ [] ∷ []
+a_lone_newline = refl
+
+a_last_line_without_newline : lines_of (codes "pop\npop") ≡ codes "pop" ∷ codes "pop" ∷ []
+a_last_line_without_newline = refl
+
+an_empty_part : parts_of (codes "get  1") ≡ codes "get" ∷ [] ∷ codes "1" ∷ []
+an_empty_part = refl
+
+-- Whole texts.
+
+a_number_above_64_bits :
+    first_fault Map (codes "put 1 2\nget 1\nput 1 18446744073709551616\n") ≡ Some (TooLarge, 3)
+a_number_above_64_bits = refl
+
+the_first_of_two_faults :
+    first_fault Map (codes "put 1 2\nget  1\nbogus\n") ≡ Some (BadSeparator, 2)
+the_first_of_two_faults = refl
+
+an_interval_out_of_order : first_fault Stab (codes "iv 7 3\n") ≡ Some (LowAboveHigh, 1)
+an_interval_out_of_order = refl
+
+a_word_for_a_number : first_fault Queue (codes "push 1 2\npop\npush x 1\n") ≡ Some (BadNumber, 3)
+a_word_for_a_number = refl
+
+the_commands_before_a_fault :
+    good_commands Queue (codes "push 1 2\npop\npush x 1\n")
+    ≡ command.Push 1 2 ∷ command.Pop ∷ []
+the_commands_before_a_fault = refl
+
+the_commands_of_a_map_text :
+    good_commands Map (codes "put 5 10\nget 5\nput 5 11\nget 5\ndel 5\nget 5\n")
+    ≡ command.Put 5 10 ∷ command.Get 5 ∷ command.Put 5 11 ∷ command.Get 5 ∷ command.Del 5
+    ∷ command.Get 5 ∷ []
+the_commands_of_a_map_text = refl
+
+no_fault_of_a_map_text :
+    first_fault Map (codes "put 5 10\nget 5\nput 5 11\nget 5\ndel 5\nget 5\n") ≡ None
+no_fault_of_a_map_text = refl
+
+the_commands_of_a_stab_text :
+    good_commands Stab (codes "stab 5\niv 5 5\niv 7 18446744073709551615\n")
+    ≡ command.Stab 5 ∷ command.Interval 5 5 ∷ command.Interval 7 18446744073709551615 ∷ []
+the_commands_of_a_stab_text = refl
+
+no_command_of_the_empty_text : good_commands Map [] ≡ []
+no_command_of_the_empty_text = refl
+
+no_fault_of_the_empty_text : first_fault Map [] ≡ None
+no_fault_of_the_empty_text = refl
+
+a_further_newline : first_fault Queue (codes "pop\n\n") ≡ Some (EmptyLine, 2)
+a_further_newline = refl
+
+no_further_newline : first_fault Queue (codes "pop\n") ≡ None
+no_further_newline = refl
+
+the_command_of_a_last_line :
+    good_commands Map (codes "get 1\nget 2") ≡ command.Get 1 ∷ command.Get 2 ∷ []
+the_command_of_a_last_line = refl
+
+-- Lines of a text whose front was given.
+
+two_lines : map (λ n. lines_given n (codes "get 1\nget 2")) (5 ∷ 6 ∷ 10 ∷ 11 ∷ [])
+    ≡ 0 ∷ 1 ∷ 1 ∷ 2 ∷ []
+two_lines = refl
+
+a_line_and_an_empty_line : map (λ n. lines_given n (codes "get 1\n\n")) (5 ∷ 6 ∷ 7 ∷ [])
+    ≡ 0 ∷ 1 ∷ 2 ∷ []
+a_line_and_an_empty_line = refl
+
+none_of_the_empty_text : lines_given 0 [] ≡ 0
+none_of_the_empty_text = refl
+
+-- Lines.
+
+digits_21 : command_of Map (codes "get 000000000000000000001") ≡ Err BadNumber
+digits_21 = refl
+
+digits_20_too_large : command_of Map (codes "get 18446744073709551616") ≡ Err TooLarge
+digits_20_too_large = refl
+
+digits_20_greatest : command_of Map (codes "get 18446744073709551615")
+    ≡ Ok (command.Get 18446744073709551615)
+digits_20_greatest = refl
+
+leading_zeros : command_of Map (codes "put 007 00000000000000000012") ≡ Ok (command.Put 7 12)
+leading_zeros = refl
+
+a_leading_space : command_of Map (codes " get 1") ≡ Err Unknown
+a_leading_space = refl
+
+a_return_in_an_operand : command_of Map (codes "get 1\r") ≡ Err BadNumber
+a_return_in_an_operand = refl
+
+a_return_in_a_word : command_of Queue (codes "pop\r") ≡ Err Unknown
+a_return_in_a_word = refl
+
+a_space_behind_the_last_operand : command_of Queue (codes "pop ") ≡ Err BadSeparator
+a_space_behind_the_last_operand = refl
+
+a_third_operand : command_of Map (codes "put 1 2 3") ≡ Err BadSeparator
+a_third_operand = refl
+
+a_missing_operand : command_of Map (codes "put 1") ≡ Err BadSeparator
+a_missing_operand = refl
+
+an_operand_before_a_separator : command_of Map (codes "put x") ≡ Err BadNumber
+an_operand_before_a_separator = refl
+
+a_separator_before_the_order : command_of Stab (codes "iv 7 3 1") ≡ Err BadSeparator
+a_separator_before_the_order = refl
+
+a_word_of_another_table : command_of Queue (codes "get 1") ≡ Err Unknown
+a_word_of_another_table = refl
+
+a_capital : command_of Map (codes "Get 1") ≡ Err Unknown
+a_capital = refl
+
+a_sign : command_of Map (codes "get +1") ≡ Err BadNumber
+a_sign = refl
+
+the_last_line : numbered Queue 1099511627776 (codes "pop") ≡ Ok command.Pop
+the_last_line = refl
+
+a_line_too_many : numbered Queue 1099511627777 [] ≡ Err TooLong
+a_line_too_many = refl

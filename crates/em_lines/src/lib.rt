@@ -1,0 +1,14 @@
+//! Lines of command files: a line is read from a text on a shelf, byte by byte, and is a command or has a
+//! fault.
+#![tactic(auto)]
+
+mod byte;
+mod line;
+mod numeral;
+mod operand;
+mod text;
+mod word;
+
+pub use line::take_line;
+pub use numeral::number;
+pub use text::{FileKind, LineStop, TextKind};

@@ -1,0 +1,5 @@
+pub mod FileOpens
+pub mod MadeRuns
+pub mod Origins
+pub mod Summed
+pub mod WholeTexts

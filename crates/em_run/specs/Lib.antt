@@ -1,0 +1,5 @@
+pub mod Due
+pub mod Made
+pub mod Origin
+pub mod Runs
+pub mod Tasks

@@ -1,0 +1,9 @@
+pub mod Accounts
+pub mod Chains
+pub mod Deals
+pub mod Lists
+pub mod Loads
+pub mod Pairs
+pub mod Reports
+pub mod Splits
+pub mod Strips

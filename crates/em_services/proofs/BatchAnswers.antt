@@ -1,0 +1,179 @@
+-- A batch is finished, and its answers are put in order.
+use Rattle.std.proofs.Common.{◌≡◌, ℕ, ◌+◌, ◌*◌, ◌<◌, ◌≤◌, List, length, ap, sym, ◌∙◌, arith, IsTrue, None, Some, Result, Ok, Err, IfOk, IfErr, OnErr}
+use Rattle.std.specs.Int.{div_ceil}
+use Rattle.em_record.specs.Shape.{ShapeNumbers, fan_of, payload_of}
+use Rattle.em_frames.specs.Pool.{GivenFrames, PoolCounts, SameFrames}
+use Rattle.em_model.specs.MapAnswers.{answer_records}
+use Rattle.em_model.specs.declared.command.Command.{Command}
+use Rattle.em_space.specs.Queue.{Pays}
+use Rattle.em_space.specs.Rig.{Cause, RigState, Touches}
+use Rattle.em_space.specs.declared.fault.EmFault.{EmFault}
+use Rattle.em_space.proofs.Paying.{pays_more, pays_then}
+use Rattle.em_space.proofs.Steps.{cause_after}
+use Rattle.em_space.proofs.Within.{touches_within, within_then}
+use Rattle.em_chain.specs.Chain.{chain_blocks, chain_items}
+use Rattle.em_chain.specs.Counts.{ceiling}
+use Rattle.em_chain.specs.declared.chain.Chain.{Chain}
+use Rattle.em_chain.proofs.Counts.{packed_blocks}
+use Rattle.em_chain.proofs.Readers.{length_items}
+use Rattle.em_tree.specs.Calls.{StopsFinishing}
+use Rattle.em_tree_cost.specs.Shares.{chain_share, queue_share}
+use Rattle.em_tree_cost.proofs.Ceilings.{ceil_is, ceil_mono, ceiling_is}
+use Rattle.em_tree_cost.proofs.Rising.{queue_share_rises}
+use Rattle.em_map.specs.Batch.{BatchCosts, FinishedBatch, HasCommands, batch_blocks, trunk_of}
+use Rattle.em_map.specs.declared.batch.Batch.{Batch}
+use Rattle.em_services.specs.BatchService.{AreAnswers, IsGivenBatch, OrdersAnswers, batch_counts, map_share, ordering_moves}
+use Rattle.em_services.specs.Service.{CanAnswer, GivesFrames, LeavesAnswers, WithinAllowance}
+use Rattle.em_services.proofs.AnswerOrder.{answers_lack, answers_most}
+
+-- the blocks of a packed list of at most n records, read, released and written anew
+pub ceiling_share : (shape : ShapeNumbers) (count n : ℕ) → count ≤ n → 0 < payload_of shape
+    → 4 * ceiling count (payload_of shape) + 1 ≤ chain_share shape n
+ceiling_share shape count n few some =
+    let p = payload_of shape in
+    let least = ceil_mono (ceiling count p) (div_ceil n p) p count n (ceiling_is count p some)
+    (ceil_is n p some) few in
+    omega (arith, least)
+
+given_then : (p q r : PoolCounts) → GivenFrames 2 p q → SameFrames q r → GivenFrames 2 p r
+given_then p q r x y = record {
+  shape = y.shape ∙ x.shape;
+  free = y.free ∙ x.free;
+  rack = y.rack ∙ x.rack;
+  free_areas = y.free_areas ∙ x.free_areas;
+  peak = omega (arith, x.peak, y.peak);
+}
+
+-- no more answers were given than commands
+answers_count : (s m : RigState) (b : Batch) (c : Chain) → FinishedBatch s m b c
+    → IsGivenBatch s b → IsTrue s.device.told → c.count ≤ b.calls
+answers_count s m b c f i z =
+    let n = length_items m c f.tree.chain (f.tree.session.touches.told ∙ z) in
+    let l = answers_most i.commands (chain_items m c) (f.ordered z i.commands i.has) in
+    let calls = i.has.calls in
+    omega (arith, n, l, calls)
+
+-- It was finished: its answers can be put in order.
+pub answers_are : (s m : RigState) (b : Batch) (c : Chain) → FinishedBatch s m b c
+    → IsGivenBatch s b → CanAnswer s.pool → AreAnswers m c
+answers_are s m b c f i free =
+    let told = f.tree.session.touches.told in
+    let pool = f.tree.frames in
+    record {
+      sound = f.tree.session.sound;
+      free = record {
+        singles = let e = ap fan_of pool.shape in omega (arith, e, pool.free, free.singles);
+        areas = omega (arith, pool.free_areas, free.areas);
+        rack = pool.rack ∙ free.rack;
+      };
+      areas = omega (arith, pool.free_areas, free.areas);
+      is = f.tree.chain;
+      few = λ z.
+          let n = answers_count s m b c f i (sym told ∙ z) in
+          let few = i.is.few in omega (arith, n, few);
+      lacks = λ z. answers_lack i.commands (chain_items m c)
+          (f.ordered (sym told ∙ z) i.commands i.has);
+    }
+
+-- They were put in order, or a call gave up.
+module _ (s m t : RigState) (b : Batch) (c : Chain) (f : FinishedBatch s m b c) where
+  finished_touches : Touches (batch_blocks s b) s m
+  finished_touches = f.tree.session.touches
+
+  frames_kept : m.pool.shape.frames ≡ s.pool.shape.frames
+  frames_kept = ap (λ (p : ShapeNumbers). p.frames) f.tree.frames.shape
+
+  pub answers_gives : (result : Result Chain EmFault) → OrdersAnswers m t c result
+      → GivesFrames 2 (batch_blocks s b) s t
+  answers_gives (Ok d) o = record {
+    sound = o.session.sound;
+    touches = touches_within s m t (batch_blocks s b) (chain_blocks m c) finished_touches
+        f.tree.session.within o.session.touches;
+    frames_are = given_then s.pool m.pool t.pool f.tree.frames o.frames;
+  }
+  answers_gives (Err fault) o = record {
+    sound = o.goes.sound;
+    touches = touches_within s m t (batch_blocks s b) (chain_blocks m c) finished_touches
+        f.tree.session.within o.goes.touches;
+    frames_are = given_then s.pool m.pool t.pool f.tree.frames o.goes.frames;
+  }
+
+  pub answers_leaves : (result : Result Chain EmFault) → OrdersAnswers m t c result
+      → IfOk result (LeavesAnswers None (batch_blocks s b) (batch_counts b) s t)
+  answers_leaves (Ok d) o = record {
+    is = o.is;
+    packed = λ z. o.packed (finished_touches.told ∙ z);
+    within = within_then s m (batch_blocks s b) (chain_blocks m c) (chain_blocks t d)
+        finished_touches f.tree.session.within o.session.within;
+    pays = pays_then f.tree.pays o.pays o.session.touches.moves;
+    used = tt;
+  }
+  answers_leaves (Err fault) o = tt
+
+  pub answers_items : (result : Result Chain EmFault) → OrdersAnswers m t c result
+      → IfOk result (λ d. IsTrue s.device.told → (cs : List Command) → HasCommands s b cs
+      → chain_items t d ≡ answer_records cs)
+  answers_items (Ok d) o = λ z cs h. o.items (finished_touches.told ∙ z) ∙ f.ordered z cs h
+  answers_items (Err fault) o = tt
+
+  pub answers_owes : (result : Result Chain EmFault) → OrdersAnswers m t c result
+      → OnErr result (Pays (batch_counts b).unstored (2 * s.pool.shape.frames) s t)
+  answers_owes (Ok d) o = tt
+  answers_owes (Err fault) o =
+      pays_then f.tree.pays (pays_more o.pays (omega (arith, frames_kept))) o.goes.touches.moves
+
+  -- Its moves were within its share, and those of the queue and of both lists are within the rest.
+  order_moves : IsGivenBatch s b → IsTrue s.device.told
+      → ordering_moves m c ≤ queue_share s.pool.shape (2 * b.calls) (2 * b.calls)
+      + chain_share s.pool.shape b.calls
+  order_moves i z =
+      let told = finished_touches.told ∙ z in
+      let shape = f.tree.frames.shape in
+      let few = answers_count s m b c f i z in
+      let low : 128 ≤ m.pool.shape.block = f.tree.session.sound.shape.block_low in
+      let blocks = packed_blocks m c low f.tree.chain told (f.tree.packed z) in
+      let most = ceiling_share m.pool.shape c.count b.calls few
+      (omega (arith, low)) in
+      let queue = queue_share_rises m.pool.shape (2 * c.count) (2 * b.calls) (2 * c.count) (2 * b.calls)
+      (omega (arith, few)) (omega (arith, few)) in
+      rw (← shape) (omega (arith, blocks, most, queue))
+
+  ordered_moves : (result : Result Chain EmFault) → OrdersAnswers m t c result
+      → IsTrue m.device.told → t.moves ≤ m.moves + ordering_moves m c
+  ordered_moves (Ok d) o z = o.moves z
+  ordered_moves (Err fault) o z = o.moves z
+
+  pub answers_moves : (result : Result Chain EmFault) → OrdersAnswers m t c result
+      → IsGivenBatch s b → BatchCosts s m b → (cs : List Command) → HasCommands s b cs
+      → WithinAllowance (Some map_share) (length cs) (batch_counts b).spent s t
+  answers_moves result o i costs cs h = λ z.
+      let moves : t.moves ≤ m.moves + ordering_moves m c =
+      ordered_moves result o (finished_touches.told ∙ z) in
+      let own = costs.share z in
+      let later = costs.later in
+      let rest = order_moves i z in
+      rw (← h.calls) (omega (arith, moves, own, later, rest))
+
+  pub answers_cause : (result : Result Chain EmFault) → OrdersAnswers m t c result
+      → IfErr result (Cause s t)
+  answers_cause (Ok d) o = tt
+  answers_cause (Err fault) o = cause_after (batch_blocks s b) s m t fault finished_touches o.cause
+
+-- It wasn't finished.
+module _ (s t : RigState) (b : Batch) (fault : EmFault) (h : StopsFinishing s t (trunk_of b) fault)
+  where
+    pub unfinished_gives : GivesFrames 2 (batch_blocks s b) s t
+    unfinished_gives = record { sound = h.sound; touches = h.touches; frames_are = h.frames }
+
+    pub unfinished_owes : Pays (batch_counts b).unstored (2 * s.pool.shape.frames) s t
+    unfinished_owes = pays_more h.pays (omega arith)
+
+    pub unfinished_cause : Cause s t fault
+    unfinished_cause = h.cause
+
+    pub unfinished_moves : BatchCosts s t b → (cs : List Command) → HasCommands s b cs
+        → WithinAllowance (Some map_share) (length cs) (batch_counts b).spent s t
+    unfinished_moves costs cs k = λ z.
+        let own = costs.share z in
+        let later = costs.later in
+        rw (← k.calls) (omega (arith, own, later))

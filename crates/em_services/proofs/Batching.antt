@@ -1,0 +1,141 @@
+-- A batch as a service: what its calls leave.
+use Rattle.std.proofs.Common.{◌+◌, ◌*◌, List, [], ◌∷◌, ◌++◌, ap, arith, None, Some, Result, Ok, Err, OnOk, OnErr, IfOk, IfErr}
+use Rattle.em_model.specs.declared.command.Command.{Command}
+use Rattle.em_space.specs.Queue.{Pays}
+use Rattle.em_space.specs.Rig.{Cause, Goes, RigState, Sound}
+use Rattle.em_space.specs.declared.fault.EmFault.{EmFault}
+use Rattle.em_space.proofs.Paying.{pays_more}
+use Rattle.em_chain.specs.Effects.{Unmoved}
+use Rattle.em_tree.specs.Calls.{StopsNewTrunk}
+use Rattle.em_trunk.specs.Lists.{LeavesTrunk}
+use Rattle.em_map.specs.Batch.{BatchHasFrames, CountsCommand, HasCommands, IsNewBatch, TakesTo, batch_blocks}
+use Rattle.em_map.specs.declared.batch.Batch.{Batch}
+use Rattle.em_services.specs.BatchService.{IsGivenBatch, batch_counts, map_share}
+use Rattle.em_services.specs.Service.{GivesFrames, MakesService, TakesCommand, WithinAllowance}
+use Rattle.em_services.proofs.OrderedBatch.{share_some}
+
+-- A batch was made,
+pub made : (s t : RigState) (result : Result Batch EmFault) → IfOk result (IsNewBatch s t)
+    → IfOk result (λ b. MakesService (Some map_share) None 2 (batch_blocks t b) (batch_counts b) s t)
+made s t (Ok b) n = record {
+  sound = n.tree.session.sound;
+  touches = n.tree.session.touches;
+  frames_are = n.tree.frames;
+  within = n.tree.session.within;
+  n = n.none.calls;
+  pays = pays_more n.tree.pays (omega arith);
+  used = tt;
+  spent = let spent = n.tree.spent in omega (arith, spent);
+}
+made s t (Err fault) n = tt
+
+-- with at most four moves,
+pub made_moves : (s t : RigState) (result : Result Batch EmFault) → IfOk result (IsNewBatch s t)
+    → IfErr result (StopsNewTrunk s t) → WithinAllowance (Some map_share) 0 0 s t
+made_moves s t (Ok b) n h = λ z.
+    let moves = n.tree.moves in
+    let some = share_some s.pool.shape (2 * 0) (2 * 0) in omega (arith, moves, some)
+made_moves s t (Err fault) n h = λ z.
+    let moves = h.moves in
+    let some = share_some s.pool.shape (2 * 0) (2 * 0) in omega (arith, moves, some)
+
+pub made_given : (s t : RigState) (result : Result Batch EmFault) → IfOk result (IsNewBatch s t)
+    → IfOk result (IsGivenBatch t)
+made_given s t (Ok b) n = record { is = n.is; commands = []; has = n.none }
+made_given s t (Err fault) n = tt
+
+pub made_none : (s t : RigState) (result : Result Batch EmFault) → IfOk result (IsNewBatch s t)
+    → IfOk result (λ b. HasCommands t b [])
+made_none s t (Ok b) n = n.none
+made_none s t (Err fault) n = tt
+
+-- or it wasn't.
+pub unmade_goes : (s t : RigState) (result : Result Batch EmFault)
+    → IfErr result (StopsNewTrunk s t) → OnErr result (Goes [] s t)
+unmade_goes s t (Ok b) h = tt
+unmade_goes s t (Err fault) h = h.goes
+
+pub unmade_owes : (s t : RigState) (result : Result Batch EmFault)
+    → IfErr result (StopsNewTrunk s t) → Sound s → OnErr result (Pays 0 s.pool.shape.frames s t)
+unmade_owes s t (Ok b) h sound = tt
+unmade_owes s t (Err fault) h sound =
+    let low = sound.shape.frames_low in pays_more h.pays (omega (arith, low))
+
+pub unmade_cause : (s t : RigState) (result : Result Batch EmFault)
+    → IfErr result (StopsNewTrunk s t) → IfErr result (Cause s t)
+unmade_cause s t (Ok b) h = tt
+unmade_cause s t (Err fault) h = h.cause
+
+-- A command was given to it, with at most the moves of its share,
+pub take_moves : (s t : RigState) (b d : Batch) → CountsCommand s t b d
+    → WithinAllowance (Some map_share) ((batch_counts b).n + 1) (batch_counts b).spent s t
+take_moves s t b d n = λ z.
+    let share = rw (n.calls) at (n.share z) in
+    let spent = n.tree.spent in omega (arith, share, spent)
+
+-- or the call gave up.
+module _ (T : Type 0) (c : Command) (s t : RigState) (b d : Batch) where
+  pub take_goes : (result : Result T EmFault) → TakesTo c s t b d result
+      → Goes (batch_blocks s b) s t
+  take_goes (Ok x) h = record {
+    sound = h.tree.session.sound;
+    touches = h.tree.session.touches;
+    frames = h.tree.frames;
+  }
+  take_goes (Err fault) h = h.goes
+
+  pub take_frames : (result : Result T EmFault) → TakesTo c s t b d result → BatchHasFrames t d
+  take_frames (Ok x) h = h.is.is.running.frames
+  take_frames (Err fault) h = h.frames
+
+  pub take_is : (result : Result T EmFault) → TakesTo c s t b d result → IsGivenBatch s b
+      → OnOk result (IsGivenBatch t d)
+  take_is (Ok x) h i = record {
+    is = h.is;
+    commands = i.commands ++ c ∷ [];
+    has = h.commands i.commands i.has;
+  }
+  take_is (Err fault) h i = tt
+
+  pub take_has : (result : Result T EmFault) → TakesTo c s t b d result
+      → OnOk result ((cs : List Command) → HasCommands s b cs → HasCommands t d (cs ++ c ∷ []))
+  take_has (Ok x) h = h.commands
+  take_has (Err fault) h = tt
+
+  pub takes : (result : Result T EmFault) → TakesTo c s t b d result → CountsCommand s t b d
+      → OnOk result (TakesCommand (Some map_share) None (batch_blocks s b) (batch_blocks t d)
+      (batch_counts b) (batch_counts d) s t)
+  takes (Ok x) h n = record {
+    within = h.tree.session.within;
+    n = n.calls;
+    pays = h.tree.pays;
+    used = tt;
+    spent = let spent = n.tree.spent in omega (arith, spent);
+  }
+  takes (Err fault) h n = tt
+
+  pub take_owes : (result : Result T EmFault) → TakesTo c s t b d result
+      → OnErr result (Pays (batch_counts b).unstored s.pool.shape.frames s t)
+  take_owes (Ok x) h = tt
+  take_owes (Err fault) h = h.pays
+
+  pub take_cause : (result : Result T EmFault) → TakesTo c s t b d result
+      → IfErr result (Cause s t)
+  take_cause (Ok x) h = tt
+  take_cause (Err fault) h = h.cause
+
+-- It was abandoned.
+pub left_gives : (s t : RigState) → LeavesTrunk s t → GivesFrames 2 [] s t
+left_gives s t l = record { sound = l.sound; touches = l.touches; frames_are = l.frames }
+
+pub left_unmoved : (s t : RigState) → LeavesTrunk s t → Unmoved s t
+left_unmoved s t l = record {
+  device = ap (λ (x : RigState). x.device) l.same;
+  spare = ap (λ (x : RigState). x.spare) l.same;
+  same = record {
+    head = ap (λ (x : RigState). x.head) l.same;
+    used = ap (λ (x : RigState). x.used) l.same;
+    most = ap (λ (x : RigState). x.most) l.same;
+  };
+  moves = ap (λ (x : RigState). x.moves) l.same;
+}

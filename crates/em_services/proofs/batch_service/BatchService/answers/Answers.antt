@@ -1,0 +1,34 @@
+use Rattle.em_space.specs.Seen.{seen}
+use Rattle.em_services.proofs.BatchAnswers.{answers_are, answers_gives, answers_items, answers_leaves, answers_moves}
+use Rattle.em_services.proofs.batch_service.BatchService.answers.Goals as goal
+
+pub order_answers-requires : goal.order_answers-requires
+order_answers-requires g c = record {
+  are = answers_are (seen g.D.Device.state c.args.rig.now) (seen g.D.Device.state c.finish.new.rig)
+      c.args.self c.in-Ok.answers c.in-Ok.ensures.finishes c.requires.is c.requires.free;
+}
+
+pub returns-in-Ok-clause-gives : goal.returns-in-Ok-clause-gives
+returns-in-Ok-clause-gives g c =
+    answers_gives (seen g.D.Device.state c.args.rig.now) (seen g.D.Device.state c.finish.new.rig)
+    (seen g.D.Device.state c.order_answers.new.rig) c.args.self c.in-Ok.answers
+    c.in-Ok.ensures.finishes c.order_answers.result c.order_answers.ensures.orders
+
+pub returns-in-Ok-clause-leaves : goal.returns-in-Ok-clause-leaves
+returns-in-Ok-clause-leaves g c =
+    answers_leaves (seen g.D.Device.state c.args.rig.now) (seen g.D.Device.state c.finish.new.rig)
+    (seen g.D.Device.state c.order_answers.new.rig) c.args.self c.in-Ok.answers
+    c.in-Ok.ensures.finishes c.order_answers.result c.order_answers.ensures.orders
+
+pub returns-in-Ok-clause-items : goal.returns-in-Ok-clause-items
+returns-in-Ok-clause-items g c =
+    answers_items (seen g.D.Device.state c.args.rig.now) (seen g.D.Device.state c.finish.new.rig)
+    (seen g.D.Device.state c.order_answers.new.rig) c.args.self c.in-Ok.answers
+    c.in-Ok.ensures.finishes c.order_answers.result c.order_answers.ensures.orders
+
+pub returns-in-Ok-clause-moves : goal.returns-in-Ok-clause-moves
+returns-in-Ok-clause-moves g c =
+    answers_moves (seen g.D.Device.state c.args.rig.now) (seen g.D.Device.state c.finish.new.rig)
+    (seen g.D.Device.state c.order_answers.new.rig) c.args.self c.in-Ok.answers
+    c.in-Ok.ensures.finishes c.order_answers.result c.order_answers.ensures.orders c.requires.is
+    c.in-Ok.ensures.costs

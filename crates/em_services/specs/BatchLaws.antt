@@ -1,0 +1,58 @@
+-- The laws of a service that keeps its commands in a batch.
+use Rattle.std.specs.Prelude.{◌≡◌, ℕ, ◌*◌, ◌≤◌, List, IsTrue}
+use Rattle.std.proofs.Common.{arith}
+use Rattle.em_record.specs.Shape.{payload_of}
+use Rattle.em_model.specs.declared.command.Command.{Command}
+use Rattle.em_space.specs.Held.{Apart, Holds}
+use Rattle.em_space.specs.Rig.{RigState, Touches}
+use Rattle.em_map.specs.Batch.{BatchHasFrames, HasCommands, batch_blocks, batch_unstored}
+use Rattle.em_map.specs.declared.batch.Batch.{Batch}
+use Rattle.em_map.proofs.Stays.{batch_beside, batch_frames_stay}
+use Rattle.em_tree_cost.proofs.Rising.{batch_share_rises, div_ceil_rises, queue_share_rises}
+use Rattle.em_services.specs.BatchService.{IsGivenBatch, map_share}
+use Rattle.em_services.specs.Service.{FramesOut, RisesBySize}
+use Rattle.em_lines.specs.declared.text.FileKind.TheVariants.{Map, Queue}
+
+pub no_queue : Map ≡ Queue → ⊥
+no_queue e = cc
+
+pub two_frames : 2 ≤ 4
+two_frames = omega arith
+
+pub frames_of : (b : Batch) (s : RigState) → IsGivenBatch s b → BatchHasFrames s b
+frames_of b s h = h.is.is.running.frames
+
+pub holds : (b : Batch) (s : RigState) → IsGivenBatch s b → IsTrue s.device.told
+    → Holds s (batch_blocks s b)
+holds b s h told = (h.is.is.running.stands told).holds
+
+pub frames_stay : (b : Batch) (held : List ℕ) (s t : RigState) → BatchHasFrames s b
+    → Touches held s t → FramesOut 2 t.pool → BatchHasFrames t b
+frames_stay b held s t f h o = batch_frames_stay held s t b h o.is f
+
+pub stays : (b : Batch) (held : List ℕ) (s t : RigState) → IsGivenBatch s b
+    → Touches held s t → (IsTrue s.device.told → Apart (batch_blocks s b) held)
+    → FramesOut 2 t.pool
+    → IsGivenBatch t b × (IsTrue s.device.told → batch_blocks t b ≡ batch_blocks s b)
+    × ((cs : List Command) → HasCommands s b cs → HasCommands t b cs)
+stays b held s t i h a o =
+    let st = batch_beside held s t b h o.is i.is a in (
+      record { is = st.is; commands = i.commands; has = st.commands i.commands i.has },
+      st.blocks,
+      st.commands,
+    )
+
+pub out : (b : Batch) (s : RigState) → BatchHasFrames s b → FramesOut 2 s.pool
+out b s f = record { is = f.out }
+
+-- more commands are allowed no fewer moves
+pub rising : RisesBySize map_share
+rising shape m n is h =
+    let batch = batch_share_rises shape m n h in
+    let queue = queue_share_rises shape (2 * m) (2 * n) (2 * m) (2 * n) (omega (arith, h))
+    (omega (arith, h)) in
+    let blocks = div_ceil_rises (payload_of shape) m n h in
+    omega (arith, batch, queue, blocks)
+
+pub unstored_most : (b : Batch) → batch_unstored b ≤ 2
+unstored_most b = omega arith

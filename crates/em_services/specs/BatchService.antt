@@ -1,0 +1,78 @@
+-- A batch as a service, and its answers in order.
+use Rattle.std.specs.Prelude.{◌≡◌, ℕ, ◌+◌, ◌*◌, ◌≤◌, ◌^◌, List, [], IsTrue, Result, Ok, Err}
+use Rattle.em_record.specs.Order.{in_order}
+use Rattle.em_record.specs.Shape.{ShapeNumbers}
+use Rattle.em_frames.specs.Pool.{SameFrames}
+use Rattle.em_model.specs.declared.command.Command.{Command}
+use Rattle.em_space.specs.Ledger.{Session}
+use Rattle.em_space.specs.Queue.{Pays}
+use Rattle.em_space.specs.Rig.{Cause, Goes, RigState, Sound}
+use Rattle.em_space.specs.declared.fault.EmFault.{EmFault}
+use Rattle.em_chain.specs.Chain.{IsChain, IsPacked, chain_blocks, chain_items}
+use Rattle.em_chain.specs.declared.chain.Chain.{Chain}
+use Rattle.aig_defs.specs.Graph.{AllLack}
+use Rattle.em_tree_cost.specs.Shares.{batch_share, chain_share, queue_share}
+use Rattle.aig_edges.specs.Pushes.{CanServeBeside}
+use Rattle.aig_edges.specs.Sorts.{sorting_moves}
+use Rattle.em_map.specs.Batch.{HasCommands, IsBatch, batch_unstored, trunk_of}
+use Rattle.em_map.specs.declared.batch.Batch.{Batch}
+use Rattle.em_services.specs.Service.{ServiceCounts}
+
+-- the moves of a batch whose answers are put in order: its own, those of a queue of two calls for each
+-- answer, and those of the lists that go in and out
+abbrev pub map_share : ShapeNumbers → ℕ → ℕ
+map_share shape n =
+    batch_share shape n + queue_share shape (2 * n) (2 * n) + chain_share shape n
+
+-- A batch with the commands that were given to it.
+pub record IsGivenBatch (s : RigState) (b : Batch) : Type 0 where
+  pub is : IsBatch s b
+  pub commands : List Command
+  pub has : HasCommands s b commands
+
+-- its numbers as a service: it states no room
+abbrev pub batch_counts : Batch → ServiceCounts
+batch_counts b = record {
+  n = b.calls;
+  spent = (trunk_of b).spent;
+  blocks = 0;
+  unstored = batch_unstored b;
+}
+
+-- The answers of a batch, of which no two have the same number. Beside the frames of a queue that may be
+-- made, one more is free than its calls need.
+pub record AreAnswers (s : RigState) (c : Chain) : Type 0 where
+  pub sound : Sound s
+  pub free : CanServeBeside 3 s.pool
+  pub areas : 2 ≤ s.pool.free_areas
+  pub is : IsChain s c
+  pub few : IsTrue s.device.told → c.count ≤ 2 ^ 40
+  pub lacks : IsTrue s.device.told → AllLack [] (chain_items s c)
+
+-- the most moves of putting a list in order by a queue: those of two calls for each record, and those of
+-- the lists
+abbrev pub ordering_moves : RigState → Chain → ℕ
+ordering_moves s c =
+    queue_share s.pool.shape (2 * c.count) (2 * c.count) + sorting_moves s c
+
+-- The second list has the records of the first in order. The first was given up.
+pub record AnswersInOrder (s t : RigState) (c d : Chain) : Type 0 where
+  pub is : IsChain t d
+  pub packed : IsTrue s.device.told → IsPacked t d
+  pub session : Session (chain_blocks s c) s t (chain_blocks t d)
+  pub frames : SameFrames s.pool t.pool
+  pub pays : Pays 0 0 s t
+  pub items : IsTrue s.device.told → chain_items t d ≡ in_order (chain_items s c)
+  pub moves : IsTrue s.device.told → t.moves ≤ s.moves + ordering_moves s c
+
+-- A call gave up. Blocks stay in use.
+pub record StopsAnswering (s t : RigState) (c : Chain) (fault : EmFault) : Type 0 where
+  pub goes : Goes (chain_blocks s c) s t
+  pub pays : Pays 0 (2 * s.pool.shape.frames) s t
+  pub moves : IsTrue s.device.told → t.moves ≤ s.moves + ordering_moves s c
+  pub cause : Cause s t fault
+
+-- what ordering the answers did, by the result
+abbrev pub OrdersAnswers : RigState → RigState → Chain → Result Chain EmFault → Type 0
+OrdersAnswers s t c (Ok d) = AnswersInOrder s t c d
+OrdersAnswers s t c (Err fault) = StopsAnswering s t c fault

@@ -1,0 +1,21 @@
+-- Services that keep their commands in a list.
+use Rattle.std.specs.Prelude.{◌≡◌, IsTrue, List, length}
+use Rattle.em_model.specs.declared.command.Command.{Command}
+use Rattle.em_space.specs.Rig.{RigState}
+use Rattle.em_plain.specs.CommandList.{held, list_commands, list_len, unstored}
+use Rattle.em_plain.specs.declared.command_list.CommandList.{CommandList}
+use Rattle.em_services.specs.Service.{ServiceCounts}
+
+-- These commands were given to a list.
+pub record HoldsCommands (s : RigState) (l : CommandList) (cs : List Command) : Type 0 where
+  pub n : list_len l ≡ length cs
+  pub commands : IsTrue s.device.told → list_commands s l ≡ cs
+
+-- the numbers of its service, whose moves aren't counted
+abbrev pub list_counts : CommandList → ServiceCounts
+list_counts l = record {
+  n = list_len l;
+  spent = 0;
+  blocks = held l;
+  unstored = unstored l;
+}

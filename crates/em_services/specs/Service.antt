@@ -1,0 +1,115 @@
+-- What every service promises: docs/CONTRACTS.md, "Services".
+use Rattle.std.specs.Prelude.{ℕ, ◌+◌, ◌*◌, List, Bool, true, false, IsTrue, Option, Some, None, ◌≡◌, ◌-◌, ◌≤◌, IfSome, [], length}
+use Rattle.em_record.specs.Shape.{ShapeNumbers, fan_of, IsShape}
+use Rattle.em_lines.specs.declared.text.FileKind.{FileKind}
+use Rattle.em_lines.specs.declared.text.FileKind.TheVariants.{Map, Queue, Stab}
+use Rattle.em_frames.specs.Pool.{PoolCounts, GivenFrames, LentFrames, singles_of}
+use Rattle.em_space.specs.Rig.{RigState, Sound, Touches}
+use Rattle.em_ends.specs.Asked.{ToldIf}
+use Rattle.em_record.specs.declared.record.Record.{Record}
+use Rattle.em_model.specs.MapAnswers.{answer_records}
+use Rattle.em_model.specs.declared.command.Command.{Command}
+use Rattle.em_space.specs.Held.{Within}
+use Rattle.em_space.specs.Queue.{Pays}
+use Rattle.em_chain.specs.Chain.{IsChain, IsPacked, chain_blocks}
+use Rattle.em_chain.specs.declared.chain.Chain.{Chain}
+use Rattle.em_plain.specs.Room.{StaysWithin}
+use Rattle.em_model.specs.StabAnswers.{stab_pairs}
+
+-- The numbers of a service.
+pub record ServiceCounts : Type 0 where
+  -- the commands that it took
+  pub n : ℕ
+  -- at least as many moves as were made in its calls; any number if it states no allowance
+  pub spent : ℕ
+  -- the blocks that it holds; any number if it states no room
+  pub blocks : ℕ
+  -- the blocks that it holds and that weren't stored since they came into use
+  pub unstored : ℕ
+
+-- the records of the answers to some commands of a file of this kind
+abbrev pub records_for : FileKind → List Command → List Record
+records_for Map commands = answer_records commands
+records_for Queue commands = []
+records_for Stab commands = stab_pairs commands
+
+-- the size of some commands of a file of this kind: their number, and for stabs that of the pairs that
+-- their answers report
+abbrev pub size_of : FileKind → List Command → ℕ
+size_of Map commands = length commands
+size_of Queue commands = length commands
+size_of Stab commands = length commands + length (stab_pairs commands)
+
+-- whether the size of a run depends on what the device gives back: the pairs that are reported do
+abbrev pub counts_pairs : FileKind → Bool
+counts_pairs Map = false
+counts_pairs Queue = false
+counts_pairs Stab = true
+
+-- What the size of a run asks of the device: pairs are reported as it tells.
+abbrev pub CountsBy : FileKind → Bool → Type 0
+CountsBy kind told = ToldIf (counts_pairs kind) told
+
+-- A number of moves or blocks doesn't fall where the size rises.
+abbrev pub RisesBySize : (ShapeNumbers → ℕ → ℕ) → Type 0
+RisesBySize f = (s : ShapeNumbers) (m n : ℕ) → IsShape s → m ≤ n → f s m ≤ f s n
+
+-- The frames that the answers may need are free: 2f + 6 single ones, two areas and the rack.
+pub record CanAnswer (p : PoolCounts) : Type 0 where
+  pub singles : 2 * fan_of p.shape + 6 ≤ p.free
+  pub areas : 2 ≤ p.free_areas
+  pub rack : p.rack_out ≡ false
+
+-- This many single frames of the pool are out.
+pub record FramesOut (frames : ℕ) (p : PoolCounts) : Type 0 where
+  pub is : p.free + frames ≤ singles_of p.shape
+
+-- All moves of a service, of which at most this many were made before the call, are within what it is
+-- allowed for a size, if it states an allowance.
+abbrev pub WithinAllowance : Option (ShapeNumbers → ℕ → ℕ) → ℕ → ℕ → RigState → RigState → Type 0
+WithinAllowance None size spent old new = Unit {0}
+WithinAllowance (Some f) size spent old new =
+    IsTrue old.device.told → spent + new.moves ≤ old.moves + f old.pool.shape size
+
+-- In no moment of a call did a service, which held this many blocks before, hold more than its room
+-- for a size, if it states one.
+abbrev pub WithinRoom : Option (ShapeNumbers → ℕ → ℕ) → ℕ → ℕ → RigState → RigState → Type 0
+WithinRoom None size held old new = Unit {0}
+WithinRoom (Some f) size held old new = StaysWithin held (f old.pool.shape size) old new
+
+-- A service was made: its frames are lent, and its blocks weren't in use.
+pub record MakesService (allowance room : Option (ShapeNumbers → ℕ → ℕ)) (frames : ℕ)
+    (held : List ℕ) (c : ServiceCounts) (old new : RigState) : Type 0 where
+  pub sound : Sound new
+  pub touches : Touches [] old new
+  pub frames_are : LentFrames frames old.pool new.pool
+  pub within : Within old [] held
+  pub n : c.n ≡ 0
+  pub pays : Pays 0 c.unstored old new
+  pub used : IfSome room (λ f. new.used ≡ old.used + c.blocks)
+  pub spent : IfSome allowance (λ f. new.moves ≤ old.moves + c.spent)
+
+-- A service with the first numbers took a command, and has the second. Its blocks were its own or
+-- weren't in use.
+pub record TakesCommand (allowance room : Option (ShapeNumbers → ℕ → ℕ)) (held now : List ℕ)
+    (c d : ServiceCounts) (old new : RigState) : Type 0 where
+  pub within : Within old held now
+  pub n : d.n ≡ c.n + 1
+  pub pays : Pays c.unstored d.unstored old new
+  pub used : IfSome room (λ f. new.used + c.blocks ≡ old.used + d.blocks)
+  pub spent : IfSome allowance (λ f. new.moves + c.spent ≤ old.moves + d.spent)
+
+-- A service gave its frames back. Only these blocks may have changed.
+pub record GivesFrames (frames : ℕ) (held : List ℕ) (old new : RigState) : Type 0 where
+  pub sound : Sound new
+  pub touches : Touches held old new
+  pub frames_are : GivenFrames frames old.pool new.pool
+
+-- The answers of a service are a chain. Its other blocks were released.
+pub record LeavesAnswers (room : Option (ShapeNumbers → ℕ → ℕ)) (held : List ℕ)
+    (c : ServiceCounts) (old new : RigState) (answers : Chain) : Type 0 where
+  pub is : IsChain new answers
+  pub packed : IsTrue old.device.told → IsPacked new answers
+  pub within : Within old held (chain_blocks new answers)
+  pub pays : Pays c.unstored 0 old new
+  pub used : IfSome room (λ f. new.used + c.blocks ≡ old.used + answers.blocks)

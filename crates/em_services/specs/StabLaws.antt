@@ -1,0 +1,51 @@
+-- The laws of a service that keeps its commands in an interval list.
+use Rattle.std.specs.Prelude.{◌≡◌, ℕ, ◌≤◌, List, length, IsTrue}
+use Rattle.std.proofs.Common.{arith}
+use Rattle.em_model.specs.declared.command.Command.{Command}
+use Rattle.em_space.specs.Held.{Apart, Holds}
+use Rattle.em_space.specs.Rig.{RigState, Touches}
+use Rattle.em_tree_cost.specs.Shares.{stab_share}
+use Rattle.em_segment_model.proofs.Room.{stab_share_rises}
+use Rattle.em_segment.specs.Stabs.{HasCommands, IsStab, StabHasFrames, stab_account, stab_blocks, stab_len}
+use Rattle.em_segment.specs.declared.stab.Stab.{Stab}
+use Rattle.em_segment.proofs.StabLaws.{stab_beside, stab_frames_stay}
+use Rattle.em_services.specs.Service.{FramesOut, RisesBySize}
+use Rattle.em_lines.specs.declared.text.FileKind.TheVariants as kind
+
+pub no_queue : kind.Stab ≡ kind.Queue → ⊥
+no_queue e = cc
+
+pub two_frames : 2 ≤ 4
+two_frames = omega arith
+
+pub n_is : (v : Stab) (s : RigState) (cs : List Command) → HasCommands s v cs
+    → stab_len v ≡ length cs
+n_is v s cs h = h.len
+
+pub frames_of : (v : Stab) (s : RigState) → IsStab s v → StabHasFrames s v
+frames_of v s h = h.frames
+
+pub holds : (v : Stab) (s : RigState) → IsStab s v → IsTrue s.device.told
+    → Holds s (stab_blocks s v)
+holds v s h told = h.holds told
+
+pub frames_stay : (v : Stab) (held : List ℕ) (s t : RigState) → StabHasFrames s v
+    → Touches held s t → FramesOut 2 t.pool → StabHasFrames t v
+frames_stay v held s t f h o = stab_frames_stay held h o.is f
+
+pub stays : (v : Stab) (held : List ℕ) (s t : RigState) → IsStab s v → Touches held s t
+    → (IsTrue s.device.told → Apart (stab_blocks s v) held) → FramesOut 2 t.pool
+    → IsStab t v × (IsTrue s.device.told → stab_blocks t v ≡ stab_blocks s v)
+    × ((cs : List Command) → HasCommands s v cs → HasCommands t v cs)
+stays v held s t i h a o =
+    let st = stab_beside held i h a o.is in (st.is, st.blocks, st.commands)
+
+pub out : (v : Stab) (s : RigState) → StabHasFrames s v → FramesOut 2 s.pool
+out v s f = record { is = f.out }
+
+pub unstored_most : (v : Stab) → (stab_account v).unstored ≤ 2
+unstored_most v = omega arith
+
+-- a greater size is allowed no fewer moves
+pub rising : RisesBySize stab_share
+rising shape m n is h = stab_share_rises shape m n h

@@ -1,0 +1,13 @@
+-- An interval list as a service.
+use Rattle.em_segment.specs.Stabs.{stab_account, stab_len}
+use Rattle.em_segment.specs.declared.stab.Stab.{Stab}
+use Rattle.em_services.specs.Service.{ServiceCounts}
+
+-- its numbers as a service: it states no room
+abbrev pub stab_counts : Stab → ServiceCounts
+stab_counts v = record {
+  n = stab_len v;
+  spent = (stab_account v).paid;
+  blocks = 0;
+  unstored = (stab_account v).unstored;
+}

@@ -1,0 +1,136 @@
+//! The batch of em_map as a service. It gives its answers in any order, so that a queue puts them in
+//! order:
+//!
+//!     batch --finish--> [3: 7] [1: none] [2: 5] --queue--> [1: none] [2: 5] [3: 7]
+
+ghost use Rattle.std.specs.Prelude.{◌<◌, ◌^◌, None, Some};
+ghost use Rattle.em_space.specs.Queue.{CanServe};
+ghost use Rattle.em_space.specs.Rig.{Sound};
+ghost use Rattle.em_space.specs.Seen.{seen};
+ghost use Rattle.em_map.specs.Batch.{CountsCommand, IsBatch, TakesTo};
+ghost use Rattle.em_services.specs.BatchLaws as laws;
+ghost use Rattle.em_services.specs.BatchService.{AreAnswers, IsGivenBatch, OrdersAnswers, batch_counts, map_share};
+ghost use Rattle.em_lines.specs.Kind.{IsOfKind};
+ghost use Rattle.em_lines.specs.declared.text.FileKind.TheVariants as kind;
+
+use crate::ordering::put_in_order;
+use crate::service::Service;
+use em_chain::Chain;
+use em_frames::Device;
+use em_lines::FileKind;
+use em_map::Batch;
+use em_model::Command;
+use em_pqueue::ExtQueue;
+use em_space::{EmFault, Rig};
+
+/// A batch has at most this many commands, and so at most as many answers.
+const ANSWERS_MOST: u64 = 1 << 40;
+
+/// Gives a batch a command of its file.
+fn give_batch<D: Device>(
+    batch: &mut Batch,
+    rig: &mut Rig<'_, D>,
+    command: Command,
+) -> Result<(), EmFault>
+    requires sound { Sound (seen D.state rig.old) }
+    requires is { IsBatch (seen D.state rig.old) batch.old }
+    requires free { CanServe (seen D.state rig.old).pool }
+    requires few { batch.old.calls < 2 ^ 40 }
+    requires kind { IsOfKind kind.Map command }
+    ensures takes { TakesTo command (seen D.state rig.old) (seen D.state rig.new)
+        batch.old batch.new result }
+    ensures counts { CountsCommand (seen D.state rig.old) (seen D.state rig.new)
+        batch.old batch.new }
+{
+    match command {
+        Command::Put { key, value } => batch.put(rig, key, value),
+        Command::Del { key } => batch.del(rig, key),
+        Command::Get { key } => batch.get(rig, key),
+        _ => Ok(()),
+    }
+}
+
+/// The answers of a batch in order. If the list claims more answers than a batch may have, the
+/// device lost what was stored.
+#[tactic(auto, using(crate::proofs::OrderedBatch::no_queue_made, crate::proofs::OrderedBatch::too_many))]
+fn order_answers<D: Device>(rig: &mut Rig<'_, D>, answers: Chain) -> Result<Chain, EmFault>
+    requires are { AreAnswers (seen D.state rig.old) answers }
+    ensures orders { OrdersAnswers (seen D.state rig.old) (seen D.state rig.new) answers result }
+{
+    if answers.len() > ANSWERS_MOST {
+        return Err(EmFault::Damaged { block: 0 });
+    }
+    match ExtQueue::new(rig) {
+        Ok(queue) => put_in_order(rig, queue, answers),
+        Err(fault) => Err(fault),
+    }
+}
+
+impl Service for Batch {
+    ghost use Rattle.em_map.specs.Batch.{BatchHasFrames, HasCommands, batch_blocks};
+
+    ghost KIND = { kind.Map };
+
+    ghost Has = { λ b s cs. HasCommands s b cs };
+
+    ghost blocks = { λ b s. batch_blocks s b };
+
+    ghost IsService = { λ b s. IsGivenBatch s b };
+
+    ghost HasItsFrames = { λ b s. BatchHasFrames s b };
+
+    ghost counts = { λ b. batch_counts b };
+
+    ghost frames = { 2 };
+
+    ghost allowance = { Some map_share };
+
+    ghost room = { None };
+
+    ghost no_queue = { laws.no_queue };
+
+    ghost few_frames = { laws.two_frames };
+
+    ghost frames_of = { laws.frames_of };
+
+    ghost n_is = { λ b s cs h. h.calls };
+
+    ghost holds = { laws.holds };
+
+    ghost stays = { laws.stays };
+
+    ghost frames_stay = { laws.frames_stay };
+
+    ghost out = { laws.out };
+
+    ghost unstored_most = { λ b s h. laws.unstored_most b };
+
+    ghost rising = { laws.rising };
+
+    ghost rising_room = { tt };
+
+    const KIND: FileKind = FileKind::Map;
+
+    #[tactic(auto, using(crate::proofs::Batching::made, crate::proofs::Batching::made_given, crate::proofs::Batching::made_none, crate::proofs::Batching::unmade_goes, crate::proofs::Batching::unmade_owes, crate::proofs::Batching::unmade_cause, crate::proofs::Batching::made_moves))]
+    fn new<D: Device>(rig: &mut Rig<'_, D>) -> Result<Batch, EmFault> {
+        Batch::new(rig)
+    }
+
+    #[tactic(auto, using(crate::proofs::Batching::take_goes, crate::proofs::Batching::take_frames, crate::proofs::Batching::take_is, crate::proofs::Batching::take_has, crate::proofs::Batching::takes, crate::proofs::Batching::take_owes, crate::proofs::Batching::take_cause))]
+    fn take<D: Device>(&mut self, rig: &mut Rig<'_, D>, command: Command) -> Result<(), EmFault> {
+        give_batch(self, rig, command)
+    }
+
+    #[tactic(auto, using(crate::proofs::BatchAnswers::answers_owes, crate::proofs::BatchAnswers::answers_cause, crate::proofs::BatchAnswers::unfinished_gives, crate::proofs::BatchAnswers::unfinished_owes, crate::proofs::BatchAnswers::unfinished_cause, crate::proofs::BatchAnswers::unfinished_moves))]
+    fn answers<D: Device>(self, rig: &mut Rig<'_, D>) -> Result<Chain, EmFault> {
+        match self.finish(rig) {
+            Ok(answers) => order_answers(rig, answers),
+            Err(fault) => Err(fault),
+        }
+    }
+
+    #[tactic(auto, using(crate::proofs::Batching::left_gives, crate::proofs::Batching::left_unmoved))]
+    fn abandon<D: Device>(self, rig: &mut Rig<'_, D>) {
+        Batch::abandon(self, rig);
+    }
+}

@@ -1,0 +1,11 @@
+//! What answers a map or stab file after all of it was read: the trait `Service`, and the structures that
+//! are one.
+#![tactic(auto)]
+
+mod batch_service;
+mod ordering;
+mod scan_service;
+mod service;
+mod stab_service;
+
+pub use service::Service;

@@ -1,0 +1,195 @@
+//! The map and the interval list of em_plain as services. They keep their commands in a list, which is
+//! read again for each answer: so their moves have no bound that the trait could state.
+
+ghost use Rattle.std.specs.Prelude.{◌<◌, ◌≤◌, ◌^◌, None, Some};
+ghost use Rattle.em_space.specs.Rig.{Sound};
+ghost use Rattle.em_space.specs.Seen.{seen};
+ghost use Rattle.em_plain.specs.CommandList.{IsCommandList, Noted, list_blocks, list_len};
+ghost use Rattle.em_plain.specs.Room.{plain_room};
+ghost use Rattle.em_lines.specs.Kind.{IsOfKind};
+ghost use Rattle.em_services.specs.ScanLaws as laws;
+ghost use Rattle.em_services.specs.ScanService.{HoldsCommands, list_counts};
+ghost use Rattle.em_lines.specs.declared.text.FileKind.TheVariants as kind;
+
+use crate::service::Service;
+use em_chain::Chain;
+use em_frames::Device;
+use em_lines::FileKind;
+use em_model::Command;
+use em_plain::{ScanMap, ScanStab};
+use em_space::{EmFault, Rig};
+
+/// Gives a map a command of its file.
+fn give_map<D: Device>(
+    map: &mut ScanMap,
+    rig: &mut Rig<'_, D>,
+    command: Command,
+) -> Result<(), EmFault>
+    requires sound { Sound (seen D.state rig.old) }
+    requires is { IsCommandList (seen D.state rig.old) map.old.list }
+    requires free { 6 ≤ (seen D.state rig.old).pool.free }
+    requires few { list_len map.old.list < 2 ^ 40 }
+    requires kind { IsOfKind kind.Map command }
+    ensures noted { Noted (seen D.state rig.old) (seen D.state rig.new)
+        map.old.list map.new.list command result }
+{
+    match command {
+        Command::Put { key, value } => map.put(rig, key, value),
+        Command::Del { key } => map.del(rig, key),
+        Command::Get { key } => map.get(rig, key),
+        _ => Ok(()),
+    }
+}
+
+/// Gives an interval list a command of its file.
+fn give_stab<D: Device>(
+    list: &mut ScanStab,
+    rig: &mut Rig<'_, D>,
+    command: Command,
+) -> Result<(), EmFault>
+    requires sound { Sound (seen D.state rig.old) }
+    requires is { IsCommandList (seen D.state rig.old) list.old.list }
+    requires free { 6 ≤ (seen D.state rig.old).pool.free }
+    requires few { list_len list.old.list < 2 ^ 40 }
+    requires kind { IsOfKind kind.Stab command }
+    ensures noted { Noted (seen D.state rig.old) (seen D.state rig.new)
+        list.old.list list.new.list command result }
+{
+    match command {
+        Command::Interval { low, high } => list.interval(rig, low, high),
+        Command::Stab { point } => list.stab(rig, point),
+        _ => Ok(()),
+    }
+}
+
+impl Service for ScanMap {
+    ghost use Rattle.em_plain.specs.ScanMap.{IsScanMap, MapHasFrame};
+
+    ghost KIND = { kind.Map };
+
+    ghost Has = { λ m s cs. HoldsCommands s m.list cs };
+
+    ghost blocks = { λ m s. list_blocks s m.list };
+
+    ghost IsService = { λ m s. IsScanMap s m };
+
+    ghost HasItsFrames = { λ m s. MapHasFrame s m };
+
+    ghost counts = { λ m. list_counts m.list };
+
+    ghost frames = { 1 };
+
+    ghost allowance = { None };
+
+    ghost room = { Some plain_room };
+
+    ghost no_queue = { laws.map_no_queue };
+
+    ghost few_frames = { laws.one_frame };
+
+    ghost frames_of = { λ m s h. h.writer.frame };
+
+    ghost n_is = { λ m s cs h. laws.n_is m.list s cs h };
+
+    ghost holds = { λ m s h told. laws.holds m.list s h told };
+
+    ghost stays = { λ m held s t. laws.stays m.list held s t };
+
+    ghost frames_stay = { λ m held s t. laws.frames_stay m.list held s t };
+
+    ghost out = { λ m s h. laws.out m.list s h };
+
+    ghost unstored_most = { λ m s h. laws.unstored_most m.list s h };
+
+    ghost rising = { tt };
+
+    ghost rising_room = { laws.rising_room };
+
+    const KIND: FileKind = FileKind::Map;
+
+    #[tactic(auto, using(crate::proofs::Scanning::list_made, crate::proofs::Scanning::none_held, crate::proofs::Scanning::room_still))]
+    fn new<D: Device>(rig: &mut Rig<'_, D>) -> Result<ScanMap, EmFault> {
+        ScanMap::new(rig)
+    }
+
+    #[tactic(auto, using(crate::proofs::Scanning::list_takes, crate::proofs::Scanning::list_has, crate::proofs::Scanning::list_is))]
+    fn take<D: Device>(&mut self, rig: &mut Rig<'_, D>, command: Command) -> Result<(), EmFault> {
+        give_map(self, rig, command)
+    }
+
+    #[tactic(auto, using(crate::proofs::Scanning::list_gives, crate::proofs::Scanning::list_leaves, crate::proofs::Scanning::list_owes, crate::proofs::Scanning::list_items, crate::proofs::Scanning::map_room))]
+    fn answers<D: Device>(self, rig: &mut Rig<'_, D>) -> Result<Chain, EmFault> {
+        self.finish(rig)
+    }
+
+    #[tactic(auto, using(crate::proofs::Scanning::list_gives))]
+    fn abandon<D: Device>(self, rig: &mut Rig<'_, D>) {
+        ScanMap::abandon(self, rig);
+    }
+}
+
+impl Service for ScanStab {
+    ghost use Rattle.em_plain.specs.ScanStab.{IsScanStab, StabHasFrame};
+
+    ghost KIND = { kind.Stab };
+
+    ghost Has = { λ v s cs. HoldsCommands s v.list cs };
+
+    ghost blocks = { λ v s. list_blocks s v.list };
+
+    ghost IsService = { λ v s. IsScanStab s v };
+
+    ghost HasItsFrames = { λ v s. StabHasFrame s v };
+
+    ghost counts = { λ v. list_counts v.list };
+
+    ghost frames = { 1 };
+
+    ghost allowance = { None };
+
+    ghost room = { Some plain_room };
+
+    ghost no_queue = { laws.stab_no_queue };
+
+    ghost few_frames = { laws.one_frame };
+
+    ghost frames_of = { λ v s h. h.writer.frame };
+
+    ghost n_is = { λ v s cs h. laws.n_is v.list s cs h };
+
+    ghost holds = { λ v s h told. laws.holds v.list s h told };
+
+    ghost stays = { λ v held s t. laws.stays v.list held s t };
+
+    ghost frames_stay = { λ v held s t. laws.frames_stay v.list held s t };
+
+    ghost out = { λ v s h. laws.out v.list s h };
+
+    ghost unstored_most = { λ v s h. laws.unstored_most v.list s h };
+
+    ghost rising = { tt };
+
+    ghost rising_room = { laws.rising_room };
+
+    const KIND: FileKind = FileKind::Stab;
+
+    #[tactic(auto, using(crate::proofs::Scanning::list_made, crate::proofs::Scanning::none_held, crate::proofs::Scanning::room_still))]
+    fn new<D: Device>(rig: &mut Rig<'_, D>) -> Result<ScanStab, EmFault> {
+        ScanStab::new(rig)
+    }
+
+    #[tactic(auto, using(crate::proofs::Scanning::list_takes, crate::proofs::Scanning::list_has, crate::proofs::Scanning::list_is))]
+    fn take<D: Device>(&mut self, rig: &mut Rig<'_, D>, command: Command) -> Result<(), EmFault> {
+        give_stab(self, rig, command)
+    }
+
+    #[tactic(auto, using(crate::proofs::Scanning::list_gives, crate::proofs::Scanning::list_leaves, crate::proofs::Scanning::list_owes, crate::proofs::Scanning::list_items, crate::proofs::Scanning::stab_room))]
+    fn answers<D: Device>(self, rig: &mut Rig<'_, D>) -> Result<Chain, EmFault> {
+        self.finish(rig)
+    }
+
+    #[tactic(auto, using(crate::proofs::Scanning::list_gives))]
+    fn abandon<D: Device>(self, rig: &mut Rig<'_, D>) {
+        ScanStab::abandon(self, rig);
+    }
+}

@@ -1,0 +1,305 @@
+//! Drawn command files and a made one, each answered by the structure of its kind and by a list that is read again
+//! for each answer. Both end alike, and print the same.
+ghost use Rattle.std.specs.Prelude.{◌≡◌, ◌<◌, [], true};
+ghost use Rattle.em_io.specs.declared.shelf.Slot.TheVariants.{First};
+ghost use Rattle.em_space.specs.Rig.{Goes};
+ghost use Rattle.em_space.specs.Seen.{seen};
+ghost use Rattle.em_ready.specs.Ready.{IsReady, IsUnused};
+
+use crate::map_scripts::draw;
+use crate::runs::opened_as;
+use em_answers::{run_open, run_queue, run_service};
+use em_ends::{Malform, Status, Stop, status_of};
+use em_frames::{Device, MemDevice};
+use em_gen::{GenKind, GenShelf, Tally};
+use em_io::{MemShelf, MemSink, Printer, Shelf, Sink, Slot};
+use em_lines::{FileKind, TextKind};
+use em_plain::{ScanMap, ScanQueue, ScanStab};
+use em_record::{Failed, Shape};
+use em_space::Rig;
+use std::alloc::Global;
+use std::test::Fail;
+
+/// Adds a line of a word and some numbers to a text.
+fn add_line(text: &mut MemSink, word: &[u8], numbers: &[u64]) -> Result<(), Failed> {
+    let mut line = Printer::new();
+    line.add(text, word)?;
+    for number in numbers {
+        line.add(text, b" ")?;
+        line.add_number(text, *number)?;
+    }
+    line.end_line(text)
+}
+
+/// Adds a line of a map: of a hundred, so many are gets, 20 are deletions, and the others puts. The keys, which are
+/// this many, lie wide apart.
+fn add_map_line(text: &mut MemSink, state: &mut u64, keys: u64, asks: u64) -> Result<(), Failed> {
+    let what = draw(state) % 100;
+    let key = (draw(state) % keys.max(1)).wrapping_mul(0x9e37_79b9_7f4a_7c15);
+    if what < 20 {
+        return add_line(text, b"del", &[key]);
+    }
+    if what - 20 < asks {
+        return add_line(text, b"get", &[key]);
+    }
+    let value = draw(state) % 1000;
+    add_line(text, b"put", &[key, value])
+}
+
+/// Adds a line of a queue: of a hundred, so many are pops, and the others pushes.
+fn add_queue_line(text: &mut MemSink, state: &mut u64, keys: u64, asks: u64) -> Result<(), Failed> {
+    if draw(state) % 100 < asks {
+        return add_line(text, b"pop", &[]);
+    }
+    let key = (draw(state) % keys.max(1)).wrapping_mul(0x9e37_79b9_7f4a_7c15);
+    let value = draw(state) % 1000;
+    add_line(text, b"push", &[key, value])
+}
+
+/// One of these many points, of which the greatest one is the last of all.
+fn draw_point(state: &mut u64, points: u64) -> u64 {
+    let point = draw(state) % points.max(1);
+    if point.saturating_add(1) == points {
+        return u64::MAX;
+    }
+    point
+}
+
+/// Adds a line of an interval list: of a hundred, so many are stabs, and the others intervals, of which some
+/// end at any point, and most within ten.
+fn add_stab_line(text: &mut MemSink, state: &mut u64, keys: u64, asks: u64) -> Result<(), Failed> {
+    let low = draw_point(state, keys);
+    if draw(state) % 100 < asks {
+        return add_line(text, b"stab", &[low]);
+    }
+    let near = low.saturating_add(draw(state) % 10);
+    let far = low.max(draw_point(state, keys));
+    if draw(state) % 100 < 10 {
+        return add_line(text, b"iv", &[low, far]);
+    }
+    add_line(text, b"iv", &[low, near])
+}
+
+/// A drawn file of a kind, of this many lines. Of a hundred, so many ask; in the second half of a queue's
+/// file the others do, so that it grows and is emptied.
+fn drawn(alloc: Global, kind: FileKind, lines: u64, keys: u64, asks: u64) -> Result<MemSink, Fail> {
+    let mut text = MemSink::new(alloc, 4096, &[])?;
+    let mut state = lines;
+    let half = lines / 2;
+    for number in 0..lines {
+        match kind {
+            FileKind::Map => add_map_line(&mut text, &mut state, keys, asks)?,
+            FileKind::Stab => add_stab_line(&mut text, &mut state, keys, asks)?,
+            FileKind::Queue if number < half => {
+                add_queue_line(&mut text, &mut state, keys, asks)?;
+            }
+            FileKind::Queue => {
+                add_queue_line(&mut text, &mut state, keys, 100u64.saturating_sub(asks))?;
+            }
+        }
+    }
+    Ok(text)
+}
+
+/// Answers the open file of a kind by its structure or by a list, on a rig of which no block is or was in use.
+#[tactic(auto, using(crate::proofs::ListQueue::list_alone, crate::proofs::ListQueue::list_goes, crate::proofs::ListQueue::list_new, crate::proofs::ListQueue::list_serves))]
+fn answer<D: Device, H: Shelf, W: Sink>(
+    by_list: bool,
+    kind: FileKind,
+    rig: &mut Rig<'_, D>,
+    shelf: &mut H,
+    out: &mut W,
+) -> Status
+    requires unused { IsUnused (seen D.state rig.old) }
+    requires free { IsReady (seen D.state rig.old).pool }
+    requires none_moved { (seen D.state rig.old).moves ≡ 0 }
+    requires ready { ((H.stand shelf.old).slot First).ready ≡ true }
+    ensures goes { Goes [] (seen D.state rig.old) (seen D.state rig.new) }
+{
+    if !by_list {
+        return run_open(kind, rig, shelf, out);
+    }
+    match kind {
+        FileKind::Map => run_service::<D, H, W, ScanMap>(rig, shelf, out),
+        FileKind::Stab => run_service::<D, H, W, ScanStab>(rig, shelf, out),
+        FileKind::Queue => match ScanQueue::new(rig) {
+            Ok(queue) => run_queue(rig, queue, shelf, out),
+            Err(fault) => status_of(Stop::Em(fault)),
+        },
+    }
+}
+
+/// Answers the open file of a kind over a new device in memory. Answers the status and the moves.
+fn ended<H: Shelf, W: Sink>(
+    alloc: Global,
+    by_list: bool,
+    kind: FileKind,
+    shape: Shape,
+    shelf: &mut H,
+    out: &mut W,
+) -> Result<(Status, u64), Fail>
+    requires ready { ((H.stand shelf.old).slot First).ready ≡ true }
+{
+    let mut device = MemDevice::new(alloc, &[])?;
+    let mut rig = opened_as(alloc, shape, 100_000, &mut device)?;
+    let status = answer(by_list, kind, &mut rig, shelf, out);
+    let moves = rig.moves();
+    rig.close().end();
+    Ok((status, moves))
+}
+
+/// Answers a text. Answers the status and the moves as well.
+fn answered(
+    alloc: Global,
+    by_list: bool,
+    kind: FileKind,
+    shape: Shape,
+    text: &[u8],
+) -> Result<(Status, u64, MemSink), Fail> {
+    let mut shelf = MemShelf::new(alloc, 100, &[])?;
+    shelf.add("a", text)?;
+    shelf.open(Slot::First, "a")?;
+    let mut out = MemSink::new(alloc, 4096, &[])?;
+    let (status, moves) = ended(alloc, by_list, kind, shape, &mut shelf, &mut out)?;
+    Ok((status, moves, out))
+}
+
+/// Whether a structure and a list answer a text alike: both end with this status and print the same. At least so
+/// many bytes are printed, and the structure moves at least so many blocks.
+fn alike(
+    alloc: Global,
+    kind: FileKind,
+    shape: Shape,
+    text: &[u8],
+    status: Status,
+    least: (usize, u64),
+) -> Result<bool, Fail> {
+    let (listed, _, lines) = answered(alloc, true, kind, shape, text)?;
+    let (other, moves, out) = answered(alloc, false, kind, shape, text)?;
+    let sent = out.bytes();
+    Ok(
+        listed == status
+            && other == status
+            && lines.bytes() == sent
+            && sent.len() >= least.0
+            && moves >= least.1,
+    )
+}
+
+/// What stands in a row up to the first bar or space, and what stands after it.
+fn field_of(row: &str) -> (&str, &str) {
+    row.split_once(['|', ' ']).unwrap_or((row, ""))
+}
+
+/// The same of a number.
+fn number_of(row: &str) -> Result<(u64, &str), Fail> {
+    let (number, rest) = field_of(row);
+    Ok((number.parse::<u64>()?, rest))
+}
+
+/// Whether the drawn file of a row is answered alike, as it is and with a faulty line at its end.
+fn row_alike(alloc: Global, row: &str) -> Result<bool, Fail> {
+    let (word, rest) = field_of(row);
+    let (block, rest) = number_of(rest)?;
+    let (frames, rest) = number_of(rest)?;
+    let (lines, rest) = number_of(rest)?;
+    let (keys, rest) = number_of(rest)?;
+    let (asks, rest) = number_of(rest)?;
+    let (bytes, rest) = field_of(rest);
+    let (moves, _) = number_of(rest)?;
+    let kind = match word {
+        "map" => FileKind::Map,
+        "queue" => FileKind::Queue,
+        _ => FileKind::Stab,
+    };
+    let shape = Shape::new(block, frames)?;
+    let least = (bytes.parse::<usize>()?, moves);
+    let mut text = drawn(alloc, kind, lines, keys, asks)?;
+    let whole = alike(alloc, kind, shape, text.bytes(), Status::Done, least)?;
+    add_line(&mut text, b"bogus", &[])?;
+    let malformed = Status::Malformed {
+        kind: Malform::Text(TextKind::Unknown),
+        place: lines.saturating_add(1),
+    };
+    Ok(whole && alike(alloc, kind, shape, text.bytes(), malformed, (0, 0))?)
+}
+
+/// A row has a kind of file and a shape, the lines of its drawn file, how many keys or points there are, how many of a hundred lines
+/// ask, and how many bytes are printed and blocks moved at least.
+const ROWS: [&str; 28] = [
+    // Few keys and many. Nothing but the tree's root has operations before the end.
+    "map 128 64|50|1|40|1|0",
+    "map 144 72|50|1|40|1|0",
+    "map 128 64|200|7|20|1|0",
+    "map 144 72|200|7|20|1|0",
+    "map 128 64|300|1000|30|1|0",
+    "map 144 72|300|1000|30|1|0",
+    "map 128 64|400|40|10|1|0",
+    "map 144 72|400|40|10|1|0",
+    // A full buffer has 2048 operations, and a leaf at most 4096 records: here a leaf is split, and its keys are put and
+    // deleted again. Each of the 71 blocks of operations is moved four times at least, 284 in all: into the root's buffer,
+    // out of it, into a leaf's, and out of that.
+    "map 128 64|9000|20000|2|100|285",
+    // Few keys and many. All items are held in memory.
+    "queue 128 64|50|1|50|1|0",
+    "queue 144 72|50|1|50|1|0",
+    "queue 128 64|200|3|40|1|0",
+    "queue 144 72|200|3|40|1|0",
+    "queue 128 64|300|1000|20|1|0",
+    "queue 144 72|300|1000|20|1|0",
+    "queue 128 64|400|40|30|1|0",
+    "queue 144 72|400|40|30|1|0",
+    // Memory holds 1024 items at the first shape, and 1296 at the second one. Of the lines more wait in the middle, so that
+    // items go to the tree and come back, while others come; also if all keys are equal. Three halves of the heap, of four blocks
+    // each, are stored and loaded again.
+    "queue 128 64|2200|1|3|1000|24",
+    "queue 144 72|2900|5000|3|1000|24",
+    // Few points and many, with the first and the last one. All stabs fit into an area.
+    "stab 128 64|50|1|50|1|0",
+    "stab 144 72|50|1|50|1|0",
+    "stab 128 64|200|7|30|1|0",
+    "stab 144 72|200|7|30|1|0",
+    "stab 128 64|300|1000|60|1|0",
+    "stab 144 72|300|1000|60|1|0",
+    "stab 128 64|400|300|10|1|0",
+    "stab 144 72|400|300|10|1|0",
+    // An area has 1024 records, and there are more stabs, nearly all of other points, so that they are dealt to slabs. The lists of the
+    // stabs and of the intervals have 15 blocks, which are stored and loaded again.
+    "stab 128 64|1800|100000|70|1000|30",
+];
+
+#[test]
+fn drawn_files_are_answered_as_by_a_list(rt: HostRuntime) -> Result<(), Fail> {
+    let mut number = 0u64;
+    for row in ROWS {
+        number = number.saturating_add(1);
+        assert!(rt; row_alike(rt.alloc(), row)?, "row {number}");
+    }
+    Ok(())
+}
+
+/// A made map of 20,000 commands.
+#[test]
+fn a_made_map_is_answered_as_by_a_list(rt: HostRuntime) -> Result<(), Fail> {
+    let mut tallies = [Tally::new(), Tally::new()];
+    let shape = Shape::new(128, 64)?;
+    for (number, tally) in tallies.iter_mut().enumerate() {
+        let mut shelf = GenShelf::new(GenKind::Map, 1, 20_000);
+        shelf.open(Slot::First, "")?;
+        let (status, _) = ended(
+            rt.alloc(),
+            number == 0,
+            FileKind::Map,
+            shape,
+            &mut shelf,
+            tally,
+        )?;
+        assert!(rt; status == Status::Done);
+    }
+    let [listed, other] = tallies;
+    assert!(rt; listed.lines() > 0);
+    assert_eq!(rt; other.lines(), listed.lines());
+    assert_eq!(rt; other.bytes(), listed.bytes());
+    assert_eq!(rt; other.sum(), listed.sum());
+    Ok(())
+}

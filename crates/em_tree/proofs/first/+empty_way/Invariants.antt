@@ -1,4 +1,0 @@
-use Rattle.em_tree.proofs.first.+empty_way.Given as goal
-
-abbrev pub decreases-empty_way : goal.decreases-empty_way
-decreases-empty_way g l = l.level

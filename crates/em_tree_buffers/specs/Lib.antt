@@ -1,0 +1,4 @@
+pub mod Emptying
+pub mod Loops
+pub mod Findings
+pub mod Draining

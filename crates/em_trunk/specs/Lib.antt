@@ -1,0 +1,16 @@
+pub mod Entries
+pub mod Buffers
+pub mod Sized
+pub mod Meaning
+pub mod Events
+pub mod Trunk
+pub mod Works
+pub mod Starts
+pub mod Owing
+pub mod Debts
+pub mod Planting
+pub mod Counting
+pub mod Room
+pub mod Spots
+pub mod Steps
+pub mod Lists

@@ -1,0 +1,3 @@
+mod JobRows
+pub mod OptionLemmas
+pub mod RefusalLaws

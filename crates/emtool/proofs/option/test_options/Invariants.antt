@@ -1,8 +1,0 @@
-use Rattle.std.proofs.Common.{◌≡◌, [], drop, take}
-use Rattle.emtool.specs.Job.{texts_of}
-use Rattle.emtool.specs.Options.{options_refusal}
-use Rattle.emtool.proofs.option.test_options.Given as goal
-
-abbrev pub invariant-loop-place : goal.invariant-loop-place
-invariant-loop-place l = options_refusal l.evaluates [] (texts_of l.options)
-    ≡ options_refusal l.evaluates (take l.place (texts_of l.options)) (drop l.place (texts_of l.options))
