@@ -1,5 +1,5 @@
 -- A file whose commands are given to a service, one after another.
-use Rattle.std.proofs.Common.{◌≡◌, ℕ, suc, ◌+◌, ◌*◌, ◌-◌, ◌≤◌, ◌^◌, ◌⊎◌, List, [], ◌∷◌, length, take, refl, subst, ap, sym, ◌∙◌, arith, Bool, IsTrue, Option, Some, None, IfSome, inl, inr, ⊎_elim}
+use Rattle.std.proofs.Common.{◌≡◌, ℕ, suc, ◌+◌, ◌*◌, ◌-◌, ◌≤◌, ◌^◌, ◌⊎◌, List, [], ◌∷◌, length, take, refl, ap, sym, ◌∙◌, arith, Bool, IsTrue, Option, Some, None, IfSome, inl, inr, ⊎_elim, ◌<◌}
 use Rattle.em_record.specs.Shape.{IsShape, ShapeNumbers, fan_of}
 use Rattle.em_model.specs.Stab.{NumberedInterval, stab_answer_of, stab_answers, stab_answers_from, stab_step}
 use Rattle.em_model.specs.declared.command.Command.{Command}
@@ -7,16 +7,15 @@ use Rattle.em_model.specs.declared.command.Command.TheVariants.{Put, Del, Get, P
 use Rattle.em_frames.specs.Pool.{GivenFrames, LentFrames, PoolCounts, SameFrames}
 use Rattle.em_space.specs.Held.{Within}
 use Rattle.em_space.specs.Queue.{CanServe, Pays}
-use Rattle.em_space.specs.Rig.{RigState, Cause, Goes, Sound, Touches}
+use Rattle.em_space.specs.Rig.{RigState, Cause, Goes, Touches}
 use Rattle.em_space.specs.declared.fault.EmFault.{EmFault}
 use Rattle.em_space.specs.declared.fault.EmFault.TheVariants as em
 use Rattle.em_space.proofs.Within.{touches_within, within_none, within_then}
-use Rattle.em_ends.specs.Asked.{ToldIf}
 use Rattle.em_lines.specs.CommandLine.{good_commands}
-use Rattle.em_services.specs.Service.{CountsBy, CanAnswer, GivesFrames, MakesService, RisesBySize, ServiceCounts, TakesCommand, WithinAllowance, WithinRoom, size_of}
+use Rattle.em_services.specs.Service.{CanAnswer, GivesFrames, MakesService, RisesBySize, ServiceCounts, TakesCommand, WithinAllowance, WithinRoom, size_of, FullOverRoom}
 use Rattle.em_ready.specs.Ready.{IsReady, IsUnused}
 use Rattle.em_lines.specs.RunSize.{commands_taken, pairs_reported, run_size}
-use Rattle.em_answers.specs.Reading.{IsFilled, StandsAlone, most_within, service_limits, told_within}
+use Rattle.em_answers.specs.Reading.{IsFilled, StandsAlone, service_limits}
 use Rattle.em_ends.specs.Stop.{IfStopsFull}
 use Rattle.em_ends.specs.declared.stop.Stop.TheVariants.{Em}
 use Rattle.em_lines.specs.declared.text.FileKind.{FileKind}
@@ -101,18 +100,18 @@ frames_back frames a b c d l s g = record {
 }
 
 -- A service was made over a rig of which no block is or was in use: it is alone there.
-made_used : (room : Option (ShapeNumbers → ℕ → ℕ)) (s t : RigState) (c : ServiceCounts)
-    → s.used ≡ 0 → IfSome room (λ f. t.used ≡ s.used + c.blocks)
-    → IfSome room (λ f. t.used ≡ c.blocks)
-made_used None s t c none used = tt
-made_used (Some f) s t c none used = omega (arith, none, used)
+made_used : (room : Option (ShapeNumbers → ℕ → ℕ)) (s t : RigState) (held : List ℕ)
+    → s.used ≡ 0 → IfSome room (λ f. t.used ≡ s.used + length held)
+    → IfSome room (λ f. t.used ≡ length held)
+made_used None s t held none used = tt
+made_used (Some f) s t held none used = omega (arith, none, used)
 
 made_most : (room : Option (ShapeNumbers → ℕ → ℕ)) (s t : RigState) (c : ServiceCounts)
-    → IsUnused s → t.pool.shape ≡ s.pool.shape → c.n ≡ 0 → WithinRoom room 0 0 s t
-    → IfSome room (λ f. t.most ≤ f t.pool.shape c.n)
-made_most None s t c u shape n w = tt
-made_most (Some f) s t c u shape n w =
-    let most = w.is in
+    → IsUnused s → t.pool.shape ≡ s.pool.shape → c.n ≡ 0 → WithinRoom room 0 [] s t
+    → IsTrue s.device.told → IfSome room (λ f. t.most ≤ f t.pool.shape c.n)
+made_most None s t c u shape n w told = tt
+made_most (Some f) s t c u shape n w told =
+    let most = (w told).is in
     rw (shape, n) (omega (arith, most, u.used, u.none_ever))
 
 made_moved : (allowance : Option (ShapeNumbers → ℕ → ℕ)) (s t : RigState) (c : ServiceCounts)
@@ -130,16 +129,16 @@ made_within (Some f) s t c none shape n w told =
 
 pub alone_made : (allowance room : Option (ShapeNumbers → ℕ → ℕ)) (frames : ℕ) (held : List ℕ)
     (c : ServiceCounts) (s t : RigState) → IsUnused s → s.moves ≡ 0
-    → MakesService allowance room frames held c s t → WithinRoom room 0 0 s t
-    → WithinAllowance allowance 0 0 s t → StandsAlone allowance room c t
+    → MakesService allowance room frames held c s t → WithinRoom room 0 [] s t
+    → WithinAllowance allowance 0 0 s t → StandsAlone allowance room held c t
 alone_made allowance room frames held c s t u none m w a = record {
   paid = ⊎_elim
       (λ (h : 2 ^ 64 - 1 ≤ t.moves). inl h)
       (λ (h : t.used + s.moves + 0 ≤ s.used + t.moves + c.unstored).
       inr (omega (arith, h, u.used)))
       m.pays.is;
-  used = made_used room s t c u.used m.used;
-  most = made_most room s t c u m.touches.shape m.n w;
+  used = λ told. made_used room s t held u.used (m.used (sym m.touches.told ∙ told));
+  most = λ told. made_most room s t c u m.touches.shape m.n w (sym m.touches.told ∙ told);
   moved = made_moved allowance s t c none m.spent;
   within = λ told.
       made_within allowance s t c none m.touches.shape m.n a (sym m.touches.told ∙ told);
@@ -147,7 +146,7 @@ alone_made allowance room frames held c s t u none m w a = record {
 
 -- before a service is made, none of its blocks is in use
 abbrev pub no_counts : ServiceCounts
-no_counts = record { n = 0; spent = 0; blocks = 0; unstored = 0 }
+no_counts = record { n = 0; spent = 0; unstored = 0 }
 
 unused_used : (room : Option (ShapeNumbers → ℕ → ℕ)) (s : RigState) → s.used ≡ 0
     → IfSome room (λ f. s.used ≡ 0)
@@ -170,31 +169,32 @@ unused_within None s e = tt
 unused_within (Some f) s e = omega (arith, e)
 
 pub alone_unused : (allowance room : Option (ShapeNumbers → ℕ → ℕ)) (s : RigState) → IsUnused s
-    → s.moves ≡ 0 → StandsAlone allowance room no_counts s
+    → s.moves ≡ 0 → StandsAlone allowance room [] no_counts s
 alone_unused allowance room s u none = record {
   paid = inr (omega (arith, u.used));
-  used = unused_used room s u.used;
-  most = unused_most room s u.none_ever;
+  used = λ told. unused_used room s u.used;
+  most = λ told. unused_most room s u.none_ever;
   moved = unused_moved allowance s 0 none;
   within = λ told. unused_within allowance s none;
 }
 
 -- One command more was taken.
-next_used : (room : Option (ShapeNumbers → ℕ → ℕ)) (s t : RigState) (c d : ServiceCounts)
-    → IfSome room (λ f. s.used ≡ c.blocks)
-    → IfSome room (λ f. t.used + c.blocks ≡ s.used + d.blocks)
-    → IfSome room (λ f. t.used ≡ d.blocks)
-next_used None s t c d before now = tt
-next_used (Some f) s t c d before now = omega (arith, before, now)
+next_used : (room : Option (ShapeNumbers → ℕ → ℕ)) (s t : RigState) (held now : List ℕ)
+    → IfSome room (λ f. s.used ≡ length held)
+    → IfSome room (λ f. t.used + length held ≡ s.used + length now)
+    → IfSome room (λ f. t.used ≡ length now)
+next_used None s t held now before after = tt
+next_used (Some f) s t held now before after = omega (arith, before, after)
 
-next_most : (room : Option (ShapeNumbers → ℕ → ℕ)) (s t : RigState) (c d : ServiceCounts)
-    → IfSome room RisesBySize → IsShape s.pool.shape → IfSome room (λ f. s.used ≡ c.blocks)
+next_most : (room : Option (ShapeNumbers → ℕ → ℕ)) (held : List ℕ) (s t : RigState)
+    (c d : ServiceCounts) → IfSome room RisesBySize → IsShape s.pool.shape
+    → IfSome room (λ f. s.used ≡ length held)
     → IfSome room (λ f. s.most ≤ f s.pool.shape c.n) → t.pool.shape ≡ s.pool.shape
-    → d.n ≡ c.n + 1 → WithinRoom room (c.n + 1) c.blocks s t
+    → d.n ≡ c.n + 1 → WithinRoom room (c.n + 1) held s t → IsTrue s.device.told
     → IfSome room (λ f. t.most ≤ f t.pool.shape d.n)
-next_most None s t c d rises is used before shape n w = tt
-next_most (Some f) s t c d rises is used before shape n w =
-    let most = w.is in
+next_most None held s t c d rises is used before shape n w told = tt
+next_most (Some f) held s t c d rises is used before shape n w told =
+    let most = (w told).is in
     let more = rises s.pool.shape c.n (c.n + 1) is (omega arith) in
     rw (shape, n) (omega (arith, most, used, before, more))
 
@@ -215,9 +215,9 @@ next_within (Some f) s t c d before shape n w told =
 
 pub alone_next : (allowance room : Option (ShapeNumbers → ℕ → ℕ)) (held now : List ℕ)
     (c d : ServiceCounts) (s t : RigState) → IfSome room RisesBySize → IsShape s.pool.shape
-    → StandsAlone allowance room c s → Touches held s t
-    → TakesCommand allowance room held now c d s t → WithinRoom room (c.n + 1) c.blocks s t
-    → WithinAllowance allowance (c.n + 1) c.spent s t → StandsAlone allowance room d t
+    → StandsAlone allowance room held c s → Touches held s t
+    → TakesCommand allowance room held now c d s t → WithinRoom room (c.n + 1) held s t
+    → WithinAllowance allowance (c.n + 1) c.spent s t → StandsAlone allowance room now d t
 alone_next allowance room held now c d s t rises is a touches k w m = record {
   paid = ⊎_elim
       (λ (h : 2 ^ 64 - 1 ≤ s.moves). inl (let later = touches.moves in omega (arith, h, later)))
@@ -228,8 +228,11 @@ alone_next allowance room held now c d s t rises is a touches k w m = record {
       inr (omega (arith, h, y)))
       k.pays.is)
       a.paid;
-  used = next_used room s t c d a.used k.used;
-  most = next_most room s t c d rises is a.used a.most touches.shape k.n w;
+  used = λ told.
+      let z = sym touches.told ∙ told in next_used room s t held now (a.used z) (k.used z);
+  most = λ told.
+      let z = sym touches.told ∙ told in
+      next_most room held s t c d rises is (a.used z) (a.most z) touches.shape k.n w z;
   moved = next_moved allowance s t c d a.moved k.spent;
   within = λ told.
       next_within allowance s t c d a.moved touches.shape k.n m (sym touches.told ∙ told);
@@ -253,54 +256,43 @@ full_paid owed held t u n used touches paid p full =
     p.is)
     paid
 
--- A call on a service that took c.n commands was within its room for this size, which is at most that
--- of the run.
-pub record IsSized (room : Option (ShapeNumbers → ℕ → ℕ)) (run size : ℕ) (c : ServiceCounts)
-    (s u : RigState) : Type 0 where
-  pub within : WithinRoom room size c.blocks s u
-  pub least : c.n ≤ size
+-- A call on a service that is alone was full only over its room for this size, which is at most that of the
+-- run.
+pub record IsSized (room : Option (ShapeNumbers → ℕ → ℕ)) (run size : ℕ) (held : List ℕ)
+    (s : RigState) (fault : EmFault) : Type 0 where
+  pub full : FullOverRoom room size held s fault
   pub most : size ≤ run
 
--- So the blocks of a full device are within what the service may hold in the run.
-filled_most : (room : Option (ShapeNumbers → ℕ → ℕ)) (kind : FileKind) (told : Bool)
-    (run size blocks used : ℕ) (c : ServiceCounts) (s u : RigState) → IfSome room RisesBySize
-    → IsShape s.pool.shape → u.used ≤ u.most → u.blocks ≡ blocks
-    → IfSome room (λ f. s.used ≡ c.blocks) → IfSome room (λ f. s.most ≤ f s.pool.shape c.n)
-    → (used ≡ u.blocks) × (u.used ≡ u.blocks) → (CountsBy kind told → IsSized room run size c s u)
-    → ToldIf (told_within room kind) told → used ≤ most_within room blocks s.pool.shape run
-filled_most None kind told run size blocks used c s u rises is numbers same held before full sized counts =
-    omega (arith, full.0, same)
-filled_most (Some f) kind told run size blocks used c s u rises is numbers same held before full sized
-    counts =
-    let w = sized counts in
-    let most = w.within.is in
-    let low = rises s.pool.shape c.n size is w.least in
-    let high = rises s.pool.shape size run is w.most in
-    omega (arith, most, held, before, low, high, numbers, full.0, full.1)
+-- So the blocks of a full device are fewer than are enough for the run.
+filled_room : (room : Option (ShapeNumbers → ℕ → ℕ)) (run size used : ℕ) (held : List ℕ)
+    (s : RigState) → IfSome room RisesBySize → IsShape s.pool.shape → IsTrue s.device.told
+    → IfSome room (λ f. s.used ≡ length held) → IsSized room run size held s (em.Full used)
+    → IfSome room (λ f. used < f s.pool.shape run)
+filled_room None run size used held s rises is told alone sized = tt
+filled_room (Some f) run size used held s rises is told alone sized =
+    let over = sized.full told in
+    let more = rises s.pool.shape size run is sized.most in
+    omega (arith, over, alone, more)
 
 -- What a full device says of a call on a service that is alone.
-pub filled_call : (allowance room : Option (ShapeNumbers → ℕ → ℕ)) (blocks size : ℕ) (tells : Bool)
+pub filled_call : (allowance room : Option (ShapeNumbers → ℕ → ℕ)) (size : ℕ) (tells : Bool)
     (kind : FileKind) (text left : List ℕ) (held : List ℕ) (c : ServiceCounts) (s u : RigState)
-    (fault : EmFault) → IfSome room RisesBySize → IsShape s.pool.shape → Sound u
-    → Touches held s u → s.blocks ≡ blocks → StandsAlone allowance room c s
-    → Pays c.unstored (2 * s.pool.shape.frames) s u → Cause s u fault
-    → (IsTrue tells → CountsBy kind s.device.told
-    → IsSized room (run_size kind text left) size c s u)
-    → IfStopsFull (Em fault)
-    (IsFilled (service_limits allowance room blocks kind) tells kind text left u)
-filled_call allowance room blocks size tells kind text left held c s u em.DeviceFault rises is sound touches e a p
-    cause sized = tt
-filled_call allowance room blocks size tells kind text left held c s u (em.Damaged block) rises is sound touches e
-    a p cause sized = tt
-filled_call allowance room blocks size tells kind text left held c s u (em.Full used) rises is sound touches e a p
-    cause sized = record {
+    (fault : EmFault) → IfSome room RisesBySize → IsShape s.pool.shape → Touches held s u
+    → StandsAlone allowance room held c s → Pays c.unstored (2 * s.pool.shape.frames) s u
+    → Cause s u fault
+    → (IsTrue tells → IsSized room (run_size kind text left) size held s fault)
+    → IfStopsFull (Em fault) (IsFilled (service_limits allowance room) tells kind text left u)
+filled_call allowance room size tells kind text left held c s u em.DeviceFault rises is touches a p cause sized =
+    tt
+filled_call allowance room size tells kind text left held c s u (em.Damaged block) rises is touches a p cause
+    sized = tt
+filled_call allowance room size tells kind text left held c s u (em.Full used) rises is touches a p cause sized =
+    record {
       paid = full_paid (λ shape. 2 * shape.frames) held s u c.unstored used touches a.paid p cause;
-      size = λ told counts.
-          let here : ToldIf (told_within room kind) s.device.told =
-          subst (λ (b : Bool). ToldIf (told_within room kind) b) touches.told counts in
-          rw (touches.shape) (filled_most room kind s.device.told (run_size kind text left) size blocks
-          used c s u rises is sound.numbers.used_most (touches.blocks ∙ e) a.used a.most cause
-          (sized told) here);
+      room = λ told d.
+          let here = sym touches.told ∙ d in
+          rw (touches.shape) (filled_room room (run_size kind text left) size used held s rises is here
+          (a.used here) (sized told));
     }
 
 -- the size of the commands of a whole file is within that of the run
@@ -316,11 +308,6 @@ size_within kind.Stab text left taken =
     let pairs = pairs_counted good in
     let reported = ap pairs_reported all in
     omega (arith, taken, pairs, reported)
-
-pub size_least : (kind : FileKind) (cs : List Command) → length cs ≤ size_of kind cs
-size_least Map cs = omega arith
-size_least Queue cs = omega arith
-size_least kind.Stab cs = omega arith
 
 -- The frames of a service came back after its calls: as many are free as before it was made.
 pub ended_service : (frames : ℕ) (held now : List ℕ) (s t u v : RigState) → Touches [] s t

@@ -1,6 +1,6 @@
--- A run whose moves are within its transfer cost.
-use Rattle.std.proofs.Common.{◌≡◌, ℕ, ◌+◌, ◌-◌, ◌*◌, ◌<◌, ◌≤◌, ◌^◌, ◌⊎◌, Bool, false, List, [], Option, Some, None, IfSome, IsTrue, IsFalse, ap, subst, ◌∙◌, refl, arith, inl, inr, ⊎_elim}
-use Rattle.em_record.specs.Cost.{blocks_of, cost, lev}
+-- A run whose moves are within its transfer cost, and its blocks within the room.
+use Rattle.std.proofs.Common.{◌≡◌, ℕ, ◌+◌, ◌-◌, ◌*◌, ◌<◌, ◌≤◌, ◌^◌, ◌⊎◌, Bool, List, [], Option, Some, None, IfSome, IsTrue, IsFalse, ap, subst, ◌∙◌, refl, arith, inl, inr, ⊎_elim}
+use Rattle.em_record.specs.Cost.{blocks_of, cost, lev, room}
 use Rattle.em_record.specs.Count.{Rose}
 use Rattle.em_record.specs.Shape.{ShapeNumbers, IsShape}
 use Rattle.em_io.specs.Sink.{IsRule}
@@ -13,8 +13,8 @@ use Rattle.em_space.specs.Queue.{CanServe, IsRising, QueueCounts}
 use Rattle.em_space.specs.Rig.{RigState, Cause, Goes, Sound, Touches}
 use Rattle.em_space.specs.declared.fault.EmFault.{EmFault}
 use Rattle.em_space.specs.declared.fault.EmFault.TheVariants as em
-use Rattle.em_tree_cost.specs.Shares.{queue_share}
-use Rattle.em_tree_cost.proofs.Services.{queue_cost}
+use Rattle.em_tree_cost.specs.Shares.{queue_share, tree_room}
+use Rattle.em_tree_cost.proofs.Services.{queue_cost, queue_run_room}
 use Rattle.em_tree.specs.Calls.{StopsNewTrunk}
 use Rattle.em_pqueue.specs.Calls.{IsNewQueue}
 use Rattle.em_pqueue.specs.ExtQueue.{counts_of as ext_counts}
@@ -32,28 +32,43 @@ use Rattle.em_lines.specs.RunSize.{commands_taken, run_size}
 use Rattle.em_ends.specs.RunStop.{FillsRun}
 use Rattle.em_ends.specs.Status.{IfEndsDamaged, IfEndsFull, OnDone, OnNoMemory, OnUsage}
 use Rattle.em_ends.specs.declared.status.Status.{Status}
-use Rattle.em_ends.specs.declared.status.Status.TheVariants.{ReadFault, WriteFault, DeviceFault, Full, Damaged}
+use Rattle.em_ends.specs.declared.status.Status.TheVariants.{Done, Malformed, NoMemory, ReadFault, WriteFault, DeviceFault, Full, Damaged}
+use Rattle.em_ends.specs.declared.status.Status.TheVariants as status
 use Rattle.em_ends.specs.declared.stop.Stop.TheVariants.{Em}
 use Rattle.em_lines.specs.declared.text.FileKind.{FileKind}
 use Rattle.em_lines.specs.declared.text.FileKind.TheVariants.{Queue}
-use Rattle.em_ends.proofs.EndLaws.{ended_stop, full_by_moves, if_full}
+use Rattle.em_ends.proofs.EndLaws.{ended_stop}
 use Rattle.em_ready.proofs.Queues.{can_serve, fails_ext, makes_ext, most_ext}
-use Rattle.em_ready.proofs.RoomLaws.{more_times}
+use Rattle.em_ready.proofs.RoomLaws.{more_times, room_some}
 use Rattle.em_answers.proofs.Running.{alone_new, goes_given_up}
 
--- the limits with this number of moves
-abbrev pub held_to : (ShapeNumbers → ℕ → ℕ) → (ShapeNumbers → ℕ → ℕ) → Bool → Limits
-held_to f most told = record { moves = Some f; most = most; most_told = told }
+-- a number of blocks that a full device has fewer of, for a lesser one
+if_less : (s : Status) (few many : ℕ) → few ≤ many → IfEndsFull s (λ used. used < few)
+    → IfEndsFull s (λ used. used < many)
+if_less (Full used) few many wide h = omega (arith, wide, h)
+if_less Done few many wide h = tt
+if_less (status.Usage kind word) few many wide h = tt
+if_less (Malformed kind place) few many wide h = tt
+if_less ReadFault few many wide h = tt
+if_less WriteFault few many wide h = tt
+if_less DeviceFault few many wide h = tt
+if_less NoMemory few many wide h = tt
+if_less (Damaged block) few many wide h = tt
 
--- A run within a number that is at most the transfer cost is within that, on a device that moved none
--- before.
+-- the limits with these numbers
+abbrev pub held_to : (ShapeNumbers → ℕ → ℕ) → (ShapeNumbers → ℕ → ℕ) → Limits
+held_to moves most = record { moves = Some moves; room = Some most }
+
+-- A run within numbers that are at most the transfer cost and the room is within these, on a device that
+-- moved none before.
 pub ended_by_cost : {took : List ℕ → List ℕ → List ℕ} (tells : Bool) (kind : FileKind)
-    (text : List ℕ) (f most : ShapeNumbers → ℕ → ℕ) (told : Bool) (shape : ShapeNumbers)
+    (text : List ℕ) (f most : ShapeNumbers → ℕ → ℕ) (shape : ShapeNumbers)
     (blocks : ℕ) (old new : Outside) (s : Status)
-    → Ended tells took (asked_by (held_to f most told) kind text) shape blocks old new s
-    → ((n : ℕ) → f shape n ≤ cost shape n) → old.device.moves ≡ 0 → blocks ≤ 2 ^ 40
+    → Ended tells took (asked_by (held_to f most) kind text) shape blocks old new s
+    → ((n : ℕ) → f shape n ≤ cost shape n) → ((n : ℕ) → most shape n ≤ room shape n)
+    → old.device.moves ≡ 0
     → Ended tells took (asked_by by_cost kind text) shape blocks old new s
-ended_by_cost tells kind text f most told shape blocks old new s e few none high =
+ended_by_cost tells kind text f most shape blocks old new s e few small none =
     let n = run_size kind text (new.stand.slot First).left in
     let within : f shape n ≤ cost shape n = few n in
     let kept : IsTrue tells → IsTrue old.device.told → new.device.moves ≤ cost shape n =
@@ -65,26 +80,24 @@ ended_by_cost tells kind text f most told shape blocks old new s e few none high
       prefix = e.prefix;
       full = e.full;
       paid = e.paid;
-      size = λ t d. if_full s (λ used. used ≡ blocks)
-          (λ used. (2 ^ 64 - 1 ≤ new.device.moves) ⊎ (used ≤ new.device.moves + 2 * shape.frames))
-          (λ used. used ≤ cost shape n + 2 * shape.frames)
-          (λ used all paid. full_by_moves blocks used new.device.moves (cost shape n) shape.frames high all
-          (kept t d) paid) e.full e.paid;
+      room = λ t d. if_less s (most shape n) (room shape n) (small n) (e.room t d);
       moves = λ t d. let m = kept t d in omega (arith, m);
       damaged = e.damaged;
     }
 
 module _ {H W : Type 0} {h : ShelfGhosts H} {w : SinkGhosts W} where
   -- So is the run of a command file.
-  pub runs_by_cost : (kind : FileKind) (f most : ShapeNumbers → ℕ → ℕ) (told : Bool) (s t : RigState)
+  pub runs_by_cost : (kind : FileKind) (f most : ShapeNumbers → ℕ → ℕ) (s t : RigState)
       (shelf : H) (out : W) (shelf_after : H) (out_after : W) (end : Status)
-      → RunsWithin h w (held_to f most told) kind s t shelf out shelf_after out_after end
-      → ((n : ℕ) → f s.pool.shape n ≤ cost s.pool.shape n) → s.device.moves ≡ 0 → s.blocks ≤ 2 ^ 40
+      → RunsWithin h w (held_to f most) kind s t shelf out shelf_after out_after end
+      → ((n : ℕ) → f s.pool.shape n ≤ cost s.pool.shape n)
+      → ((n : ℕ) → most s.pool.shape n ≤ room s.pool.shape n)
+      → s.device.moves ≡ 0
       → RunsWithin h w by_cost kind s t shelf out shelf_after out_after end
-  runs_by_cost kind f most told s t shelf out shelf_after out_after end r few none high = record {
-    ended = ended_by_cost h.tells kind ((h.stand shelf).slot First).left f most told s.pool.shape s.blocks
+  runs_by_cost kind f most s t shelf out shelf_after out_after end r few small none = record {
+    ended = ended_by_cost h.tells kind ((h.stand shelf).slot First).left f most s.pool.shape s.blocks
         (outside h w s.device shelf out) (outside h w t.device shelf_after out_after) end r.ended few
-        none high;
+        small none;
     caused = r.caused;
     reads = r.reads;
     all_read = r.all_read;
@@ -94,15 +107,14 @@ module _ {H W : Type 0} {h : ShelfGhosts H} {w : SinkGhosts W} where
 
   -- The run of a queue, as seen from before the queue was made: it began at `r`, was made at `s`, and its
   -- moves were counted from the first on.
-  pub runs_before : (kind : FileKind) (f : ShapeNumbers → ℕ → ℕ) (r s t : RigState)
+  pub runs_before : (kind : FileKind) (f most : ShapeNumbers → ℕ → ℕ) (r s t : RigState)
       (shelf : H) (out : W) (shelf_after : H) (out_after : W) (end : Status) → Touches [] r s
-      → RunsWithin h w (queue_limits s.blocks) kind s t shelf out shelf_after out_after end
+      → RunsWithin h w (queue_limits (Some most)) kind s t shelf out shelf_after out_after end
       → (IsTrue h.tells → IsTrue s.device.told
       → t.device.moves ≤ f s.pool.shape (run_size kind ((h.stand shelf).slot First).left
       ((h.stand shelf_after).slot First).left))
-      → RunsWithin h w (held_to f (λ shape size. s.blocks) false) kind r t shelf out shelf_after
-      out_after end
-  runs_before kind f r s t shelf out shelf_after out_after end a x m = record {
+      → RunsWithin h w (held_to f most) kind r t shelf out shelf_after out_after end
+  runs_before kind f most r s t shelf out shelf_after out_after end a x m = record {
     ended = record {
       answers = λ z d. x.ended.answers z (a.told ∙ d);
       due = λ z d. x.ended.due z d;
@@ -110,7 +122,9 @@ module _ {H W : Type 0} {h : ShelfGhosts H} {w : SinkGhosts W} where
       full = subst (λ (n : ℕ). IfEndsFull end (λ used. used ≡ n)) a.blocks x.ended.full;
       paid = subst (λ (p : ShapeNumbers). IfEndsFull end (λ used. (2 ^ 64 - 1 ≤ t.device.moves)
           ⊎ (used ≤ t.device.moves + 2 * p.frames))) a.shape x.ended.paid;
-      size = λ z d. x.ended.size z d;
+      room = λ z d. subst (λ (p : ShapeNumbers). IfEndsFull end (λ used. used < most p (run_size kind
+          ((h.stand shelf).slot First).left ((h.stand shelf_after).slot First).left))) a.shape
+          (x.ended.room z (a.told ∙ d));
       moves = λ z d.
           let n = run_size kind ((h.stand shelf).slot First).left
           ((h.stand shelf_after).slot First).left in
@@ -178,7 +192,10 @@ new_fills tells text old s t (em.Full n) f is same used none =
           (λ (h : t.used + s.moves + 0 ≤ s.used + t.moves + 1).
           inr (omega (arith, h, cause.0, cause.1, used, none, frames, low)))
           f.pays.is;
-      size = λ z d. omega (arith, few, cause.0, cause.1, used, frames, low);
+      room = λ z d.
+          let n = run_size Queue text (old.stand.slot First).left in
+          let wide = room_some t.pool.shape n in
+          omega (arith, few, cause.0, cause.1, used, wide);
     }
 
 -- No queue was made.
@@ -218,11 +235,11 @@ pub queue_goes : {s t u : RigState} {q : ExtQueue} → IsNewQueue s t q → Give
     → Goes [] s u
 queue_goes n x = goes_given_up (makes_ext n) x
 
--- and its run is within the transfer cost.
+-- and its run is within the transfer cost and the room.
 pub queue_runs : {H W : Type 0} {h : ShelfGhosts H} {w : SinkGhosts W} {s t u : RigState}
     {q : ExtQueue} {shelf : H} {out : W} {shelf_after : H} {out_after : W} {end : Status}
     → IsUnused s → s.moves ≡ 0 → IsNewQueue s t q → GivesUp ext q t u
-    → RunsWithin h w (queue_limits t.blocks) Queue t u shelf out shelf_after out_after end
+    → RunsWithin h w (queue_limits (Some tree_room)) Queue t u shelf out shelf_after out_after end
     → (IsTrue h.tells → IsTrue t.device.told → WithinCalls (Some queue_share) t.pool.shape
     (commands_taken Queue ((h.stand shelf).slot First).left ((h.stand shelf_after).slot First).left)
     u.moves)
@@ -231,10 +248,12 @@ queue_runs {s = s} {t = t} {u = u} {shelf = shelf} {out = out} {shelf_after = sh
     {out_after = out_after} {end = end} unused none n x r within =
     let sound = unused.sound in
     let f : ShapeNumbers → ℕ → ℕ = λ shape size. queue_share shape size size in
-    runs_by_cost Queue f (λ shape size. t.blocks) false s u shelf out shelf_after out_after end
-    (runs_before Queue f s t u shelf out shelf_after out_after end n.session.touches r
+    runs_by_cost Queue f tree_room s u shelf out shelf_after out_after end
+    (runs_before Queue f tree_room s t u shelf out shelf_after out_after end n.session.touches r
     (λ z d. let m = within z d in let e = x.sound.moves_is in omega (arith, m, e)))
-    (queue_few s.pool.shape sound.shape) (sound.moves_is ∙ none) sound.numbers.blocks_high
+    (queue_few s.pool.shape sound.shape)
+    (λ n. queue_run_room s.pool.shape n n (tree_room s.pool.shape n) sound.shape (omega arith) (omega arith))
+    (sound.moves_is ∙ none)
 
 -- a run that ended as the rig gave up isn't done
 unmade_open : (fault : EmFault) (P : Type 0) → OnDone (em_status fault) P

@@ -1,5 +1,5 @@
 -- Why the reading of a file into a service stopped, as the call says it that made the service.
-use Rattle.std.proofs.Common.{◌≡◌, ℕ, ◌*◌, ◌≤◌, List, [], length, refl, sym, subst, ◌∙◌, arith, Bool, IsTrue, Option, IfSome}
+use Rattle.std.proofs.Common.{◌≡◌, ℕ, ◌*◌, ◌≤◌, List, [], length, sym, ◌∙◌, arith, Bool, IsTrue, Option, IfSome}
 use Rattle.em_record.specs.Shape.{ShapeNumbers}
 use Rattle.em_io.specs.Feed.{Fed, rest}
 use Rattle.em_io.specs.declared.shelf.Shelf.{Ghosts as ShelfGhosts}
@@ -13,9 +13,8 @@ use Rattle.em_space.proofs.Steps.{cause_after}
 use Rattle.em_space.proofs.Within.{touches_within}
 use Rattle.em_chain.specs.Effects.{Unmoved}
 use Rattle.em_answers.specs.Limits.{Limits}
-use Rattle.em_ends.specs.Asked.{ToldIf}
 use Rattle.em_lines.specs.CommandLine.{good_commands}
-use Rattle.em_services.specs.Service.{CountsBy, GivesFrames, RisesBySize, ServiceCounts, WithinRoom, size_of}
+use Rattle.em_services.specs.Service.{GivesFrames, RisesBySize, ServiceCounts, size_of, FullOverRoom}
 use Rattle.em_lines.specs.RunSize.{commands_taken}
 use Rattle.em_answers.specs.Reading.{IsFilled, StandsAlone, StopsReading, service_limits, StopCause}
 use Rattle.em_ready.specs.Ready.{IsUnused}
@@ -24,7 +23,7 @@ use Rattle.em_ends.specs.declared.status.Malform.TheVariants.{Text, Aig}
 use Rattle.em_ends.specs.declared.stop.Stop.{Stop}
 use Rattle.em_ends.specs.declared.stop.Stop.TheVariants.{Fault, Read, Write, Em}
 use Rattle.em_lines.specs.declared.text.FileKind.{FileKind}
-use Rattle.em_answers.proofs.Listing.{alone_unused, filled_call, no_counts, size_least, size_within}
+use Rattle.em_answers.proofs.Listing.{alone_unused, filled_call, no_counts, size_within}
 
 -- A cause stays one after a call that moved nothing.
 cause_unmoved : (s u v : RigState) (fault : EmFault) → Touches [] u v → Unmoved u v
@@ -64,63 +63,58 @@ filled_unmoved limits tells kind text left u v (Em em.DeviceFault) touches still
 filled_unmoved limits tells kind text left u v (Em (em.Damaged block)) touches still f = tt
 filled_unmoved limits tells kind text left u v (Em (em.Full used)) touches still f = record {
   paid = rw (touches.shape, still.moves) f.paid;
-  size = λ told counts. rw (touches.shape) (f.size told
-      (subst (λ (b : Bool). ToldIf limits.most_told b) touches.told counts));
+  room = λ told d. rw (touches.shape) (f.room told (sym touches.told ∙ d));
 }
 
 -- A stop of the reading is one of the call that made the service before and gave it up after.
 pub stops_around : {H : Type 0} (h : ShelfGhosts H)
     (allowance room : Option (ShapeNumbers → ℕ → ℕ)) (kind : FileKind) (feed : Fed) (shelf shelf_after : H) (held : List ℕ) (s t u v : RigState)
     (stop : Stop) → Touches held s t → Touches [] u v → Unmoved u v
-    → StopsReading h (service_limits allowance room t.blocks kind) kind feed shelf shelf_after t u stop
-    → StopsReading h (service_limits allowance room s.blocks kind) kind feed shelf shelf_after s v stop
+    → StopsReading h (service_limits allowance room) kind feed shelf shelf_after t u stop
+    → StopsReading h (service_limits allowance room) kind feed shelf shelf_after s v stop
 stops_around h allowance room kind feed shelf shelf_after held s t u v stop before after still r = record {
   cause = stop_around held h.tells kind (rest feed (h.stand shelf)) (reading (h.faults shelf))
       (reading (h.faults shelf_after)) s t u v stop before after still r.cause;
-  full = filled_unmoved (service_limits allowance room s.blocks kind) h.tells kind (rest feed (h.stand shelf))
-      ((h.stand shelf_after).slot feed.slot).left u v stop after still
-      (subst (λ (b : ℕ). IfStopsFull stop (IsFilled (service_limits allowance room b kind) h.tells kind
-      (rest feed (h.stand shelf)) ((h.stand shelf_after).slot feed.slot).left u)) before.blocks r.full);
+  full = filled_unmoved (service_limits allowance room) h.tells kind (rest feed (h.stand shelf))
+      ((h.stand shelf_after).slot feed.slot).left u v stop after still r.full;
 }
 
 -- The service wasn't made.
 pub stops_new : {H : Type 0} (h : ShelfGhosts H)
     (allowance room : Option (ShapeNumbers → ℕ → ℕ)) (kind : FileKind) (feed : Fed) (shelf : H) (s u : RigState) (fault : EmFault)
-    → IfSome room RisesBySize → IsUnused s → s.moves ≡ 0 → Goes [] s u → WithinRoom room 0 0 s u
+    → IfSome room RisesBySize → IsUnused s → s.moves ≡ 0 → Goes [] s u → FullOverRoom room 0 [] s fault
     → Pays 0 s.pool.shape.frames s u → Cause s u fault
-    → StopsReading h (service_limits allowance room s.blocks kind) kind feed shelf shelf s u (Em fault)
-stops_new h allowance room kind feed shelf s u fault rises unused none goes within pays cause = record {
+    → StopsReading h (service_limits allowance room) kind feed shelf shelf s u (Em fault)
+stops_new h allowance room kind feed shelf s u fault rises unused none goes full pays cause = record {
   cause = cause;
-  full = filled_call allowance room s.blocks 0 h.tells kind (rest feed (h.stand shelf))
-      ((h.stand shelf).slot feed.slot).left [] no_counts s u fault rises unused.sound.shape goes.sound
-      goes.touches refl (alone_unused allowance room s unused none) (pays_more pays (omega arith)) cause
-      (λ told counted. record { within = within; least = omega arith; most = omega arith });
+  full = filled_call allowance room 0 h.tells kind (rest feed (h.stand shelf))
+      ((h.stand shelf).slot feed.slot).left [] no_counts s u fault rises unused.sound.shape goes.touches
+      (alone_unused allowance room s unused none) (pays_more pays (omega arith)) cause
+      (λ told. record { full = full; most = omega arith });
 }
 
 -- The answers weren't made.
 pub stops_answers : {H : Type 0} (h : ShelfGhosts H)
     (allowance room : Option (ShapeNumbers → ℕ → ℕ)) (kind : FileKind) (feed : Fed) (shelf shelf_after : H) (frames : ℕ) (held now : List ℕ)
     (c : ServiceCounts) (s t u v : RigState) (fault : EmFault) → IfSome room RisesBySize
-    → Touches [] s t → Within s [] held → Goes held t u → StandsAlone allowance room c u
+    → Touches [] s t → Within s [] held → Goes held t u → StandsAlone allowance room now c u
     → GivesFrames frames now u v → Pays c.unstored (2 * u.pool.shape.frames) u v → Cause u v fault
     → (IsTrue h.tells → c.n
     ≤ commands_taken kind (rest feed (h.stand shelf)) ((h.stand shelf_after).slot feed.slot).left)
     → (IsTrue h.tells → c.n ≡ length (good_commands kind (rest feed (h.stand shelf))))
-    → (IsTrue h.tells → CountsBy kind u.device.told
-    → WithinRoom room (size_of kind (good_commands kind (rest feed (h.stand shelf)))) c.blocks u v)
-    → StopsReading h (service_limits allowance room s.blocks kind) kind feed shelf shelf_after s v (Em fault)
+    → (IsTrue h.tells
+    → FullOverRoom room (size_of kind (good_commands kind (rest feed (h.stand shelf)))) now u fault)
+    → StopsReading h (service_limits allowance room) kind feed shelf shelf_after s v (Em fault)
 stops_answers h allowance room kind feed shelf shelf_after frames held now c s t u v fault rises made fresh calls
-    alone gives pays cause taken len within =
+    alone gives pays cause taken len full =
     let text = rest feed (h.stand shelf) in
     let left = ((h.stand shelf_after).slot feed.slot).left in
     let good = good_commands kind text in
     record {
       cause = cause_after [] s u v fault (touches_within s t u [] held made fresh calls.touches) cause;
-      full = filled_call allowance room s.blocks (size_of kind good) h.tells kind text left now c u v fault rises
-          calls.sound.shape gives.sound gives.touches (calls.touches.blocks ∙ made.blocks) alone pays
-          cause (λ told counted. record {
-            within = within told counted;
-            least = let l = size_least kind good in omega (arith, l, len told);
+      full = filled_call allowance room (size_of kind good) h.tells kind text left now c u v fault rises
+          calls.sound.shape gives.touches alone pays cause (λ told. record {
+            full = full told;
             most = size_within kind text left
                 (let l = len told in let n = taken told in omega (arith, l, n));
           });

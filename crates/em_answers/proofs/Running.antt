@@ -1,5 +1,5 @@
 -- A run over a service or a queue.
-use Rattle.std.proofs.Common.{◌≡◌, ◌≢◌, ℕ, ◌+◌, ◌-◌, ◌*◌, ◌≤◌, ◌^◌, List, [], ◌∷◌, ◌++◌, length, ap, sym, subst, ◌∙◌, refl, arith, Bool, true, IsTrue, Result, Some, None, inl, inr, ⊎_elim}
+use Rattle.std.proofs.Common.{◌≡◌, ◌≢◌, ℕ, ◌+◌, ◌-◌, ◌*◌, ◌≤◌, ◌^◌, List, [], ◌∷◌, ◌++◌, length, ap, sym, subst, ◌∙◌, refl, arith, Bool, true, IsTrue, Result, Some, None, inl, inr, ⊎_elim, ◌<◌, IfSome, Option}
 use Rattle.em_record.specs.Shape.{ShapeNumbers}
 use Rattle.em_io.specs.Feed.{Fed, rest}
 use Rattle.em_io.specs.Shelf.{SlotState, Stand}
@@ -9,7 +9,7 @@ use Rattle.em_io.specs.Sink.{IsRule}
 use Rattle.em_io.proofs.Sent.{part-of, sent-nothing}
 use Rattle.em_record.specs.declared.record.Record.{Record}
 use Rattle.em_model.specs.Stab.{stab_answers}
-use Rattle.em_space.specs.Queue.{QueueCounts, Leaves}
+use Rattle.em_space.specs.Queue.{QueueCounts, Leaves, IsRisingRoom}
 use Rattle.em_space.specs.Rig.{RigState, Cause, Goes, Touches}
 use Rattle.em_space.specs.declared.fault.EmFault.TheVariants as em
 use Rattle.em_space.specs.declared.queue.Queue.{Ghosts as QueueGhosts}
@@ -17,7 +17,7 @@ use Rattle.em_space.proofs.Queues.{shares_then}
 use Rattle.em_space.proofs.Steps.{cause_after, touches_then}
 use Rattle.em_space.proofs.Within.{touches_within}
 use Rattle.em_lines.specs.CommandLine.{first_fault, good_commands}
-use Rattle.em_answers.specs.Limits.{Limits, asked_by, queue_limits}
+use Rattle.em_answers.specs.Limits.{Limits, asked_by, queue_limits, sized}
 use Rattle.em_answers.specs.FileDue.{output_text, status_for, text_unless}
 use Rattle.em_answers.specs.Answer.{text_for}
 use Rattle.em_lines.specs.Reads.{Reads}
@@ -38,6 +38,7 @@ use Rattle.em_lines.specs.declared.text.FileKind.TheVariants as kind
 use Rattle.em_answers.proofs.Answered.{text_same}
 use Rattle.em_ends.proofs.EndLaws.{Stopped}
 use Rattle.em_ready.proofs.Queues.{frames_back}
+use Rattle.em_lines.specs.RunSize.{commands_taken, run_size}
 
 -- where a line is faulty such a file is due no text
 none_due : (k : FileKind) (text : List ℕ) (fault : _) → k ≢ kind.Queue
@@ -158,10 +159,19 @@ pub answers_of : {tells told : Bool} {T : Type 0} {took : List ℕ → List ℕ 
 answers_of {tells} {told} {T} {took} k feed stand text old new result e a t d =
     subst (λ (s : List ℕ). Answers took (text_for k (good_commands k s)) old new result) e (a t d)
 
-filled_alone : (tells : Bool) (text left : List ℕ) (blocks : ℕ) (s t : RigState)
-    (c : QueueCounts) (used : ℕ) → Leaves c s t → IsFilledBy c s used → used ≡ blocks
-    → IsFilled (queue_limits blocks) tells kind.Queue text left t used
-filled_alone tells text left blocks s t c used l full all = record {
+-- the room of the queue's calls is within that of the run
+filled_calls : (room : Option (ShapeNumbers → ℕ → ℕ)) (p q : ShapeNumbers) (j k used : ℕ)
+    → IfSome room IsRisingRoom → q ≡ p → j ≤ k → IfSome room (λ f. used < f p j)
+    → IfSome room (λ f. used < f q k)
+filled_calls None p q j k used rises same few h = tt
+filled_calls (Some f) p q j k used rises same few h =
+    let more = rises p j k few in rw same (omega (arith, h, more))
+
+filled_alone : (room : Option (ShapeNumbers → ℕ → ℕ)) (tells : Bool) (text left : List ℕ)
+    (s t : RigState) (c : QueueCounts) (used : ℕ) → IfSome room IsRisingRoom → c.k ≤ c.n
+    → (IsTrue tells → c.n ≤ commands_taken kind.Queue text left) → Leaves c s t
+    → IsFilledBy room c s used → IsFilled (queue_limits room) tells kind.Queue text left t used
+filled_alone room tells text left s t c used rises k calls l full = record {
   paid =
       let moves : t.moves ≡ s.moves = ap (λ (r : RigState). r.moves) l.same in
       let f = ap (λ (x : ShapeNumbers). x.frames) l.touches.shape in
@@ -169,7 +179,10 @@ filled_alone tells text left blocks s t c used l full all = record {
       (λ (h : 2 ^ 64 - 1 ≤ s.moves). inl (omega (arith, h, moves)))
       (λ (h : used ≤ s.moves + s.pool.shape.frames). inr (omega (arith, h, moves, f)))
       full.paid;
-  size = λ told d. omega (arith, all);
+  room = λ told d.
+      let n = calls told in
+      filled_calls room s.pool.shape t.pool.shape c.k (commands_taken kind.Queue text left) used rises
+      l.touches.shape (omega (arith, k, n)) (full.small (sym l.touches.told ∙ d));
 }
 
 -- A new queue is alone on a rig of which no block is or was in use, and that moved none.
@@ -214,17 +227,18 @@ goes_given_up {queue = queue} {s = s} {t = t} {u = u} {q = q} m x = record {
 }
 
 -- A queue that was alone on a full device gave its frames back.
-pub queue_filled : (tells : Bool) (text left : List ℕ) (a s t : RigState) (c : QueueCounts)
-    (faults later : Faults) (stop : Stop) → Leaves c s t → IfStopsFull stop (IsFilledBy c s)
-    → StopCause tells kind.Queue text faults later a s stop → s.blocks ≡ a.blocks
-    → IfStopsFull stop (IsFilled (queue_limits a.blocks) tells kind.Queue text left t)
-queue_filled tells text left a s t c faults later (Fault fault place) l full cause same = tt
-queue_filled tells text left a s t c faults later Read l full cause same = tt
-queue_filled tells text left a s t c faults later Write l full cause same = tt
-queue_filled tells text left a s t c faults later (Em em.DeviceFault) l full cause same = tt
-queue_filled tells text left a s t c faults later (Em (em.Damaged block)) l full cause same = tt
-queue_filled tells text left a s t c faults later (Em (em.Full used)) l full cause same =
-    filled_alone tells text left a.blocks s t c used l full (cause.0 ∙ same)
+pub queue_filled : (room : Option (ShapeNumbers → ℕ → ℕ)) (tells : Bool) (text left : List ℕ)
+    (s t : RigState) (c : QueueCounts) (stop : Stop) → IfSome room IsRisingRoom → c.k ≤ c.n
+    → (IsTrue tells → c.n ≤ commands_taken kind.Queue text left) → Leaves c s t
+    → IfStopsFull stop (IsFilledBy room c s)
+    → IfStopsFull stop (IsFilled (queue_limits room) tells kind.Queue text left t)
+queue_filled room tells text left s t c (Fault fault place) rises k calls l full = tt
+queue_filled room tells text left s t c Read rises k calls l full = tt
+queue_filled room tells text left s t c Write rises k calls l full = tt
+queue_filled room tells text left s t c (Em em.DeviceFault) rises k calls l full = tt
+queue_filled room tells text left s t c (Em (em.Damaged block)) rises k calls l full = tt
+queue_filled room tells text left s t c (Em (em.Full used)) rises k calls l full =
+    filled_alone room tells text left s t c used rises k calls l full
 
 -- why it stopped is as it was before
 pub queue_stops : (tells : Bool) (k : FileKind) (text : List ℕ) (faults later : Faults)
@@ -253,6 +267,16 @@ file_cause limits tells k text faults later a c Read cause = cause
 file_cause limits tells k text faults later a c Write cause = cause
 file_cause limits tells k text faults later a c (Em fault) cause = cause
 
+-- the blocks that are enough, by the size or by how far each slot was read
+fills_room : (room : Option (ShapeNumbers → ℕ → ℕ)) (k : FileKind) (text : List ℕ)
+    (slots : Slot → SlotState) (c : RigState) (used : ℕ) → {tells : Bool}
+    → (IsTrue tells → IsTrue c.device.told
+    → IfSome room (λ f. used < f c.pool.shape (run_size k text (slots First).left)))
+    → IsTrue tells → IsTrue c.device.told
+    → IfSome (sized room (λ slots. run_size k text (slots First).left)) (λ f. used < f c.pool.shape slots)
+fills_room None k text slots c used h t d = tt
+fills_room (Some f) k text slots c used h t d = h t d
+
 fills_file : (limits : Limits) (tells : Bool) (k : FileKind) (text : List ℕ)
     (slots : Slot → SlotState) (c : RigState) (used : ℕ)
     → IsFilled limits tells k text (slots First).left c used
@@ -262,7 +286,7 @@ fills_file limits tells k text slots c used f = record {
       (λ (h : 2 ^ 64 - 1 ≤ c.moves). inl h)
       (λ (h : used ≤ c.moves + 2 * c.pool.shape.frames). inr (omega (arith, h)))
       f.paid;
-  size = f.size;
+  room = fills_room limits.room k text slots c used f.room;
 }
 
 -- So is what a full device says.

@@ -1,5 +1,5 @@
 -- A queue file that is answered command by command.
-use Rattle.std.proofs.Common.{◌≡◌, ℕ, ◌+◌, ◌-◌, ◌≤◌, ◌^◌, List, ◌∷◌, ◌++◌, ap, ◌∙◌, arith, Result, Ok, Err, inl, inr, ⊎_elim}
+use Rattle.std.proofs.Common.{◌≡◌, ℕ, ◌+◌, ◌-◌, ◌≤◌, ◌^◌, List, ◌∷◌, ◌++◌, ap, ◌∙◌, arith, Result, Ok, Err, IfErr, inl, inr, ⊎_elim, ◌<◌, subst, sym, IfSome, Option, None, Some}
 use Rattle.std.proofs.lemmas.Grind.{flat_map-append}
 use Rattle.std.specs.Prelude.{IsErr}
 use Rattle.std.specs.Result.{IsErrAnd}
@@ -7,7 +7,7 @@ use Rattle.em_io.specs.Sink.{Sent, SentPart}
 use Rattle.em_record.specs.declared.record.Record.{Record}
 use Rattle.em_model.specs.Queue.{Queue, queue_answer_of, queue_answers_from, queue_step}
 use Rattle.em_model.specs.declared.command.Command.{Command}
-use Rattle.em_space.specs.Queue.{Pays, QueueCounts, Served, Serves}
+use Rattle.em_space.specs.Queue.{Pays, QueueCounts, Served, Serves, LacksBlocks}
 use Rattle.em_space.specs.Rig.{RigState}
 use Rattle.em_space.specs.declared.fault.EmFault.TheVariants.{DeviceFault, Full, Damaged}
 use Rattle.em_answers.specs.Answer.{popped_line, queue_text}
@@ -16,6 +16,8 @@ use Rattle.em_ends.specs.Stop.{IfStopsFull, OnFault}
 use Rattle.em_ends.specs.declared.stop.Stop.{Stop}
 use Rattle.em_ends.specs.declared.stop.Stop.TheVariants.{Fault, Read, Write, Em}
 use Rattle.em_answers.proofs.Listing.{full_paid}
+use Rattle.em_record.specs.Shape.{ShapeNumbers}
+use Rattle.em_space.specs.declared.queue.Queue.{Ghosts as QueueGhosts}
 
 -- The answers so far went out, and those to the commands that are left are to go.
 pub record Serving (took : List ℕ → List ℕ → List ℕ) (whole : List ℕ) (left : List Command)
@@ -50,28 +52,45 @@ alone_next held s t c d a v w = record {
   moved = let e = v.spent in omega (arith, e, a.moved);
 }
 
-filled_by : (held : List ℕ) (s t : RigState) (c d : QueueCounts) (used : ℕ) → IsAlone s c
-    → Serves held c d s t → Pays c.unstored s.pool.shape.frames s t
-    → (used ≡ t.blocks) × (t.used ≡ t.blocks) → IsFilledBy d t used
-filled_by held s t c d used a v p full = record {
+-- the blocks of a full device are fewer than the queue's room
+filled_room : (room : Option (ShapeNumbers → ℕ → ℕ)) (k used s c : ℕ) (p q : ShapeNumbers) → q ≡ p
+    → s ≡ c → IfSome room (λ f. used + c < s + f p k) → IfSome room (λ f. used < f q k)
+filled_room None k used s c p q same alone h = tt
+filled_room (Some f) k used s c p q same alone h = rw same (omega (arith, alone, h))
+
+filled_by : {Q : Type 0} (q : QueueGhosts Q) (held : List ℕ) (s t : RigState) (c d : QueueCounts)
+    (used : ℕ) → IsAlone s c → Serves held c d s t → Pays c.unstored s.pool.shape.frames s t
+    → LacksBlocks q.enough q.room c d.k s used → (used ≡ t.blocks) × (t.used ≡ t.blocks)
+    → IsFilledBy q.room d t used
+filled_by q held s t c d used a v p l full = record {
   paid = full_paid (λ shape. shape.frames) held s t c.unstored used v.touches a.paid p full;
   most =
       let m = v.most in let n = v.more in let u = v.sound.numbers.used_most in
       omega (arith, m, n, u, full.0, full.1, a.used, a.most);
+  small = λ told. filled_room q.room d.k used s.used c.blocks s.pool.shape t.pool.shape
+      v.touches.shape a.used (l.small (sym v.touches.told ∙ told));
 }
 
 -- What a full device says.
-pub stops_full : (held : List ℕ) (s t : RigState) (c d : QueueCounts) (faults after : ℕ)
-    (stop : Stop) → IsAlone s c → Serves held c d s t → ServeCause faults after s t stop
+pub stops_full : {Q : Type 0} (q : QueueGhosts Q) (held : List ℕ) (s t : RigState)
+    (c d : QueueCounts) (faults after : ℕ) (stop : Stop) → IsAlone s c → Serves held c d s t
+    → ServeCause faults after s t stop
     → IfStopsFull stop (λ used. Pays c.unstored s.pool.shape.frames s t)
-    → IfStopsFull stop (IsFilledBy d t)
-stops_full held s t c d faults after (Fault kind line) a v cause p = tt
-stops_full held s t c d faults after Read a v cause p = tt
-stops_full held s t c d faults after Write a v cause p = tt
-stops_full held s t c d faults after (Em DeviceFault) a v cause p = tt
-stops_full held s t c d faults after (Em (Full used)) a v cause p =
-    filled_by held s t c d used a v p cause
-stops_full held s t c d faults after (Em (Damaged block)) a v cause p = tt
+    → IfStopsFull stop (LacksBlocks q.enough q.room c d.k s)
+    → IfStopsFull stop (IsFilledBy q.room d t)
+stops_full q held s t c d faults after (Fault kind line) a v cause p l = tt
+stops_full q held s t c d faults after Read a v cause p l = tt
+stops_full q held s t c d faults after Write a v cause p l = tt
+stops_full q held s t c d faults after (Em DeviceFault) a v cause p l = tt
+stops_full q held s t c d faults after (Em (Full used)) a v cause p l =
+    filled_by q held s t c d used a v p l cause
+stops_full q held s t c d faults after (Em (Damaged block)) a v cause p l = tt
+
+-- A stop that is handed on says as much of a full device.
+pub stops_by : {T : Type 0} (P : ℕ → Type 0) (result : Result T Stop) (stop : Stop)
+    → IsErrAnd result (λ e. e ≡ stop) → IfStopsFull stop P → IfErr result (λ e. IfStopsFull e P)
+stops_by P (Ok x) stop is h = tt
+stops_by P (Err e) stop is h = subst (λ (x : Stop). IfStopsFull x P) (sym is) h
 
 -- A call that answers one command stops at no fault of the text.
 

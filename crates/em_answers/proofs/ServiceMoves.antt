@@ -1,6 +1,6 @@
 -- The moves of a run over a service that states an allowance.
-use Rattle.std.proofs.Common.{◌≡◌, ℕ, ◌+◌, ◌*◌, ◌≤◌, List, length, ap, ◌∙◌, arith, Bool, false, IsTrue, Option, Some, None, IfSome}
-use Rattle.em_record.specs.Cost.{cost}
+use Rattle.std.proofs.Common.{◌≡◌, ℕ, ◌+◌, ◌*◌, ◌≤◌, List, length, ap, ◌∙◌, arith, Bool, IsTrue, Option, Some, None, IfSome}
+use Rattle.em_record.specs.Cost.{cost, room}
 use Rattle.em_record.specs.Shape.{IsShape, ShapeNumbers, payload_of}
 use Rattle.em_io.specs.Shelf.{SlotState}
 use Rattle.em_io.specs.declared.shelf.Shelf.{Ghosts as ShelfGhosts}
@@ -35,12 +35,12 @@ use Rattle.em_answers.proofs.Moves.{runs_by_cost}
 
 -- A service that is alone was given commands of a text: all moves up to now,
 pub alone_reads : (allowance room : Option (ShapeNumbers → ℕ → ℕ)) (kind : FileKind)
-    (text left : List ℕ) (c : ServiceCounts) (s t : RigState) → IfSome allowance RisesBySize
+    (text left held : List ℕ) (c : ServiceCounts) (s t : RigState) → IfSome allowance RisesBySize
     → IsShape t.pool.shape → t.device.told ≡ s.device.told → t.pool.shape ≡ s.pool.shape
-    → StandsAlone allowance room c t → c.n ≤ commands_taken kind text left
+    → StandsAlone allowance room held c t → c.n ≤ commands_taken kind text left
     → KeepsAllowance allowance kind text left s t
-alone_reads None room kind text left c s t rises is told shape a taken = tt
-alone_reads (Some f) room kind text left c s t rises is told shape a taken = λ z.
+alone_reads None room kind text left held c s t rises is told shape a taken = tt
+alone_reads (Some f) room kind text left held c s t rises is told shape a taken = λ z.
     let now = a.within (told ∙ z) in
     let most = taken_most kind text left in
     let more = rises t.pool.shape c.n (run_size kind text left) is (omega (arith, taken, most)) in
@@ -48,13 +48,13 @@ alone_reads (Some f) room kind text left c s t rises is told shape a taken = λ 
 
 -- those up to the end of a call on it,
 pub call_reads : (allowance room : Option (ShapeNumbers → ℕ → ℕ)) (kind : FileKind)
-    (text left : List ℕ) (size : ℕ) (c : ServiceCounts) (s t u : RigState)
+    (text left held : List ℕ) (size : ℕ) (c : ServiceCounts) (s t u : RigState)
     → IfSome allowance RisesBySize → IsShape t.pool.shape → t.device.told ≡ s.device.told
-    → t.pool.shape ≡ s.pool.shape → StandsAlone allowance room c t
+    → t.pool.shape ≡ s.pool.shape → StandsAlone allowance room held c t
     → WithinAllowance allowance size c.spent t u → size ≤ run_size kind text left
     → KeepsAllowance allowance kind text left s u
-call_reads None room kind text left size c s t u rises is told shape a w most = tt
-call_reads (Some f) room kind text left size c s t u rises is told shape a w most = λ z.
+call_reads None room kind text left held size c s t u rises is told shape a w most = tt
+call_reads (Some f) room kind text left held size c s t u rises is told shape a w most = λ z.
     let now = w (told ∙ z) in
     let before = a.moved in
     let more = rises t.pool.shape size (run_size kind text left) is most in
@@ -62,14 +62,14 @@ call_reads (Some f) room kind text left size c s t u rises is told shape a w mos
 
 -- and of the call that gives its answers.
 pub answers_reads : (allowance room : Option (ShapeNumbers → ℕ → ℕ)) (kind : FileKind)
-    (text left : List ℕ) (c : ServiceCounts) (s t u : RigState) → IfSome allowance RisesBySize
+    (text left held : List ℕ) (c : ServiceCounts) (s t u : RigState) → IfSome allowance RisesBySize
     → IsShape t.pool.shape → t.device.told ≡ s.device.told → t.pool.shape ≡ s.pool.shape
-    → StandsAlone allowance room c t
+    → StandsAlone allowance room held c t
     → WithinAllowance allowance (size_of kind (good_commands kind text)) c.spent t u
     → c.n ≤ commands_taken kind text left → c.n ≡ length (good_commands kind text)
     → KeepsAllowance allowance kind text left s u
-answers_reads allowance room kind text left c s t u rises is told shape a w taken len =
-    call_reads allowance room kind text left (size_of kind (good_commands kind text)) c s t u rises is told
+answers_reads allowance room kind text left held c s t u rises is told shape a w taken len =
+    call_reads allowance room kind text left held (size_of kind (good_commands kind text)) c s t u rises is told
     shape a w (size_within kind text left (omega (arith, taken, len)))
 
 -- None was made.
@@ -154,15 +154,14 @@ map_few shape is n =
 -- and so is the run.
 pub map_runs : {H W : Type 0} (h : ShelfGhosts H) (w : SinkGhosts W) (s t : RigState) (shelf : H)
     (out : W) (shelf_after : H) (out_after : W) (end : Status) → IsUnused s → s.moves ≡ 0
-    → RunsWithin h w (service_limits (Some map_share) None s.blocks Map) Map s t shelf out shelf_after
-    out_after end
+    → RunsWithin h w (service_limits (Some map_share) (Some room)) Map s t shelf out shelf_after out_after end
     → Runs h w Map s t shelf out shelf_after out_after end
 map_runs h w s t shelf out shelf_after out_after end unused none r =
     let sound = unused.sound in
     runs_by_cost Map (λ shape size. map_share shape size + ceiling size (payload_of shape))
-    (λ shape size. s.blocks) false s t shelf out shelf_after out_after end r
-    (map_few s.pool.shape sound.shape)
-    (let moves = sound.moves_is in omega (arith, moves, none)) sound.numbers.blocks_high
+    room s t shelf out shelf_after out_after end r
+    (map_few s.pool.shape sound.shape) (λ n. omega arith)
+    (let moves = sound.moves_is in omega (arith, moves, none))
 
 -- the moves of a stab file's run are within its transfer cost,
 stab_few : (shape : ShapeNumbers) → IsShape shape → (n : ℕ)
@@ -176,12 +175,11 @@ stab_few shape is n =
 -- and so is the run.
 pub stab_runs : {H W : Type 0} (h : ShelfGhosts H) (w : SinkGhosts W) (s t : RigState) (shelf : H)
     (out : W) (shelf_after : H) (out_after : W) (end : Status) → IsUnused s → s.moves ≡ 0
-    → RunsWithin h w (service_limits (Some stab_share) None s.blocks Stab) Stab s t shelf out
-    shelf_after out_after end
+    → RunsWithin h w (service_limits (Some stab_share) (Some room)) Stab s t shelf out shelf_after out_after end
     → Runs h w Stab s t shelf out shelf_after out_after end
 stab_runs h w s t shelf out shelf_after out_after end unused none r =
     let sound = unused.sound in
     runs_by_cost Stab (λ shape size. stab_share shape size + ceiling size (payload_of shape))
-    (λ shape size. s.blocks) false s t shelf out shelf_after out_after end r
-    (stab_few s.pool.shape sound.shape)
-    (let moves = sound.moves_is in omega (arith, moves, none)) sound.numbers.blocks_high
+    room s t shelf out shelf_after out_after end r
+    (stab_few s.pool.shape sound.shape) (λ n. omega arith)
+    (let moves = sound.moves_is in omega (arith, moves, none))

@@ -26,7 +26,7 @@ pub record RunsWithin {H W : Type 0} (h : ShelfGhosts H) (w : SinkGhosts W) (lim
   pub no_usage : OnUsage status ⊥
   pub no_memory : OnNoMemory status ⊥
 
--- such a run that is held to the transfer cost
+-- such a run that is held to the transfer cost and the room
 abbrev pub Runs : {H W : Type 0} → ShelfGhosts H → SinkGhosts W → FileKind → RigState → RigState → H
     → W → H → W → Status → Type 0
 Runs h w kind s t shelf out shelf_after out_after status =

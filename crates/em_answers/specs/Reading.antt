@@ -1,13 +1,12 @@
 -- A command file that is read into a service, and why the reading of a file stops.
-use Rattle.std.specs.Prelude.{◌≡◌, ℕ, ◌+◌, ◌*◌, ◌-◌, ◌≤◌, ◌^◌, ◌⊎◌, Bool, false, IsTrue, List, [], Option, Some, None, IfSome}
+use Rattle.std.specs.Prelude.{◌≡◌, ℕ, ◌+◌, ◌*◌, ◌-◌, ◌<◌, ◌≤◌, ◌^◌, ◌⊎◌, Bool, IsTrue, List, [], length, Option, Some, None, IfSome}
 use Rattle.em_io.specs.Feed.{Fed, rest}
 use Rattle.em_io.specs.declared.shelf.Shelf.{Ghosts as ShelfGhosts}
 use Rattle.em_record.specs.Shape.{ShapeNumbers, payload_of}
 use Rattle.em_space.specs.Rig.{RigState, Cause}
 use Rattle.em_chain.specs.Counts.{ceiling}
 use Rattle.em_answers.specs.Limits.{Limits}
-use Rattle.em_ends.specs.Asked.{ToldIf}
-use Rattle.em_services.specs.Service.{counts_pairs, ServiceCounts}
+use Rattle.em_services.specs.Service.{ServiceCounts}
 use Rattle.em_lines.specs.RunSize.{run_size}
 use Rattle.em_ends.specs.Stop.{IfStopsFull, reading, Faults}
 use Rattle.em_ends.specs.declared.stop.Stop.{Stop}
@@ -17,26 +16,16 @@ use Rattle.em_lines.specs.CommandLine.{first_fault}
 use Rattle.em_ends.specs.declared.status.Malform.TheVariants.{Text, Aig}
 use Rattle.em_ends.specs.declared.stop.Stop.TheVariants.{Fault, Read, Write, Em}
 
--- The service is alone on the rig: each block in use was moved or isn't stored yet. If it states a
--- room, all blocks in use are its own, and at no moment more than that. If it states an allowance, all
--- moves are its own, and within that, if the device tells.
-pub record StandsAlone (allowance room : Option (ShapeNumbers → ℕ → ℕ)) (c : ServiceCounts)
-    (s : RigState) : Type 0 where
+-- The service, which holds these blocks, is alone on the rig: each block in use was moved or isn't stored
+-- yet. If it states a room and the device tells, all blocks in use are its own, and at no moment more than
+-- that. If it states an allowance, all moves are its own, and within that, if the device tells.
+pub record StandsAlone (allowance room : Option (ShapeNumbers → ℕ → ℕ)) (held : List ℕ)
+    (c : ServiceCounts) (s : RigState) : Type 0 where
   pub paid : (2 ^ 64 - 1 ≤ s.moves) ⊎ (s.used ≤ s.moves + c.unstored)
-  pub used : IfSome room (λ f. s.used ≡ c.blocks)
-  pub most : IfSome room (λ f. s.most ≤ f s.pool.shape c.n)
+  pub used : IsTrue s.device.told → IfSome room (λ f. s.used ≡ length held)
+  pub most : IsTrue s.device.told → IfSome room (λ f. s.most ≤ f s.pool.shape c.n)
   pub moved : IfSome allowance (λ f. s.moves ≤ c.spent)
   pub within : IsTrue s.device.told → IfSome allowance (λ f. s.moves ≤ f s.pool.shape c.n)
-
--- the most blocks that a service may hold: its room, or if it states none, all of the device
-abbrev pub most_within : Option (ShapeNumbers → ℕ → ℕ) → ℕ → (ShapeNumbers → ℕ → ℕ)
-most_within None blocks = λ shape size. blocks
-most_within (Some f) blocks = f
-
--- whether this is said only of a device that tells: a room may count pairs
-abbrev pub told_within : Option (ShapeNumbers → ℕ → ℕ) → FileKind → Bool
-told_within None kind = false
-told_within (Some f) kind = counts_pairs kind
 
 -- the most moves of a run over a service that states an allowance: those of the service, and one for each
 -- block of the answers, which are packed
@@ -44,13 +33,9 @@ abbrev pub moves_within : Option (ShapeNumbers → ℕ → ℕ) → Option (Shap
 moves_within None = None
 moves_within (Some f) = Some (λ shape size. f shape size + ceiling size (payload_of shape))
 
--- What a run over a service is held to, on a device of this many blocks.
-abbrev pub service_limits : (allowance room : Option (ShapeNumbers → ℕ → ℕ)) → ℕ → FileKind → Limits
-service_limits allowance room blocks kind = record {
-  moves = moves_within allowance;
-  most = most_within room blocks;
-  most_told = told_within room kind;
-}
+-- what a run over a service is held to
+abbrev pub service_limits : (allowance room : Option (ShapeNumbers → ℕ → ℕ)) → Limits
+service_limits allowance room = record { moves = moves_within allowance; room = room }
 
 -- All moves on a rig that moved none at first are within the allowance of a service for the size of what
 -- was read of a text, if it states one and the device tells.
@@ -61,12 +46,12 @@ KeepsAllowance (Some f) kind text left old new =
     IsTrue old.device.told → new.moves ≤ f old.pool.shape (run_size kind text left)
 
 -- What a full device says, where this much of the text is left: its blocks are at most the moves and
--- two for each frame, and at most as many as a run of this size with these limits may hold.
+-- two for each frame, and fewer than are enough for a run of this size with these limits.
 pub record IsFilled (limits : Limits) (tells : Bool) (kind : FileKind) (text left : List ℕ)
     (new : RigState) (used : ℕ) : Type 0 where
   pub paid : (2 ^ 64 - 1 ≤ new.moves) ⊎ (used ≤ new.moves + 2 * new.pool.shape.frames)
-  pub size : IsTrue tells → ToldIf limits.most_told new.device.told
-      → used ≤ limits.most new.pool.shape (run_size kind text left)
+  pub room : IsTrue tells → IsTrue new.device.told
+      → IfSome limits.room (λ f. used < f new.pool.shape (run_size kind text left))
 
 -- the text has no fault, and all of it was read
 pub record ReadsAll (kind : FileKind) (text left : List ℕ) : Type 0 where

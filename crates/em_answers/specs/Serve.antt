@@ -1,5 +1,5 @@
 -- A queue file that is answered pop by pop.
-use Rattle.std.specs.Prelude.{◌≡◌, ℕ, ◌≤◌, ◌+◌, Option, IfSome, ◌-◌, ◌^◌, ◌⊎◌, List, map, Result, OnOk, IfErr}
+use Rattle.std.specs.Prelude.{◌≡◌, ℕ, ◌≤◌, ◌+◌, Option, IfSome, ◌-◌, ◌^◌, ◌⊎◌, List, map, Result, OnOk, IfErr, ◌<◌, IsTrue}
 use Rattle.em_record.specs.Shape.{ShapeNumbers}
 use Rattle.em_space.specs.Queue.{Shares, QueueCounts}
 use Rattle.em_space.specs.Rig.{Cause, RigState, Sound, Touches}
@@ -54,10 +54,12 @@ ServeCause faults after old new Read = ⊥
 ServeCause faults after old new Write = Rose faults after
 ServeCause faults after old new (Em fault) = Cause old new fault
 
--- What a full device says of a queue that was alone on it.
-pub record IsFilledBy (c : QueueCounts) (new : RigState) (used : ℕ) : Type 0 where
+-- What a full device says of a queue that was alone on it, and states this room or none.
+pub record IsFilledBy (room : Option (ShapeNumbers → ℕ → ℕ)) (c : QueueCounts) (new : RigState)
+    (used : ℕ) : Type 0 where
   pub paid : (2 ^ 64 - 1 ≤ new.moves) ⊎ (used ≤ new.moves + new.pool.shape.frames)
   pub most : used ≤ c.most
+  pub small : IsTrue new.device.told → IfSome room (λ f. used < f new.pool.shape c.k)
 
 -- All that happened on the rig were calls of a queue, which held these blocks at first.
 pub record CallsOnly (held : List ℕ) (c d : QueueCounts) (s t : RigState) : Type 0 where

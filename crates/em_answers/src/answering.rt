@@ -35,7 +35,7 @@ pub fn run_service<D: Device, H: Shelf, W: Sink, S: Service>(
     requires ready { ((H.stand shelf.old).slot Slot.First).ready ≡ true }
     ensures goes { Goes [] (seen D.state rig.old) (seen D.state rig.new) }
     ensures runs { RunsWithin H.Shelf W.Sink
-        (service_limits S.allowance S.room (seen D.state rig.old).blocks S.KIND)
+        (service_limits S.allowance S.room)
         S.KIND (seen D.state rig.old) (seen D.state rig.new)
         shelf.old out.old shelf.new out.new result }
 {
@@ -64,7 +64,7 @@ pub fn run_queue<D: Device, H: Shelf, W: Sink, Q: Queue>(
     requires alone { IsAlone (seen D.state rig.old) (Q.counts queue) }
     requires ready { ((H.stand shelf.old).slot Slot.First).ready ≡ true }
     ensures gives { GivesUp Q.Queue queue (seen D.state rig.old) (seen D.state rig.new) }
-    ensures runs { RunsWithin H.Shelf W.Sink (queue_limits (seen D.state rig.old).blocks)
+    ensures runs { RunsWithin H.Shelf W.Sink (queue_limits Q.room)
         FileKind.Queue (seen D.state rig.old) (seen D.state rig.new)
         shelf.old out.old shelf.new out.new result }
     ensures moves { IsTrue H.tells → IsTrue (seen D.state rig.old).device.told

@@ -46,7 +46,9 @@ fn read_all<D: Device, H: Shelf, S: Service>(
     requires sound { Sound (seen D.state rig.old) }
     requires is { S.IsService service.old (seen D.state rig.old) }
     requires none { S.Has service.old (seen D.state rig.old) [] }
-    requires alone { StandsAlone S.allowance S.room (S.counts service.old) (seen D.state rig.old) }
+    requires alone { StandsAlone S.allowance S.room
+        (S.blocks service.old (seen D.state rig.old)) (S.counts service.old)
+        (seen D.state rig.old) }
     requires free { CanServe (seen D.state rig.old).pool }
     requires ready { ((H.stand shelf.old).slot feed.old.slot).ready ≡ true }
     requires place { feed.old.place ≡ 0 }
@@ -58,7 +60,8 @@ fn read_all<D: Device, H: Shelf, S: Service>(
         (S.blocks service.old (seen D.state rig.old))
         (S.blocks service.new (seen D.state rig.new))) }
     ensures alone { OnOk result
-        (StandsAlone S.allowance S.room (S.counts service.new) (seen D.state rig.new)) }
+        (StandsAlone S.allowance S.room (S.blocks service.new (seen D.state rig.new))
+        (S.counts service.new) (seen D.state rig.new)) }
     ensures reads { Reads H.tells feed.old (H.stand shelf.old) feed.new (H.stand shelf.new) }
     ensures later { H.faults shelf.old ≤ H.faults shelf.new }
     ensures whole { IsTrue H.tells → OnOk result (ReadsAll S.KIND
@@ -71,7 +74,7 @@ fn read_all<D: Device, H: Shelf, S: Service>(
     ensures stabs { IsTrue H.tells → IfOk result (λ n. n
         ≡ length (stab_answers (good_commands S.KIND (rest feed.old (H.stand shelf.old))))) }
     ensures stop { IfErr result (StopsReading H.Shelf
-        (service_limits S.allowance S.room (seen D.state rig.old).blocks S.KIND)
+        (service_limits S.allowance S.room)
         S.KIND feed.old shelf.old shelf.new (seen D.state rig.old) (seen D.state rig.new)) }
     ensures moves { IsTrue H.tells → KeepsAllowance S.allowance S.KIND
         (rest feed.old (H.stand shelf.old)) ((H.stand shelf.new).slot feed.old.slot).left
@@ -125,7 +128,7 @@ pub fn read_answers<D: Device, H: Shelf, S: Service>(
         (run_size S.KIND (rest feed.old (H.stand shelf.old))
         ((H.stand shelf.new).slot feed.old.slot).left) (payload_in (seen D.state rig.old))) }
     ensures stop { IfErr result (StopsReading H.Shelf
-        (service_limits S.allowance S.room (seen D.state rig.old).blocks S.KIND)
+        (service_limits S.allowance S.room)
         S.KIND feed.old shelf.old shelf.new (seen D.state rig.old) (seen D.state rig.new)) }
     ensures moves { IsTrue H.tells → KeepsAllowance S.allowance S.KIND
         (rest feed.old (H.stand shelf.old)) ((H.stand shelf.new).slot feed.old.slot).left

@@ -4,7 +4,7 @@ ghost use Rattle.em_io.specs.Feed.{rest};
 ghost use Rattle.em_model.specs.Queue.{queue_answer_of, queue_step};
 ghost use Rattle.em_space.specs.Held.{Within};
 ghost use Rattle.em_space.specs.Numbered.{NumberedTo};
-ghost use Rattle.em_space.specs.Queue.{CanServe, IsNew, Pays, Served, Serves};
+ghost use Rattle.em_space.specs.Queue.{CanServe, IsNew, Pays, Served, Serves, LacksBlocks};
 ghost use Rattle.em_space.specs.Rig.{Sound};
 ghost use Rattle.em_space.specs.Seen.{seen};
 ghost use Rattle.em_answers.specs.Answer.{queue_text, text_for};
@@ -66,6 +66,8 @@ fn serve_one<D: Device, W: Sink, Q: Queue>(
     ensures later { W.faults out.old ≤ W.faults out.new }
     ensures owes { IfErr result (λ stop. IfStopsFull stop (λ _. Pays (Q.counts queue.old).unstored
         (seen D.state rig.old).pool.shape.frames (seen D.state rig.old) (seen D.state rig.new))) }
+    ensures full { IfErr result (λ stop. IfStopsFull stop (LacksBlocks Q.enough Q.room
+        (Q.counts queue.old) (Q.counts queue.new).k (seen D.state rig.old))) }
     ensures cause { IfErr result (ServeCause (W.faults out.old) (W.faults out.new)
         (seen D.state rig.old) (seen D.state rig.new)) }
 {
@@ -126,7 +128,7 @@ pub fn serve<D: Device, H: Shelf, W: Sink, Q: Queue>(
         (fault_counts (H.faults shelf.new) (W.faults out.new))
         (seen D.state rig.old) (seen D.state rig.new)) }
     ensures full { IfErr result (λ stop. IfStopsFull stop
-        (IsFilledBy (Q.counts queue.new) (seen D.state rig.new))) }
+        (IsFilledBy Q.room (Q.counts queue.new) (seen D.state rig.new))) }
 {
     let mut number: u64 = 1;
     let mut pushes: u64 = 0;

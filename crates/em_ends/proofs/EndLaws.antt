@@ -15,10 +15,9 @@ use Rattle.em_ends.specs.RunStop.{FillsRun, RunCause}
 use Rattle.em_ends.specs.Status.{IfEndsDamaged, IfEndsFull, OnEnd}
 use Rattle.em_ends.specs.declared.status.Malform.{Malform}
 use Rattle.em_ends.specs.declared.status.Status.{Status}
-use Rattle.em_ends.specs.declared.status.Status.TheVariants.{Done, Malformed, ReadFault, WriteFault, DeviceFault, NoMemory, Full, Damaged}
+use Rattle.em_ends.specs.declared.status.Status.TheVariants.{Done, Malformed, ReadFault, WriteFault, DeviceFault, NoMemory}
 use Rattle.em_ends.specs.declared.stop.Stop.{Stop}
 use Rattle.em_ends.specs.declared.stop.Stop.TheVariants.{Fault, Read, Write, Em}
-use Rattle.em_ends.specs.declared.status.Status.TheVariants as status
 
 -- Of a status that is neither Done, Malformed, Full nor Damaged nothing more is said.
 record Plain (status : Status) : Type 1 where
@@ -67,7 +66,7 @@ ended_plain tells took asked shape blocks old new status plain part moves = reco
   prefix = part;
   full = plain.full _;
   paid = plain.full _;
-  size = λ t c. plain.full _;
+  room = λ t c. plain.full _;
   moves = moves;
   damaged = plain.damaged _;
 }
@@ -97,7 +96,7 @@ ended_due asked {old = old} status whole due all part moves = record {
   prefix = part;
   full = whole.full _;
   paid = whole.full _;
-  size = λ t c. whole.full _;
+  room = λ t c. whole.full _;
   moves = moves;
   damaged = whole.damaged _;
 }
@@ -190,7 +189,7 @@ module _ {took : List ℕ → List ℕ → List ℕ} {held : List ℕ} (tells : 
     prefix = s.part;
     full = tt;
     paid = tt;
-    size = λ t c. tt;
+    room = λ t c. tt;
     moves = kept;
     damaged = untold held old.device a c touches before k cause;
   }
@@ -204,8 +203,7 @@ module _ {took : List ℕ → List ℕ → List ℕ} {held : List ℕ} (tells : 
         prefix = s.part;
         full = cause.0 ∙ touches.blocks;
         paid = rw (moves, ← touches.shape) full.paid;
-        size = λ t d. rw (← touches.shape)
-            (full.size t (subst (λ (b : Bool). ToldIf asked.most_told b) told d));
+        room = λ t d. rw (← touches.shape) (full.room t (sym told ∙ d));
         moves = kept;
         damaged = tt;
       }
@@ -227,9 +225,8 @@ ended_opened {took} tells asked shape first blocks count old mid new status same
       full = subst (λ (n : ℕ). IfEndsFull status (λ used. used ≡ n)) many r.full;
       paid = subst (λ (p : ShapeNumbers). IfEndsFull status (λ used. (2 ^ 64 - 1 ≤ new.device.moves)
           ⊎ (used ≤ new.device.moves + 2 * p.frames))) same r.paid;
-      size = λ t d. subst (λ (p : ShapeNumbers). IfEndsFull status
-          (λ used. used ≤ asked.most p new.stand.slot)) same
-          (r.size t (subst (λ (b : Bool). ToldIf asked.most_told b) (sym told) d));
+      room = λ t d. subst (λ (p : ShapeNumbers). IfEndsFull status (λ used. IfSome asked.room
+          (λ f. used < f p new.stand.slot))) same (r.room t (told ∙ d));
       moves = λ t d. subst (λ (p : ShapeNumbers). IfSome asked.moves
           (λ f. new.device.moves ≤ old.device.moves + f p new.stand.slot)) same
           (subst (λ (n : ℕ). IfSome asked.moves (λ f. new.device.moves ≤ n + f shape new.stand.slot)) still
@@ -247,16 +244,3 @@ full_by_moves blocks used moves most frames high all few paid = ⊎_elim
     (λ (h : 2 ^ 64 - 1 ≤ moves). omega (arith, h, high, all, few))
     (λ (h : used ≤ moves + 2 * frames). omega (arith, h, few))
     paid
-
--- two facts on a full device together
-pub if_full : (s : Status) (P Q R : ℕ → Type 0) → ((used : ℕ) → P used → Q used → R used)
-    → IfEndsFull s P → IfEndsFull s Q → IfEndsFull s R
-if_full (Full used) P Q R f p q = f used p q
-if_full Done P Q R f p q = tt
-if_full (status.Usage kind word) P Q R f p q = tt
-if_full (Malformed kind place) P Q R f p q = tt
-if_full ReadFault P Q R f p q = tt
-if_full WriteFault P Q R f p q = tt
-if_full DeviceFault P Q R f p q = tt
-if_full NoMemory P Q R f p q = tt
-if_full (Damaged block) P Q R f p q = tt

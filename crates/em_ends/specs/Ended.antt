@@ -47,8 +47,8 @@ pub record Ended (tells : Bool) (took : List ℕ → List ℕ → List ℕ) (ask
   pub full : IfEndsFull status (λ used. used ≡ blocks)
   pub paid : IfEndsFull status (λ used. (2 ^ 64 - 1 ≤ new.device.moves)
       ⊎ (used ≤ new.device.moves + 2 * shape.frames))
-  pub size : IsTrue tells → ToldIf asked.most_told old.device.told
-      → IfEndsFull status (λ used. used ≤ asked.most shape new.stand.slot)
+  pub room : IsTrue tells → IsTrue old.device.told
+      → IfEndsFull status (λ used. IfSome asked.room (λ f. used < f shape new.stand.slot))
   pub moves : IsTrue tells → IsTrue old.device.told → IfSome asked.moves
       (λ f. new.device.moves ≤ old.device.moves + f shape new.stand.slot)
   pub damaged : IfEndsDamaged status (λ at. IsFalse old.device.told × (at < blocks))

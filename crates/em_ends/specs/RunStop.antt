@@ -1,5 +1,5 @@
 -- Why a run stopped, by what was asked of it, and what a full device says then.
-use Rattle.std.specs.Prelude.{◌≡◌, ℕ, ◌+◌, ◌-◌, ◌*◌, ◌≤◌, ◌^◌, ◌⊎◌, Bool, IsTrue}
+use Rattle.std.specs.Prelude.{◌≡◌, ℕ, ◌+◌, ◌-◌, ◌*◌, ◌≤◌, ◌^◌, ◌⊎◌, Bool, IsTrue, ◌<◌, IfSome}
 use Rattle.em_record.specs.Count.{Rose}
 use Rattle.em_io.specs.Shelf.{SlotState}
 use Rattle.em_io.specs.declared.shelf.Slot.{Slot}
@@ -20,9 +20,9 @@ RunCause tells asked faults after old new Write = Rose faults.write after.write
 RunCause tells asked faults after old new (Em fault) = Cause old new fault
 
 -- What a full device says of a run, by how far each slot was read: its blocks are at most the moves
--- and two for each frame, and at most as many as the run may hold.
+-- and two for each frame, and fewer than those that are enough for the run.
 pub record FillsRun (tells : Bool) (asked : Asked) (slots : Slot → SlotState) (new : RigState)
     (used : ℕ) : Type 0 where
   pub paid : (2 ^ 64 - 1 ≤ new.moves) ⊎ (used ≤ new.moves + 2 * new.pool.shape.frames)
-  pub size : IsTrue tells → ToldIf asked.most_told new.device.told
-      → used ≤ asked.most new.pool.shape slots
+  pub room : IsTrue tells → IsTrue new.device.told
+      → IfSome asked.room (λ f. used < f new.pool.shape slots)

@@ -1,10 +1,12 @@
 -- How the reading of a circuit ends: with edges between ranks, or a stop.
-use Rattle.std.proofs.Common.{◌≡◌, ℕ, ◌+◌, ◌-◌, ◌≤◌, ◌^◌, ◌⊎◌, inl, inr, ⊎_elim, Bool, List, [], ◌++◌, ap, sym, ◌∙◌, arith, IsTrue, Result, Ok, Err, IsErrAnd, Option}
+use Rattle.std.proofs.Common.{◌≡◌, ℕ, ◌+◌, ◌-◌, ◌<◌, ◌≤◌, ◌^◌, ◌⊎◌, inl, inr, ⊎_elim, Bool, List, [], ◌++◌, ap, sym, ◌∙◌, arith, IsTrue, Result, Ok, Err, IsErrAnd, Option}
 use Rattle.em_record.specs.Shape.{ShapeNumbers, payload_of}
 use Rattle.em_io.specs.Feed.{Fed}
 use Rattle.em_io.specs.declared.shelf.Shelf.{Ghosts as ShelfGhosts}
 use Rattle.em_space.specs.Queue.{Pays, QueueCounts}
-use Rattle.em_space.specs.Rig.{Cause, RigState}
+use Rattle.em_space.specs.Rig.{Cause, IfFull, RigState}
+use Rattle.em_space.specs.declared.fault.EmFault.{EmFault}
+use Rattle.em_space.specs.declared.queue.Queue.{Ghosts as QueueGhosts}
 use Rattle.em_space.proofs.Paying.{pays_then}
 use Rattle.em_space.proofs.Sessions.{session_trans}
 use Rattle.em_chain.specs.Chain.{payload_in}
@@ -19,16 +21,21 @@ use Rattle.aig_text.specs.Source.{Source, left, source}
 use Rattle.aig_text.proofs.Lines.{of_error}
 use Rattle.aig_edges.specs.Build.{UsesUp}
 use Rattle.aig_edges.specs.Graph.{edge_count, graph_blocks}
+use Rattle.aig_edges.specs.Room.{FullInRoom, IsTreeRoom}
 use Rattle.aig_edges.specs.declared.graph.Graph.{Graph}
 use Rattle.aig_edges.specs.declared.graph.Ordered.{Ordered}
+use Rattle.aig_edges.proofs.Room.{em_by}
 use Rattle.aig_order.specs.OrderGraph.{OrdersGraph, StopsOrdering, StoresOrdered}
+use Rattle.aig_order.specs.Room.{OrdersBlocks}
+use Rattle.em_eval.specs.EvalSize.{eval_room}
 use Rattle.em_eval.specs.Evaluation.{ReadsCircuit, SpellsEdges}
 use Rattle.em_ready.specs.Ready.{IsUnused}
 use Rattle.em_ends.specs.Stop.{circuit_stop}
 use Rattle.em_ends.specs.declared.stop.Stop.{Stop}
-use Rattle.em_eval.proofs.Circuit.{ReadsFrom, reads_all, reads_first, text_of}
+use Rattle.em_eval.proofs.Circuit.{ReadsFrom, read_of, reads_all, reads_first, text_of}
 use Rattle.em_eval.proofs.CircuitMade.{HasGraph, StopsAt, used_up_stops}
 use Rattle.em_eval.proofs.CircuitMoves.{KeepsCircuit}
+use Rattle.em_eval.proofs.EvalRoom.{packed_short, room_as}
 use Rattle.em_chain.specs.declared.chain.Chain.{Chain}
 
 -- A stop is handed on.
@@ -40,7 +47,7 @@ pub stopped_by : {start : Option ℕ} {H : Type 0} (h : ShelfGhosts H) (feed las
     → ReadsCircuit start h s t shelf after result
 stopped_by {start} h feed last shelf after s t stop result is r stops moves =
     of_error (λ (k : Result Ordered Stop). ReadsCircuit start h s t shelf after k) result stop is (record {
-      answers = record { cause = stops.cause; full = stops.full };
+      answers = record { cause = stops.cause; full = stops.full; room = stops.room };
       moves = moves;
       reads = reads_first r;
       later = r.advances.later;
@@ -51,17 +58,43 @@ pub order_stops : {start : Option ℕ} {tells : Bool} {a d : Source} {s w x : Ri
     {ks : List ℕ} (c : QueueCounts) (e : AigStop) → IsUnused s → HasGraph start tells a d s w g c ks
     → UsesUp held c w x → StopsOrdering w g (Err e)
     → IfEm {A = Ordered} (Err e) (Cause w x) → Pays c.unstored (w.pool.shape.frames + 2) w x
+    → (IsTrue tells → IsTrue s.device.told → IfEm {A = Ordered} (Err e)
+    (λ fault. IfFull fault (λ used. used < eval_room s.pool.shape (read_of start a d))))
     → StopsAt start tells a d s x (circuit_stop e)
-order_stops {start = start} {a = a} c (stop.Fault kind place) unused h up stops cause pays = record {
+order_stops {start = start} {a = a} c (stop.Fault kind place) unused h up stops cause pays room = record {
   cause = λ z told.
       let sp = h.spells z in
       text_faulty start (text_of a) sp.circuit sp.place [] kind place sp.reads
       (stops.found (h.session.touches.told ∙ told) sp.circuit (sp.is told) (sp.defined told));
   full = tt;
+  room = λ z told. tt;
 }
-order_stops c stop.Read unused h up stops cause pays = absurd stops
-order_stops c (stop.Em fault) unused h up stops cause pays =
-    used_up_stops c fault unused h.session.touches h.pays up cause pays
+order_stops c stop.Read unused h up stops cause pays room = absurd stops
+order_stops c (stop.Em fault) unused h up stops cause pays room =
+    used_up_stops c fault unused h.session.touches h.pays up cause pays room
+
+-- The graph and a queue that was never called stand alone, and the graph's lists are short: so ordering it is full
+-- only over the circuit's room.
+pub order_room : {Q : Type 0} {q : QueueGhosts Q} {start : Option ℕ} {tells : Bool} {a d : Source}
+    {s w x : RigState} {g : Graph} {c : QueueCounts} {ks : List ℕ} (result : Result Ordered AigStop)
+    → HasGraph start tells a d s w g c ks → IsTreeRoom q.room w.pool.shape → c.k ≡ 0
+    → OrdersBlocks q c w x g result → IsTrue tells → IsTrue s.device.told
+    → IfEm result (λ fault. IfFull fault (λ used. used < eval_room s.pool.shape (read_of start a d)))
+order_room {start = start} {a = a} {d = d} {s = s} {w = w} {g = g} result h tree none b z told =
+    let alone = b.alone (record {
+      told = h.session.touches.told ∙ told;
+      room_is = tree;
+      few = omega (arith, none);
+      used = omega (arith, h.used);
+    })
+    (record {
+      gates = packed_short w g.gates _ h.is.gates.count_is (omega (arith, h.fill.gates));
+      edges = packed_short w g.edges _ h.is.edges.count_is (omega (arith, h.fill.edges));
+      sources = packed_short w g.sources _ h.is.sources.count_is (omega (arith, h.fill.sources));
+    }) in
+    em_by result {P = FullInRoom g.header w}
+    {Q = λ (fault : EmFault). IfFull fault (λ used. used < eval_room s.pool.shape (read_of start a d))}
+    (λ fault full. room_as fault h.session.touches.shape (sym (h.size z)) full.is) alone.1
 
 -- the blocks in use are at most the moves, if none was in use at first and all were stored
 edges_paid : {s w : RigState} → IsUnused s → Pays 0 0 s w

@@ -1,10 +1,10 @@
 -- From a circuit's text to its graph: what is made, and a queue beside it, is all that is on the rig.
-use Rattle.std.proofs.Common.{◌≡◌, ℕ, ◌+◌, ◌-◌, ◌*◌, ◌≤◌, ◌^◌, ◌⊎◌, inl, inr, ⊎_elim, Bool, List, [], ◌++◌, ap, sym, subst, ◌∙◌, arith, IsTrue, Ok, Err, Option}
+use Rattle.std.proofs.Common.{◌≡◌, ℕ, ◌+◌, ◌-◌, ◌*◌, ◌≤◌, ◌^◌, ◌⊎◌, inl, inr, ⊎_elim, Bool, List, [], ◌++◌, ap, sym, subst, ◌∙◌, arith, IsTrue, Result, Ok, Err, Option, ◌<◌}
 use Rattle.em_record.specs.Shape.{ShapeNumbers, payload_of}
 use Rattle.em_io.specs.declared.shelf.Slot.TheVariants.{First}
 use Rattle.em_space.specs.Ledger.{Session}
 use Rattle.em_space.specs.Queue.{Pays, QueueCounts, Shares}
-use Rattle.em_space.specs.Rig.{Cause, Goes, Owes, RigState, Sound, Touches}
+use Rattle.em_space.specs.Rig.{Cause, Goes, IfFull, Owes, RigState, Sound, Touches}
 use Rattle.em_space.specs.declared.fault.EmFault.{EmFault}
 use Rattle.em_space.specs.declared.fault.EmFault.TheVariants as em
 use Rattle.em_space.specs.declared.queue.Queue.{Ghosts as QueueGhosts}
@@ -32,12 +32,14 @@ use Rattle.aig_text.proofs.PartsLaws.{parts_of, parts_stay}
 use Rattle.aig_edges.specs.Build.{UsesUp, parts_size}
 use Rattle.aig_edges.specs.BuildGraph.{BuildsGraph, StopsBuilding, StoresSorted}
 use Rattle.aig_edges.specs.Graph.{IsGraph, IsGraphOf, edge_count, graph_blocks, graph_size}
+use Rattle.aig_edges.specs.Room.{BuildsInRoom, FullInRoom, IsTreeRoom}
 use Rattle.aig_edges.specs.declared.graph.Graph.{Graph}
 use Rattle.aig_edges.proofs.GraphLaws.{GraphStays, graph_stays}
+use Rattle.aig_edges.proofs.Room.{em_by}
 use Rattle.aig_sweep.specs.Sweeper.{without_frames}
 use Rattle.aig_order.specs.OrderGraph.{OfDefinedCircuit}
 use Rattle.aig_bin.specs.EitherForm.{ReadsEither, SpellsEither}
-use Rattle.em_eval.specs.EvalSize.{given_of}
+use Rattle.em_eval.specs.EvalSize.{eval_room, given_of}
 use Rattle.em_eval.specs.Evaluation.{CircuitCause, FillsEval}
 use Rattle.em_ready.specs.Queues.{FailsToMake, MakesQueue}
 use Rattle.em_ready.specs.Ready.{IsUnused}
@@ -46,14 +48,21 @@ use Rattle.em_ends.specs.declared.stop.Stop.{Stop}
 use Rattle.em_ends.specs.declared.stop.Stop.TheVariants.{Em}
 use Rattle.em_eval.proofs.Circuit.{ReadsFrom, given_least, left_first, read_of, text_of}
 use Rattle.em_eval.proofs.CircuitCosts.{GraphFills, PartsFill}
+use Rattle.em_eval.proofs.EvalRoom.{full_less, graph_small, packed_short, room_as, text_small}
 use Rattle.em_ready.proofs.Queues.{frames_back, frames_lent, session_made}
 use Rattle.em_chain.specs.declared.chain.Chain.{Chain}
+
+-- If shelf and device tell, the device is full only if it has fewer blocks than the room of what was read.
+abbrev pub RoomAt : Option ℕ → Bool → Source → Source → RigState → Stop → Type 0
+RoomAt start tells a d s stop = IsTrue tells → IsTrue s.device.told
+    → IfStopsFull stop (λ used. used < eval_room s.pool.shape (read_of start a d))
 
 -- No edges were made, by the text at first and at the end.
 pub record StopsAt (start : Option ℕ) (tells : Bool) (a d : Source) (s t : RigState) (stop : Stop) : Type 0 where
   pub cause : CircuitCause start tells (text_of a) (fault_counts a.faults 0) (fault_counts d.faults 0) s t
       stop
   pub full : IfStopsFull stop (FillsEval t)
+  pub room : RoomAt start tells a d s stop
 
 -- a full rig on which few blocks weren't stored
 fills_paid : {s t : RigState} (n used : ℕ) → IsUnused s → Owes n s t → used ≡ t.used
@@ -67,10 +76,12 @@ fills_paid {s} {t} n used unused owes same few =
 -- a call on the rig gave up, on a rig of which no block was in use at first
 pub stops_em : {start : Option ℕ} {tells : Bool} {a d : Source} {s t : RigState} (n : ℕ) (fault : EmFault)
     → IsUnused s → Sound t → Cause s t fault → Owes n s t → n ≤ t.pool.shape.frames + 2
-    → StopsAt start tells a d s t (Em fault)
-stops_em n em.DeviceFault unused sound cause owes few = record { cause = cause; full = tt }
-stops_em {t = t} n (em.Full used) unused sound cause owes few = record {
+    → RoomAt start tells a d s (Em fault) → StopsAt start tells a d s t (Em fault)
+stops_em n em.DeviceFault unused sound cause owes few room =
+    record { cause = cause; full = tt; room = room }
+stops_em {t = t} n (em.Full used) unused sound cause owes few room = record {
   cause = cause;
+  room = room;
   full =
       let all = cause.0 in
       let full = cause.1 in
@@ -79,17 +90,22 @@ stops_em {t = t} n (em.Full used) unused sound cause owes few = record {
         paid = fills_paid n used unused owes (omega (arith, all, full)) (omega (arith, few, low));
       };
 }
-stops_em n (em.Damaged block) unused sound cause owes few = record { cause = cause; full = tt }
+stops_em n (em.Damaged block) unused sound cause owes few room =
+    record { cause = cause; full = tt; room = room }
 
--- no queue was made beside what was made so far
+-- no queue was made beside what was made so far, and two blocks more are within the room
 pub unmade_stops : {start : Option ℕ} {tells : Bool} {a d : Source} {s t u : RigState} (fault : EmFault) → IsUnused s
-    → Goes [] s t → Pays 0 0 s t → FailsToMake t u fault → StopsAt start tells a d s u (Em fault)
-unmade_stops {s = s} {t = t} {u = u} fault unused goes pays stops =
+    → Goes [] s t → Pays 0 0 s t → FailsToMake t u fault
+    → (IsTrue tells → t.used + 2 < eval_room s.pool.shape (read_of start a d))
+    → StopsAt start tells a d s u (Em fault)
+unmade_stops {start = start} {a = a} {d = d} {s = s} {t = t} {u = u} fault unused goes pays stops small =
     let all = pays_then pays stops.pays stops.goes.touches.moves in
     let low = stops.goes.sound.shape.frames_low in
     stops_em 1 fault unused stops.goes.sound
     (cause_after [] s t u fault goes.touches stops.cause) (owes_of_pays 0 1 1 all (omega arith))
     (omega (arith, low))
+    (λ z told. full_less t u fault (eval_room s.pool.shape (read_of start a d)) stops.cause
+    (let used = stops.used in let room = small z in omega (arith, used, room)))
 
 -- what was taken, by the size of what was read of the first slot
 pub takes_first : (start : Option ℕ) {tells : Bool} {a d : Source} {s t : RigState} → ReadsFrom tells a d
@@ -101,6 +117,16 @@ takes_first start {a = a} {d = d} {s = s} {t = t} r takes z =
     subst (λ (x : List ℕ). TakesAtMost (text_size start given x) s t) (left_first r)
     (takes z given (given_least r z))
 
+-- What was read takes fewer blocks than its room, and two.
+pub text_few : (start : Option ℕ) {tells : Bool} {a d : Source} {s t : RigState} → IsUnused s → ReadsFrom tells a d
+    → (IsTrue tells → (given : ℕ) → d.feed.place ≤ given
+    → TakesAtMost (text_size start given (left a)) s t)
+    → IsTrue tells → t.used + 2 < eval_room s.pool.shape (read_of start a d)
+text_few start {a = a} {d = d} {s = s} unused r takes z =
+    let few = (takes_first start r takes z).used in
+    let small = text_small s.pool.shape (read_of start a d) unused.sound.shape in
+    omega (arith, few, small, unused.used)
+
 -- the parts weren't read
 pub text_stops : {start : Option ℕ} {tells : Bool} {a d : Source} {s t : RigState} (e : AigStop) → IsUnused s
     → ReadsFrom tells a d → ReadsEither tells start a d s t (Err e) → StopsAt start tells a d s t (circuit_stop e)
@@ -108,11 +134,14 @@ text_stops {start} {tells} {a} {d} (stop.Fault kind place) unused r h = record {
   cause = λ z told. text_breaks start (text_of a) kind place
       (subst (λ (x : List ℕ). either_text start 0 x ≡ Fails kind place) (left_first r) (h.gives z));
   full = tt;
+  room = λ z told. tt;
 }
-text_stops stop.Read unused r h = record { cause = h.read; full = tt }
+text_stops stop.Read unused r h = record { cause = h.read; full = tt; room = λ z told. tt }
 text_stops {start} {tells} {a} {d} {s} {t} (stop.Em fault) unused r h =
     let low = h.goes.sound.shape.frames_low in
     stops_em 4 fault unused h.goes.sound h.cause h.owes (omega (arith, low))
+    (λ z told. full_less s t fault (eval_room s.pool.shape (read_of start a d)) h.cause
+    (let few = text_few start {t = t} unused r h.takes z in omega (arith, few)))
 
 -- The text spells a circuit, which has the parts' header. If the device tells, they are its parts.
 pub record SpellsParts (start : Option ℕ) (told : Bool) (text : List ℕ) (u : RigState) (p : Parts) : Type 0 where
@@ -208,32 +237,58 @@ ends_goes {s} {u} {v} c held session lent up = record {
 pub used_up_stops : {start : Option ℕ} {tells : Bool} {a d : Source} {s u v : RigState} {held : List ℕ} (c : QueueCounts)
     (fault : EmFault) → IsUnused s → Touches [] s u → Pays 0 c.unstored s u
     → UsesUp held c u v → Cause u v fault → Pays c.unstored (u.pool.shape.frames + 2) u v
-    → StopsAt start tells a d s v (Em fault)
-used_up_stops {s = s} {u = u} {v = v} c fault unused touches first up cause pays =
+    → RoomAt start tells a d s (Em fault) → StopsAt start tells a d s v (Em fault)
+used_up_stops {s = s} {u = u} {v = v} c fault unused touches first up cause pays room =
     let all = pays_then first pays up.touches.moves in
     let frames : v.pool.shape.frames ≡ u.pool.shape.frames =
     ap (λ (x : ShapeNumbers). x.frames) up.touches.shape in
     stops_em (u.pool.shape.frames + 2) fault unused up.sound (cause_after [] s u v fault touches cause)
     (owes_of_pays 0 (u.pool.shape.frames + 2) (u.pool.shape.frames + 2) all (omega arith))
-    (omega (arith, frames))
+    (omega (arith, frames)) room
+
+-- The parts and a queue that was never called stand alone, and the parts' lists are short: so making the graph is
+-- full only over the circuit's room.
+pub build_room : {Q : Type 0} {q : QueueGhosts Q} {start : Option ℕ} {tells : Bool} {a d : Source}
+    {s u v : RigState} {p : Parts} {c : QueueCounts} {ks : List ℕ} (result : Result Graph AigStop)
+    → HasParts start tells a d s u p c ks → IsTreeRoom q.room u.pool.shape → c.k ≡ 0
+    → BuildsInRoom q c u v p result → IsTrue tells → IsTrue s.device.told
+    → IfEm result (λ fault. IfFull fault (λ used. used < eval_room s.pool.shape (read_of start a d)))
+build_room {start = start} {a = a} {d = d} {s = s} {u = u} {p = p} result h tree none b z told =
+    let alone = b.alone (record {
+      told = h.session.touches.told ∙ told;
+      room_is = tree;
+      few = omega (arith, none);
+      used = omega (arith, h.used);
+    })
+    (record {
+      defs = packed_short u p.defs _ h.is.defs.count_is (omega (arith, h.fill.defs));
+      gates = packed_short u p.gates _ h.is.gates.count_is (omega (arith, h.fill.gates));
+      uses = packed_short u p.uses _ h.is.uses.count_is (omega (arith, h.fill.uses));
+    }) in
+    em_by result {P = FullInRoom p.header u}
+    {Q = λ (fault : EmFault). IfFull fault (λ used. used < eval_room s.pool.shape (read_of start a d))}
+    (λ fault full. room_as fault h.session.touches.shape (sym (h.size z)) full.is) alone.1
 
 -- no graph was made
 pub build_stops : {start : Option ℕ} {tells : Bool} {a d : Source} {s u v : RigState} {p : Parts} {held : List ℕ}
     {ks : List ℕ} (c : QueueCounts) (e : AigStop) → IsUnused s → HasParts start tells a d s u p c ks
     → UsesUp held c u v → StopsBuilding u p (Err e)
     → IfEm {A = Graph} (Err e) (Cause u v) → Pays c.unstored (u.pool.shape.frames + 2) u v
+    → (IsTrue tells → IsTrue s.device.told → IfEm {A = Graph} (Err e)
+    (λ fault. IfFull fault (λ used. used < eval_room s.pool.shape (read_of start a d))))
     → StopsAt start tells a d s v (circuit_stop e)
-build_stops {start = start} {a = a} {u = u} {p = p} c (stop.Fault kind place) unused h up stops cause pays =
+build_stops {start = start} {a = a} {u = u} {p = p} c (stop.Fault kind place) unused h up stops cause pays room =
     record {
       cause = λ z told.
           let sp = h.spells z in
           text_faulty start (text_of a) sp.circuit sp.place [] kind place sp.reads
           (stops.found (h.session.touches.told ∙ told) sp.circuit (sp.are told));
       full = tt;
+      room = λ z told. tt;
     }
-build_stops c stop.Read unused h up stops cause pays = absurd stops
-build_stops c (stop.Em fault) unused h up stops cause pays =
-    used_up_stops c fault unused h.session.touches h.pays up cause pays
+build_stops c stop.Read unused h up stops cause pays room = absurd stops
+build_stops c (stop.Em fault) unused h up stops cause pays room =
+    used_up_stops c fault unused h.session.touches h.pays up cause pays room
 
 -- The text spells a circuit, which has the graph's header. If the device tells, nothing in it is defined
 -- twice or used undefined, and the graph is its own.
@@ -258,6 +313,29 @@ pub record HasGraph (start : Option ℕ) (tells : Bool) (a d : Source) (s w : Ri
   pub spells : IsTrue tells → SpellsGraph start s.device.told (text_of a) w g
   pub defined : IsTrue w.device.told → OfDefinedCircuit w g
   pub size : IsTrue tells → read_of start a d ≡ circuit_size g.header
+
+-- The graph's blocks are fewer than its circuit's room, and two.
+pub graph_few : {start : Option ℕ} {tells : Bool} {a d : Source} {s u v : RigState} {p : Parts} {ks : List ℕ}
+    (c : QueueCounts) (g : Graph) → HasParts start tells a d s u p c ks
+    → BuildsGraph (ks ++ parts_blocks u p) u v p g → StoresSorted c u v p (Ok g) → IsTrue tells
+    → v.used + 2 < eval_room s.pool.shape (read_of start a d)
+graph_few {start = start} {a = a} {d = d} {s = s} {u = u} {v = v} {p = p} c g h builds stores z =
+    let used = stores.0 in
+    let small = graph_small u.pool.shape p.header h.sound.shape in
+    let here : v.used + 2 < eval_room u.pool.shape (circuit_size p.header) =
+    omega (
+      arith,
+      used,
+      h.used,
+      builds.gates,
+      builds.edges,
+      builds.sources,
+      h.is.resets.blocks_is,
+      small,
+    ) in
+    subst (λ (n : ℕ). v.used + 2 < eval_room s.pool.shape n) (sym (h.size z))
+    (subst (λ (x : ShapeNumbers). v.used + 2 < eval_room x (circuit_size p.header))
+    h.session.touches.shape here)
 
 -- The queue was used up: all frames are back, and no block that was in use at first was changed.
 pub graph_goes : {start : Option ℕ} {tells : Bool} {a d : Source} {s u v : RigState} {p : Parts} (c : QueueCounts)

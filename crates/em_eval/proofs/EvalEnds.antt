@@ -1,6 +1,6 @@
 -- How the steps of an evaluation end: its rig, what went out, and why it stopped.
-use Rattle.std.proofs.Common.{◌≡◌, Bool, ℕ, ◌+◌, ◌-◌, ◌*◌, ◌≤◌, ◌^◌, ◌⊎◌, List, [], ◌++◌, ap, sym, subst, ◌∙◌, refl, arith, IsTrue, inl, inr, ⊎_elim, Result, Ok, Err, IfErr, OnOk}
-use Rattle.em_record.specs.Shape.{ShapeNumbers, fan_of}
+use Rattle.std.proofs.Common.{◌≡◌, Bool, ℕ, ◌+◌, ◌-◌, ◌*◌, ◌<◌, ◌≤◌, ◌^◌, ◌⊎◌, List, [], ◌++◌, ap, sym, subst, ◌∙◌, refl, arith, IsTrue, inl, inr, ⊎_elim, Result, Ok, Err, IfErr, OnOk}
+use Rattle.em_record.specs.Shape.{ShapeNumbers, fan_of, payload_of}
 use Rattle.em_io.specs.Sink.{IsRule, Sent, SentPart}
 use Rattle.em_io.specs.declared.shelf.Shelf.{Ghosts as ShelfGhosts}
 use Rattle.em_io.specs.declared.shelf.Slot.TheVariants.{Second}
@@ -9,10 +9,11 @@ use Rattle.em_io.proofs.Sent.{all-sent, part-more, part-of, part-rest, sent-all,
 use Rattle.em_space.specs.Held.{Holds}
 use Rattle.em_space.specs.Ledger.{Session}
 use Rattle.em_space.specs.Queue.{Leaves, Pays, QueueCounts, Shares}
-use Rattle.em_space.specs.Rig.{RigState, Cause, Goes, Sound, Touches}
+use Rattle.em_space.specs.Rig.{RigState, Cause, Goes, IfFull, Sound, Touches}
 use Rattle.em_space.specs.declared.fault.EmFault.{EmFault}
 use Rattle.em_space.specs.declared.fault.EmFault.TheVariants as em
 use Rattle.em_space.specs.declared.queue.Queue.{Ghosts as QueueGhosts}
+use Rattle.em_chain.specs.Counts.{ceiling}
 use Rattle.em_space.proofs.Paying.{pays_more, pays_then}
 use Rattle.em_space.proofs.Sessions.{session_none, session_trans}
 use Rattle.em_space.proofs.Steps.{cause_after, touches_then}
@@ -23,13 +24,17 @@ use Rattle.aig_defs.specs.Begun.{circuit_size}
 use Rattle.aig_defs.specs.Circuit.{Circuit, resets}
 use Rattle.aig_defs.specs.Stimulus.{output_lines, stimulus_of}
 use Rattle.aig_defs.specs.Value.{run_of}
-use Rattle.aig_edges.specs.Graph.{IsOrdered, IsOrderedOf, ordered_blocks}
+use Rattle.aig_edges.specs.Graph.{IsOrdered, IsOrderedOf, edge_count, ordered_blocks, ordered_size}
+use Rattle.aig_edges.specs.Room.{HoldsAllBlocks, IsShort, IsTreeRoom}
 use Rattle.aig_edges.specs.declared.graph.Ordered.{Ordered}
 use Rattle.aig_edges.proofs.OrderedLaws.{OrderedStays, ordered_stays}
+use Rattle.aig_sweep.specs.Room.{BeginsInRoom, IsShortSweeper, SweepsAlone}
 use Rattle.aig_sweep.specs.Scene.{KeepsFront}
 use Rattle.aig_sweep.specs.Sweeper.{BeginsFor, BeginsSweeper, Evaluates, FailsToBegin, sweeper_blocks}
 use Rattle.aig_sweep.specs.declared.sweeper.Sweeper.{Sweeper}
+use Rattle.aig_sweep.proofs.SweepRoom.{begun_alone, begun_short}
 use Rattle.em_eval.specs.EvalMoves.{making_moves, rounds_moves}
+use Rattle.em_eval.specs.EvalSize.{eval_room}
 use Rattle.em_eval.specs.Evaluation.{CanBegin, CanRunSteps, EndsSteps, FillsEval, PrintsAll, PrintsLines, PrintsSteps, Round, RunsSteps, StepsCause, steps_of}
 use Rattle.em_ends.specs.Opens.{IsAllRead}
 use Rattle.em_ready.specs.Queues.{FailsToMake, MakesQueue}
@@ -38,6 +43,7 @@ use Rattle.em_ends.specs.declared.stop.Stop.{Stop}
 use Rattle.em_ends.specs.declared.stop.Stop.TheVariants.{Fault, Read, Write, Em}
 use Rattle.em_ready.proofs.Queues.{frames_back, session_made}
 use Rattle.em_ends.proofs.Printing.{ends_by}
+use Rattle.em_eval.proofs.EvalRoom.{alone_more, edges_small, full_less, packed_short, room_as}
 
 -- What went out of the lines of the steps, after what was pending was sent.
 module _ {IsState : List ℕ → Type 0} {took : List ℕ → List ℕ → List ℕ} (rule : IsRule IsState took)
@@ -130,6 +136,26 @@ pub can_make : {Q : Type 0} {queue : QueueGhosts Q} {s m : RigState} {o : Ordere
 can_make can makes z =
     (session_beside_edges can makes).holds (sym makes.session.touches.told ∙ z)
 
+-- Edges and a queue that was never called stand alone, if the device tells and the queue's room is at most a
+-- tree's,
+stands_alone : {Q : Type 0} {queue : QueueGhosts Q} {s m : RigState} {o : Ordered} {q : Q} → CanBegin s o
+    → MakesQueue queue s m q → IsTreeRoom queue.room m.pool.shape → IsTrue s.device.told
+    → HoldsAllBlocks queue.room 0 (ordered_size o) (queue.counts q) m
+stands_alone can makes tree z = record {
+  told = makes.session.touches.told ∙ z;
+  room_is = tree;
+  few = omega (arith, makes.new.k);
+  used = omega (arith, makes.used, can.alone);
+}
+
+-- and the edges are short.
+edges_short : {Q : Type 0} {queue : QueueGhosts Q} {s m : RigState} {o : Ordered} {q : Q} → CanBegin s o
+    → MakesQueue queue s m q → IsShort m o.edges
+edges_short {s = s} {m = m} {o = o} can makes =
+    let same = ap (λ (v : ShapeNumbers). ceiling (edge_count o.header) (payload_of v))
+    makes.session.touches.shape in
+    packed_short m o.edges (edge_count o.header) can.is.edges.count_is (omega (arith, can.packed, same))
+
 -- It wasn't made.
 pub record Unmade {Q : Type 0} (queue : QueueGhosts Q) (s m t : RigState) (o : Ordered) (q : Q)
     (fault : EmFault) : Type 0 where
@@ -161,6 +187,15 @@ module _ {Q : Type 0} {queue : QueueGhosts Q} {s m t : RigState} {o : Ordered} {
   -- why it wasn't made
   pub unmade_cause : Cause s t fault
   unmade_cause = cause_after [] s m t fault u.makes.session.touches u.fails.cause
+
+  -- It was full only over the circuit's room.
+  pub unmade_room : IsTreeRoom queue.room m.pool.shape
+      → BeginsInRoom {T = Sweeper Q} queue m t o q (Err fault) → IsTrue s.device.told
+      → IfFull fault (λ used. used < eval_room s.pool.shape (circuit_size o.header))
+  unmade_room tree begins z =
+      let both = begins (alone_more (omega arith) (stands_alone u.can u.makes tree z))
+      (edges_short u.can u.makes) in
+      room_as fault u.makes.session.touches.shape refl both.1.is
 
   -- all blocks but a few were moved
   pub unmade_paid : (2 ^ 64 - 1 ≤ t.moves) ⊎ (t.used ≤ t.moves + 2 * t.pool.shape.frames)
@@ -206,6 +241,14 @@ module _ {Q : Type 0} {queue : QueueGhosts Q} {s m a : RigState} {o : Ordered} {
   -- only the edges' blocks may have changed
   pub made_touches : Touches (ordered_blocks s o) s a
   made_touches = made_session.touches
+
+  -- it stands alone, and its edges are short
+  pub made_alone : IsTreeRoom queue.room m.pool.shape → IsTrue s.device.told → SweepsAlone queue 0 a e
+  made_alone tree z = begun_alone queue o q u.begins (stands_alone u.can u.makes tree z)
+
+  pub made_short : IsShortSweeper a e
+  made_short = begun_short u.begins (still_ordered u.can.is u.makes.session.touches).is
+      (edges_short u.can u.makes)
 
   -- no call of its queue came
   pub counts_same : queue.counts e.queue ≡ queue.counts q
@@ -419,10 +462,25 @@ module _ {H W Q : Type 0} {h : ShelfGhosts H} {w : SinkGhosts W} {queue : QueueG
         (fault_counts (h.faults shelf_after) (w.faults mid)) a b done v.steps.cause fills_all)
         (λ rose. tt)
 
+    -- it is so only over the circuit's room
+    pub room_all : IsTreeRoom queue.room m.pool.shape → IsTrue s.device.told → IfErr result
+        (λ stop. IfStopsFull stop (λ used. used < eval_room s.pool.shape (circuit_size o.header)))
+    room_all tree z =
+        let own = v.steps.room (made_alone v.made tree z) (made_short v.made) in
+        ends_by (λ r. IfErr r (λ stop. IfStopsFull stop
+        (λ used. used < eval_room s.pool.shape (circuit_size o.header)))) done result
+        (w.faults mid) (w.faults out_after) v.sends.ends
+        (subst (λ (n : Header). IfErr done (λ stop. IfStopsFull stop
+        (λ used. used < eval_room s.pool.shape (circuit_size n)))) v.made.begins.header
+        (subst (λ (x : ShapeNumbers). IfErr done (λ stop. IfStopsFull stop
+        (λ used. used < eval_room x (circuit_size e.header)))) (made_touches v.made).shape own))
+        (λ rose. tt)
+
     -- So the evaluation ended as promised, if its moves are those of its steps.
-    pub runs_all : (wide : Bool) → KeepsSteps wide h s t o shelf shelf_after
+    pub runs_all : IsTreeRoom queue.room m.pool.shape → (wide : Bool)
+        → KeepsSteps wide h s t o shelf shelf_after
         → RunsSteps wide h w s t o shelf shelf_after out out_after result
-    runs_all wide moves = record {
+    runs_all tree wide moves = record {
       goes = ran_goes ran;
       reads = v.steps.reads;
       read_later = v.steps.read_later;
@@ -435,6 +493,7 @@ module _ {H W Q : Type 0} {h : ShelfGhosts H} {w : SinkGhosts W} {queue : QueueG
       prints = prints_due;
       cause = cause_all;
       full = full_all;
+      room = room_all tree;
       moves = moves;
     }
 
@@ -443,8 +502,9 @@ pub runs_none : {H W : Type 0} (wide : Bool) (h : ShelfGhosts H) (w : SinkGhosts
     {fault : EmFault} (shelf : H) (out : W) → IsRule w.IsState w.took → w.IsState (w.state out)
     → Goes (ordered_blocks s o) s t → Cause s t fault
     → (2 ^ 64 - 1 ≤ t.moves) ⊎ (t.used ≤ t.moves + 2 * t.pool.shape.frames)
+    → (IsTrue s.device.told → IfFull fault (λ used. used < eval_room s.pool.shape (circuit_size o.header)))
     → KeepsSteps wide h s t o shelf shelf → RunsSteps wide h w s t o shelf shelf out out (Err (Em fault))
-runs_none wide h w {s = s} {t = t} {fault = fault} shelf out rule ok goes cause paid moves = record {
+runs_none wide h w {s = s} {t = t} {fault = fault} shelf out rule ok goes cause paid room moves = record {
   goes = goes;
   reads = record {
     leaves = record { text = refl; others = λ k e. refl };
@@ -461,6 +521,7 @@ runs_none wide h w {s = s} {t = t} {fault = fault} shelf out rule ok goes cause 
   full = full_due (FillsEval t) (fault_counts (h.faults shelf) (w.faults out))
       (fault_counts (h.faults shelf) (w.faults out)) s t (Err (Em fault)) cause
       (λ used is. record { paid = rw is paid });
+  room = room;
   moves = moves;
 }
 
@@ -468,6 +529,15 @@ runs_none wide h w {s = s} {t = t} {fault = fault} shelf out rule ok goes cause 
 pub refused_goes : {s t : RigState} {fault : EmFault} (o : Ordered) → FailsToMake s t fault
     → Goes (ordered_blocks s o) s t
 refused_goes {s} {t} o f = goes_wider (ordered_blocks s o) [] s t (record { off = λ z j u x. tt }) f.goes
+
+-- few blocks were in use for the circuit's room,
+pub refused_room : {s t : RigState} {o : Ordered} {fault : EmFault} → CanBegin s o → FailsToMake s t fault
+    → IsTrue s.device.told
+    → IfFull fault (λ used. used < eval_room s.pool.shape (circuit_size o.header))
+refused_room {s} {t} {o} {fault} can f z =
+    let small = edges_small s.pool.shape o.header can.sound.shape in
+    full_less s t fault (eval_room s.pool.shape (circuit_size o.header)) f.cause
+    (omega (arith, f.used, can.alone, can.packed, can.is.resets.blocks_is, small))
 
 -- and all blocks but a few were moved.
 pub refused_paid : {s t : RigState} {o : Ordered} {fault : EmFault} → CanBegin s o

@@ -24,7 +24,7 @@ use Rattle.aig_edges.specs.declared.graph.Ordered.{Ordered}
 use Rattle.em_eval.specs.EvalRun.{asked_of_eval}
 use Rattle.em_eval.specs.EvalMoves.{circuit_moves, making_moves, rounds_moves}
 use Rattle.em_eval.specs.EvalDue.{aig_status, eval_output, eval_status, job_fault}
-use Rattle.em_eval.specs.EvalSize.{circuit_read, eval_cost, given_of, passes_read, rounds_of, steps_read}
+use Rattle.em_eval.specs.EvalSize.{circuit_read, eval_cost, eval_room, given_of, passes_read, rounds_of, steps_read}
 use Rattle.em_eval.specs.Evaluation.{CircuitCause, EndsSteps, FillsEval, PrintsAll, SpellsEdges, StepsCause, steps_of}
 use Rattle.em_ends.specs.Ended.{Caused, Ended, GoesOn, Outside}
 use Rattle.em_ends.specs.Stop.{stop_status, Faults, IfStopsFull, OnFault, fault_counts}
@@ -34,8 +34,9 @@ use Rattle.em_ends.specs.declared.status.Malform.TheVariants.{Text, Aig}
 use Rattle.em_ends.specs.declared.status.Status.TheVariants.{Done, Malformed, ReadFault}
 use Rattle.em_ends.specs.declared.stop.Stop.{Stop}
 use Rattle.em_ends.specs.declared.stop.Stop.TheVariants.{Fault, Read, Write, Em}
-use Rattle.em_ends.proofs.EndLaws.{KeepsMoves, Stopped, done_whole, ended_due, malformed_whole, full_by_moves}
+use Rattle.em_ends.proofs.EndLaws.{KeepsMoves, Stopped, done_whole, ended_due, malformed_whole}
 use Rattle.em_eval.proofs.EvalCosts.{evaluation_within, making_rises, rounds_rise}
+use Rattle.em_eval.proofs.EvalRoom.{eval_room_rises, stops_less}
 use Rattle.em_eval.proofs.Evaluating.{fault_due, fault_first, fault_latched, fault_none, lines_due, nothing_due, steps_counted, steps_due}
 
 -- a slot that is as one that wasn't opened is neither open nor lost
@@ -78,32 +79,18 @@ pub none_taken : {wide : Bool} {n : ℕ} → (wide ≡ true × n ≡ 0) ⊎ (wid
 none_taken (inl both) h = both.1
 none_taken (inr narrow) h = absurd (cc (h, narrow))
 
--- What a full device says: it has few blocks, since few were moved.
-pub eval_fills : (wide : Bool) (start : Option ℕ) (tells : Bool) (y w : List ℕ) (slots : Slot → SlotState) {a c : RigState}
-    (stop : Stop) → a.moves ≡ 0 → Touches [] a c → Sound c
-    → IfStopsFull stop (λ used. used ≡ c.blocks) → KeepsEval wide start tells y w slots a c
-    → IfStopsFull stop (FillsEval c) → IfStopsFull stop (FillsRun tells (asked_of_eval wide start y w) slots c)
-eval_fills wide start tells y w slots (Fault kind place) none touches sound all keeps f = tt
-eval_fills wide start tells y w slots Read none touches sound all keeps f = tt
-eval_fills wide start tells y w slots Write none touches sound all keeps f = tt
-eval_fills wide start tells y w slots (Em em.DeviceFault) none touches sound all keeps f = tt
-eval_fills wide start tells y w slots (Em (em.Damaged block)) none touches sound all keeps f = tt
-eval_fills wide start tells y w slots {a} {c} (Em (em.Full used)) none touches sound all keeps f = record {
-  paid = f.paid;
-  size = λ t d.
-      let size = circuit_read start (slots First) y in
-      let rounds = rounds_of wide (steps_read start y (slots Second) w) in
-      let passes = passes_read start y in
-      let few : c.moves ≤ a.moves + eval_cost c.pool.shape size rounds passes =
-      subst (λ (v : ShapeNumbers). c.moves ≤ a.moves + eval_cost v size rounds passes)
-      (sym touches.shape) (keeps t (sym touches.told ∙ d)) in
-      full_by_moves c.blocks used c.moves (eval_cost c.pool.shape size rounds passes)
-      c.pool.shape.frames sound.numbers.blocks_high all
-      (none_before c.moves a.moves (eval_cost c.pool.shape size rounds passes) none few) f.paid;
-}
-  where
-    none_before : (u s n : ℕ) → s ≡ 0 → u ≤ s + n → u ≤ n
-    none_before u s n none h = omega (arith, none, h)
+-- What a full device says: few blocks were moved, and it has fewer than the room of what was read.
+pub eval_fills : (wide : Bool) (start : Option ℕ) (tells : Bool) (y w : List ℕ) (slots : Slot → SlotState) (c : RigState)
+    (stop : Stop) → IfStopsFull stop (FillsEval c)
+    → (IsTrue tells → IsTrue c.device.told → IfStopsFull stop
+    (λ used. used < eval_room c.pool.shape (circuit_read start (slots First) y)))
+    → IfStopsFull stop (FillsRun tells (asked_of_eval wide start y w) slots c)
+eval_fills wide start tells y w slots c (Fault kind place) f room = tt
+eval_fills wide start tells y w slots c Read f room = tt
+eval_fills wide start tells y w slots c Write f room = tt
+eval_fills wide start tells y w slots c (Em em.DeviceFault) f room = tt
+eval_fills wide start tells y w slots c (Em (em.Damaged block)) f room = tt
+eval_fills wide start tells y w slots c (Em (em.Full used)) f room = record { paid = f.paid; room = room }
 
 -- The circuit wasn't read, or has a fault. `x` is what the slot had left when it was opened, and `y`
 -- the file's text.
@@ -119,15 +106,18 @@ module _ (wide : Bool) (start : Option ℕ) (tells : Bool) (x y stimulus : List 
   circuit_cause faults later a c Write cause = absurd cause
   circuit_cause faults later a c (Em fault) cause = cause
 
-  pub circuit_full : (faults later : Faults) (a c : RigState) (stop : Stop)
-      → CircuitCause start tells x faults later a c stop
-      → IfStopsFull stop (λ used. used ≡ c.blocks)
-  circuit_full faults later a c (Fault kind place) cause = tt
-  circuit_full faults later a c Read cause = tt
-  circuit_full faults later a c Write cause = tt
-  circuit_full faults later a c (Em em.DeviceFault) cause = tt
-  circuit_full faults later a c (Em (em.Full used)) cause = cause.0
-  circuit_full faults later a c (Em (em.Damaged block)) cause = tt
+  -- when it is full, on the rig at the end
+  pub circuit_few : (slots : Slot → SlotState) (a c : RigState) (stop : Stop) → Touches [] a c
+      → (IsTrue tells → IsTrue a.device.told → IfStopsFull stop
+      (λ used. used < eval_room a.pool.shape (circuit_read start (slots First) x)))
+      → IsTrue tells → IsTrue c.device.told → IfStopsFull stop
+      (λ used. used < eval_room c.pool.shape (circuit_read start (slots First) y))
+  circuit_few slots a c stop touches room t d =
+      subst (λ (v : ShapeNumbers). IfStopsFull stop
+      (λ used. used < eval_room v (circuit_read start (slots First) y))) (sym touches.shape)
+      (subst (λ (v : List ℕ). IfStopsFull stop
+      (λ used. used < eval_room a.pool.shape (circuit_read start (slots First) v))) (e t)
+      (room t (sym touches.told ∙ d)))
 
   -- what was moved until then, by the transfer cost
   pub circuit_keeps : (slots : Slot → SlotState) (a c : RigState) → IsShape a.pool.shape
@@ -227,14 +217,20 @@ module _ (wide : Bool) {start : Option ℕ} (tells told : Bool) (x y z w : List 
   steps_cause faults later a c (Em fault) same touches ends cause =
       cause_after [] a m c fault touches cause
 
-  pub steps_full : (faults later : Faults) (c : RigState) (stop : Stop)
-      → StepsCause faults later m c stop → IfStopsFull stop (λ used. used ≡ c.blocks)
-  steps_full faults later c (Fault kind place) cause = tt
-  steps_full faults later c Read cause = tt
-  steps_full faults later c Write cause = tt
-  steps_full faults later c (Em em.DeviceFault) cause = tt
-  steps_full faults later c (Em (em.Full used)) cause = cause.0
-  steps_full faults later c (Em (em.Damaged block)) cause = tt
+  -- when it is full, on the rig at the end
+  pub steps_few : {held : List ℕ} (slots : Slot → SlotState) (c : RigState) (stop : Stop) → Touches held m c
+      → (IsTrue tells → circuit_size o.header ≤ circuit_read start (slots First) x)
+      → (IsTrue m.device.told → IfStopsFull stop
+      (λ used. used < eval_room m.pool.shape (circuit_size o.header)))
+      → IsTrue tells → IsTrue c.device.told → IfStopsFull stop
+      (λ used. used < eval_room c.pool.shape (circuit_read start (slots First) y))
+  steps_few slots c stop touches small room t d =
+      let read = circuit_read start (slots First) y in
+      let large : circuit_size o.header ≤ read =
+      subst (λ (v : List ℕ). circuit_size o.header ≤ circuit_read start (slots First) v) (e t) (small t) in
+      subst (λ (v : ShapeNumbers). IfStopsFull stop (λ used. used < eval_room v read)) (sym touches.shape)
+      (stops_less stop (eval_room m.pool.shape (circuit_size o.header)) (eval_room m.pool.shape read)
+      (eval_room_rises m.pool.shape (circuit_size o.header) read large) (room (sym touches.told ∙ d)))
 
   -- what was moved, by the transfer cost
   pub steps_keep : (slots : Slot → SlotState) (a c : RigState) → Sound a → Touches [] a m

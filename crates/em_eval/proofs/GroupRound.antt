@@ -18,14 +18,17 @@ use Rattle.aig_defs.specs.declared.circuit.Header.{Header}
 use Rattle.aig_defs.specs.declared.circuit.Latch.{Latch}
 use Rattle.aig_text.specs.Reads.{Advances}
 use Rattle.aig_text.specs.Source.{Source}
+use Rattle.aig_edges.specs.Room.{FullInRoom}
 use Rattle.aig_edges.specs.declared.stop.StepStop.{StepStop}
 use Rattle.aig_edges.specs.declared.stop.StepStop.TheVariants as stop
 use Rattle.aig_sweep.specs.Bits.{bits_of}
 use Rattle.aig_sweep.specs.Columns.{column_room}
+use Rattle.aig_sweep.specs.Room.{IfStepEm}
 use Rattle.aig_sweep.specs.Scene.{ActsAfterByte, Keeps, KeepsFront, Scene, StepCause}
 use Rattle.aig_sweep.specs.Sweeper.{Evaluates, IsSweeper, lists_size}
 use Rattle.aig_sweep.specs.declared.sweeper.Sweeper.{Sweeper}
 use Rattle.aig_wide.specs.Group.{AnswersGroup, CanGroup, FollowsGroup, GroupCosts, IfPrintedGroup, group_calls, group_moves, group_room, lines_of, stimulus_at}
+use Rattle.aig_wide.specs.Room.{GroupsInRoom}
 use Rattle.aig_wide.specs.Sweeps.{input_room}
 use Rattle.aig_wide.specs.declared.group.GroupEnd.{GroupEnd}
 use Rattle.aig_wide.specs.declared.group.GroupEnd.TheVariants.{Printed, End}
@@ -59,6 +62,7 @@ pub record GroupSays {Q : Type 0} (queue : QueueGhosts Q) (took : List ℕ → L
   pub further : IfPrintedGroup r (old.text.feed.place < new.text.feed.place)
   pub idle : IfErr r (λ stopped. ActsAfterByte old.rig new.rig old.evaluator new.evaluator
       old.text.feed.place new.text.feed.place)
+  pub room : GroupsInRoom queue old.rig new.rig old.evaluator new.evaluator r
 
 follows_many : (inputs : ℕ) (old new : Source) (r : Result GroupEnd StepStop)
     → FollowsGroup inputs old new r → FollowsRound 64 inputs old new (round_of r)
@@ -188,6 +192,9 @@ module _ {IsState : List ℕ → Type 0} {took : List ℕ → List ℕ → List 
     further = printed_many (old.text.feed.place < new.text.feed.place) r y.further;
     idle = err_many (λ stopped. ActsAfterByte old.rig new.rig old.evaluator new.evaluator
         old.text.feed.place new.text.feed.place) r y.idle;
+    room = λ alone short.
+        let both = y.room.alone alone short in
+        err_many (λ stopped. IfStepEm stopped (FullInRoom old.evaluator.header old.rig)) r both.1;
   }
 
 module _ {Q : Type 0} (queue : QueueGhosts Q) (s t : RigState) (e f : Sweeper Q)

@@ -7,6 +7,7 @@ pub mod EvalCosts
 pub mod EvalEnds
 pub mod EvalMoves
 pub mod EvalOpens
+pub mod EvalRoom
 mod EvalRows
 pub mod Evaluated
 pub mod Evaluating

@@ -19,22 +19,27 @@ use Rattle.em_chain.proofs.Counts.{ceiling_more}
 use Rattle.em_chain.proofs.Keeps.{touches_none}
 use Rattle.em_queued.specs.Queued.{RunsBeside}
 use Rattle.em_queued.proofs.Queued.{called_then, shares_frames}
+use Rattle.aig_defs.specs.Begun.{circuit_size}
 use Rattle.aig_defs.specs.Items.{Reading, Reads, Fails}
 use Rattle.aig_defs.specs.Stimulus.{Stimulus, begun_from, stimulus_from, stimulus_line}
+use Rattle.aig_defs.specs.declared.circuit.Header.{Header}
 use Rattle.aig_defs.proofs.Stimulus.{begun_read, begun_stops}
 use Rattle.aig_text.specs.Reads.{Advances}
 use Rattle.aig_text.specs.Source.{Source, left}
+use Rattle.aig_edges.specs.Room.{FullInRoom}
 use Rattle.aig_edges.specs.declared.stop.StepStop.{StepStop}
 use Rattle.aig_edges.specs.declared.stop.StepStop.TheVariants as stop
 use Rattle.aig_sweep.specs.Lists.{lists_account}
+use Rattle.aig_sweep.specs.Room.{IfStepEm}
 use Rattle.aig_sweep.specs.Scene.{ActsAfterByte, Scene, StepCause}
 use Rattle.aig_sweep.specs.Sweeper.{Halted, IsSweeper, lists_size, sweeper_blocks}
 use Rattle.aig_sweep.specs.declared.sweeper.Sweeper.{Sweeper}
-use Rattle.em_eval.specs.EvalSize.{given_of}
+use Rattle.em_eval.specs.EvalSize.{eval_room, given_of}
 use Rattle.em_eval.specs.Evaluation.{EndsSteps, ReadsSecond, Round, RoundsMove, StepsCause}
 use Rattle.em_ends.specs.Opens.{IsAllRead}
-use Rattle.em_ends.specs.Stop.{fault_counts}
+use Rattle.em_ends.specs.Stop.{IfStopsFull, fault_counts}
 use Rattle.em_ready.proofs.RoomLaws.{times_rises}
+use Rattle.em_eval.proofs.EvalRoom.{room_as}
 use Rattle.em_eval.proofs.RoundLoop.{FollowsLines, MadeRounds, beside_owing, calls_more, ceiling_full, ceiling_next, size_kept}
 use Rattle.em_eval.proofs.Rounds.{FollowsRound, IsLast, RoundCosts, result_of}
 
@@ -228,6 +233,20 @@ cause_of old mid new out middle after s t u held (Err stop.Read) last x a b h = 
 cause_of old mid new out middle after s t u held (Err stop.Write) last x a b h = omega (arith, b, h)
 cause_of old mid new out middle after s t u held (Err (stop.Em fault)) last x a b h =
     cause_after held s t u fault x h
+
+-- The last round was full only over the circuit's room, by the rig and the header at first.
+pub full_of : (s t : RigState) (h k : Header) (r : Result (Option ℕ) StepStop) → IsLast r
+    → t.pool.shape ≡ s.pool.shape → h ≡ k
+    → IfErr r (λ stopped. IfStepEm stopped (FullInRoom h t))
+    → IfErr (result_of r) (λ stop. IfStopsFull stop
+    (λ used. used < eval_room s.pool.shape (circuit_size k)))
+full_of s t h k (Ok (Some count)) last shape header x = absurd last
+full_of s t h k (Ok None) last shape header x = tt
+full_of s t h k (Err (stop.Fault kind place)) last shape header x = tt
+full_of s t h k (Err stop.Read) last shape header x = tt
+full_of s t h k (Err stop.Write) last shape header x = tt
+full_of s t h k (Err (stop.Em fault)) last shape header x =
+    room_as fault shape (ap (λ (y : Header). circuit_size y) header) x.is
 
 -- Of the shelf only the second slot was read.
 pub reads_second : {tells : Bool} {first new : Source} → Advances tells first new

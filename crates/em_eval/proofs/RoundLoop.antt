@@ -22,8 +22,9 @@ use Rattle.aig_defs.specs.declared.circuit.Header.{Header}
 use Rattle.aig_text.specs.Reads.{Advances}
 use Rattle.aig_text.specs.Source.{Source, left, source}
 use Rattle.aig_text.proofs.Steadies.{advances_then, steady_none}
-use Rattle.aig_edges.specs.Graph.{CanBuild}
+use Rattle.aig_edges.specs.Graph.{CanBuild, edge_count}
 use Rattle.aig_sweep.specs.Lists.{latch_room, lists_account}
+use Rattle.aig_sweep.specs.Room.{IsShortSweeper, SweepsAlone}
 use Rattle.aig_sweep.specs.Scene.{Keeps, Scene, scene}
 use Rattle.aig_sweep.specs.Sweeper.{Evaluates, IsSweeper, lists_size, sweeper_blocks}
 use Rattle.aig_sweep.specs.declared.sweeper.Sweeper.{Sweeper}
@@ -105,6 +106,14 @@ module _ {Q : Type 0} (queue : QueueGhosts Q) (s t : RigState) (e f : Sweeper Q)
       let old = i.state_blocks in
       let new = j.state_blocks in
       omega (arith, old, new, latch_same, given_same, gates_same)
+
+  -- They are as short.
+  pub short_kept : IsShortSweeper s e → IsShortSweeper t f
+  short_kept short =
+      let edges : ceiling (edge_count f.header) (payload_in t) ≡ ceiling (edge_count e.header) (payload_in s) =
+      ap (λ (h : Header). ceiling (edge_count h) (payload_in t)) keeps.header
+      ∙ ap (λ (n : ℕ). ceiling (edge_count e.header) n) payload_same in
+      record { edges = omega (arith, short.edges, edges, given_same, gates_same) }
 
 -- Two rounds with the same numbers are the same.
 pub same_round : (lines a b c x y z : ℕ) → a ≡ x → b ≡ y → c ≡ z
@@ -273,6 +282,21 @@ module _ {IsState : List ℕ → Type 0} {took : List ℕ → List ℕ → List 
           calls_few round.calls m.rounds (queue.counts mid.evaluator.queue).n low place
           (omega (arith, n, new));
     }
+
+    -- An evaluator that stood alone at first, of a queue that was never called, still does.
+    pub rounds_alone : SweepsAlone queue 0 first.rig first.evaluator
+        → SweepsAlone queue round.calls mid.rig mid.evaluator
+    rounds_alone alone =
+        let touches = m.runs.runs.session.touches in
+        let size = size_kept queue first.rig mid.rig first.evaluator mid.evaluator m.keeps touches.shape
+        is m.is in
+        let used = m.runs.runs.spends.used in
+        record {
+          told = touches.told ∙ alone.told;
+          room_is = rw (touches.shape) (alone.room_is);
+          few = omega (arith, alone.few, m.run);
+          used = omega (arith, alone.used, used, size);
+        }
 
     -- What a round that printed lines cost, with the rounds before it.
     next_runs : (new : Scene Q) (count : ℕ)

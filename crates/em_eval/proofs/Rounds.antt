@@ -14,9 +14,11 @@ use Rattle.aig_defs.specs.declared.fault.AigKind.{AigKind}
 use Rattle.aig_text.specs.Reads.{Advances}
 use Rattle.aig_text.specs.Source.{Source, left}
 use Rattle.aig_edges.specs.Graph.{CanBuild}
+use Rattle.aig_edges.specs.Room.{FullInRoom}
 use Rattle.aig_edges.specs.declared.stop.StepStop.{StepStop}
 use Rattle.aig_edges.specs.declared.stop.StepStop.TheVariants as stop
 use Rattle.aig_sweep.specs.Lists.{lists_account}
+use Rattle.aig_sweep.specs.Room.{IfStepEm, IsShortSweeper, SweepsAlone}
 use Rattle.aig_sweep.specs.Scene.{ActsAfterByte, EndsText, IsQuiet, Keeps, KeepsFront, Scene, StepCause}
 use Rattle.aig_sweep.specs.Sweeper.{Evaluates, Halted, IsSweeper, lists_size, sweeper_blocks}
 use Rattle.aig_sweep.specs.declared.sweeper.Sweeper.{Sweeper}
@@ -140,3 +142,5 @@ pub record RoundSays {Q : Type 0} (queue : QueueGhosts Q) (round : Round)
   pub further : IfLines r (old.text.feed.place < new.text.feed.place)
   pub idle : IfErr r (λ stopped. ActsAfterByte old.rig new.rig old.evaluator new.evaluator
       old.text.feed.place new.text.feed.place)
+  pub room : SweepsAlone queue round.calls old.rig old.evaluator → IsShortSweeper old.rig old.evaluator
+      → IfErr r (λ stopped. IfStepEm stopped (FullInRoom old.evaluator.header old.rig))

@@ -1,5 +1,5 @@
 -- A step of an evaluator is a round of one line.
-use Rattle.std.proofs.Common.{◌≡◌, ℕ, ◌+◌, ◌^◌, ◌<◌, ◌≤◌, Bool, List, [], ◌∷◌, ◌++◌, take, ap, sym, subst, ◌∙◌, refl, arith, IsTrue, Option, Some, None, Result, Ok, Err}
+use Rattle.std.proofs.Common.{◌≡◌, ℕ, ◌+◌, ◌*◌, ◌^◌, ◌<◌, ◌≤◌, Bool, List, [], ◌∷◌, ◌++◌, take, ap, sym, subst, ◌∙◌, refl, arith, IsTrue, Option, Some, None, Result, Ok, Err}
 use Rattle.std.proofs.lemmas.List.{append-nil}
 use Rattle.std.specs.Prelude.{IfErr, OnOk}
 use Rattle.em_io.specs.Sink.{IsRule, Sent, SentPart}
@@ -7,6 +7,7 @@ use Rattle.em_io.proofs.Sent.{sent-nothing}
 use Rattle.em_space.specs.Rig.{RigState}
 use Rattle.em_space.specs.declared.queue.Queue.{Ghosts as QueueGhosts}
 use Rattle.em_chain.specs.Counts.{ceiling}
+use Rattle.aig_defs.specs.Begun.{circuit_size}
 use Rattle.aig_defs.specs.Circuit.{Circuit, IsHeader}
 use Rattle.aig_defs.specs.Items.{Reading, Reads, Fails}
 use Rattle.aig_defs.specs.Stimulus.{Stimulus}
@@ -15,16 +16,20 @@ use Rattle.aig_defs.specs.declared.circuit.Header.{Header}
 use Rattle.aig_defs.proofs.Stimulus.{begun_read, line_some, stimulus_read, stimulus_stops}
 use Rattle.aig_text.specs.Reads.{Advances}
 use Rattle.aig_text.specs.Source.{Source, left}
+use Rattle.aig_edges.specs.Room.{FullInRoom}
 use Rattle.aig_edges.specs.declared.stop.StepStop.{StepStop}
 use Rattle.aig_edges.specs.declared.stop.StepStop.TheVariants as stop
 use Rattle.aig_sweep.specs.Lists.{input_room}
+use Rattle.aig_sweep.specs.Room.{IfStepEm}
 use Rattle.aig_sweep.specs.Scene.{ActsAfterByte, IsQuiet, Keeps, KeepsFront, Scene, StepCause}
 use Rattle.aig_sweep.specs.Sweeper.{Evaluates, IsSweeper, lists_size}
 use Rattle.aig_sweep.specs.declared.sweeper.Sweeper.{Sweeper}
 use Rattle.aig_forward.specs.Step.{AnswersStep, CanStep, FollowsText, HaltsStep, IfPrinted, StepCosts, TakesLine, line_at, line_of, step_calls, step_moves, step_room}
+use Rattle.aig_forward.specs.Room.{StepsInRoom}
 use Rattle.aig_forward.specs.declared.step_end.StepEnd.{StepEnd}
 use Rattle.aig_forward.specs.declared.step_end.StepEnd.TheVariants.{Printed, End}
 use Rattle.em_eval.specs.Evaluation.{step_round}
+use Rattle.em_eval.proofs.EvalRoom.{alone_more}
 use Rattle.em_eval.proofs.RoundLoop.{gates_same, given_same, latch_same, payload_same, same_round}
 use Rattle.em_eval.proofs.Rounds.{AnswersRound, CanRound, FollowsRound, IfLines, RoundCosts, RoundSays, TakesRound}
 use Rattle.em_eval.proofs.Stepping.{lines_from, lines_next}
@@ -52,6 +57,7 @@ pub record StepSays {Q : Type 0} (queue : QueueGhosts Q) (took : List ℕ → Li
   pub further : IfPrinted r (old.text.feed.place < new.text.feed.place)
   pub idle : IfErr r (λ stopped. ActsAfterByte old.rig new.rig old.evaluator new.evaluator
       old.text.feed.place new.text.feed.place)
+  pub room : StepsInRoom queue old.rig new.rig old.evaluator new.evaluator r
 
 -- A line was read.
 takes_one : (inputs : ℕ) (old new : Source) (bits : List Bool) → TakesLine inputs old new bits
@@ -113,6 +119,10 @@ next_one : (c : Circuit) (state : List Bool) (s : Source) (bits : List Bool) (pl
 next_one c state s bits place rest some e =
     line_one c state bits ∙ sym (ap (λ (x : Stimulus). lines_from c state (take 1 x.steps))
     (stimulus_read c.header.inputs s.feed.place (left s) bits place rest some e))
+
+-- Its calls are no more than twice the circuit's size.
+step_calls_few : (h : Header) → step_calls h ≤ 2 * circuit_size h
+step_calls_few h = omega arith
 
 module _ {IsState : List ℕ → Type 0} {took : List ℕ → List ℕ → List ℕ} (rule : IsRule IsState took)
     {Q : Type 0} (old new : Scene Q) (ok : IsState old.taken) where
@@ -192,6 +202,10 @@ module _ {IsState : List ℕ → Type 0} {took : List ℕ → List ℕ → List 
     further = printed_one (old.text.feed.place < new.text.feed.place) r y.further;
     idle = err_one (λ stopped. ActsAfterByte old.rig new.rig old.evaluator new.evaluator
         old.text.feed.place new.text.feed.place) r y.idle;
+    room = λ alone short.
+        let few = step_calls_few old.evaluator.header in
+        let both = y.room.alone (alone_more few alone) short in
+        err_one (λ stopped. IfStepEm stopped (FullInRoom old.evaluator.header old.rig)) r both.1;
   }
 
 module _ {Q : Type 0} (queue : QueueGhosts Q) (s t : RigState) (e f : Sweeper Q)

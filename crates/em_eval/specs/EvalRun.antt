@@ -1,8 +1,8 @@
 -- What an evaluation asks of a run, and the run of one.
-use Rattle.std.specs.Prelude.{◌≡◌, ℕ, ◌+◌, ◌*◌, List, Bool, true, Option, Some, None, if◌then◌else◌}
+use Rattle.std.specs.Prelude.{◌≡◌, ℕ, List, Bool, true, Option, Some, None, if◌then◌else◌}
 use Rattle.em_io.specs.declared.shelf.Slot.TheVariants.{First, Second}
 use Rattle.em_eval.specs.EvalDue.{eval_output, eval_status, job_fault}
-use Rattle.em_eval.specs.EvalSize.{circuit_read, eval_cost, passes_read, rounds_of, steps_read}
+use Rattle.em_eval.specs.EvalSize.{circuit_read, eval_cost, eval_room, passes_read, rounds_of, steps_read}
 use Rattle.em_io.specs.Shelf.{by_slot}
 use Rattle.em_io.specs.declared.shelf.Shelf.{Ghosts as ShelfGhosts}
 use Rattle.em_io.specs.declared.sink.Sink.{Ghosts as SinkGhosts}
@@ -21,9 +21,7 @@ asked_of_eval wide start circuit stimulus = record {
   output = eval_output wide start circuit stimulus;
   moves = Some (λ shape slots. eval_cost shape (circuit_read start (slots First) circuit)
       (rounds_of wide (steps_read start circuit (slots Second) stimulus)) (passes_read start circuit));
-  most = λ shape slots. eval_cost shape (circuit_read start (slots First) circuit)
-      (rounds_of wide (steps_read start circuit (slots Second) stimulus)) (passes_read start circuit) + 2 * shape.frames;
-  most_told = true;
+  room = Some (λ shape slots. eval_room shape (circuit_read start (slots First) circuit));
 }
 
 -- the bit with which an uninitialised latch begins, as a number

@@ -1,6 +1,6 @@
 -- The size of an evaluation that stops somewhere in its texts: three numbers.
 use Rattle.std.specs.Prelude.{ℕ, ◌+◌, ◌-◌, ◌*◌, Bool, if◌then◌else◌, List, length, Option, Some}
-use Rattle.em_record.specs.Cost.{cost}
+use Rattle.em_record.specs.Cost.{cost, room}
 use Rattle.em_record.specs.Shape.{ShapeNumbers}
 use Rattle.em_chain.specs.Counts.{ceiling}
 use Rattle.em_io.specs.Shelf.{SlotState}
@@ -54,3 +54,7 @@ rounds_of wide steps = if wide then 2 * ceiling steps 64 else steps
 -- the transfer cost of an evaluation: (rounds + r + 2) times that of 2E records
 abbrev pub eval_cost : ShapeNumbers → ℕ → ℕ → ℕ → ℕ
 eval_cost shape size rounds passes = (rounds + passes + 2) * cost shape (2 * size)
+
+-- the room of an evaluation: that of 2E records
+abbrev pub eval_room : ShapeNumbers → ℕ → ℕ
+eval_room shape size = room shape (2 * size)

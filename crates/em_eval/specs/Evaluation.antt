@@ -22,6 +22,7 @@ use Rattle.aig_defs.specs.TextFault.{either_text, text_fault}
 use Rattle.aig_defs.specs.Value.{run_from, run_of}
 use Rattle.aig_edges.specs.Graph.{IsOrdered, IsOrderedOf, edge_count, ordered_blocks, ordered_size}
 use Rattle.aig_edges.specs.declared.graph.Ordered.{Ordered}
+use Rattle.aig_sweep.specs.Room.{IsShortSweeper, SweepsAlone}
 use Rattle.aig_sweep.specs.Scene.{KeepsFront}
 use Rattle.aig_sweep.specs.Sweeper.{Evaluates, HasSweeperFrames, IsSweeper, sweeper_blocks}
 use Rattle.aig_sweep.specs.declared.sweeper.Sweeper.{Sweeper}
@@ -29,7 +30,7 @@ use Rattle.aig_forward.specs.Step.{step_calls, step_moves, step_room}
 use Rattle.aig_wide.specs.Group.{group_calls, group_moves, group_room}
 use Rattle.aig_order.specs.OrderGraph.{OrdersCircuit}
 use Rattle.em_eval.specs.EvalMoves.{circuit_moves, making_moves, rounds_moves}
-use Rattle.em_eval.specs.EvalSize.{circuit_read, given_of, passes_read}
+use Rattle.em_eval.specs.EvalSize.{circuit_read, eval_room, given_of, passes_read}
 use Rattle.em_ends.specs.Opens.{IsAllRead, ReadsFirst}
 use Rattle.em_ready.specs.Ready.{IsReady}
 use Rattle.em_ends.specs.Stop.{Faults, IfStopsFull, OnFault, fault_counts, OnDue, UnlessWrite}
@@ -76,12 +77,15 @@ CircuitCause start tells text faults after old new (Em fault) = Cause old new fa
 pub record FillsEval (new : RigState) (used : ℕ) : Type 0 where
   pub paid : (2 ^ 64 - 1 ≤ new.moves) ⊎ (used ≤ new.moves + 2 * new.pool.shape.frames)
 
--- No edges were made.
+-- No edges were made. If shelf and device tell, the device is full only if it has fewer blocks than the room of
+-- what was read.
 pub record StopsCircuit (start : Option ℕ) {H : Type 0} (h : ShelfGhosts H) (s t : RigState) (shelf shelf_after : H)
     (stop : Stop) : Type 0 where
   pub cause : CircuitCause start h.tells ((h.stand shelf).slot First).left
       (fault_counts (h.faults shelf) 0) (fault_counts (h.faults shelf_after) 0) s t stop
   pub full : IfStopsFull stop (FillsEval t)
+  pub room : IsTrue h.tells → IsTrue s.device.told → IfStopsFull stop (λ used. used < eval_room s.pool.shape
+      (circuit_read start ((h.stand shelf_after).slot First) ((h.stand shelf).slot First).left))
 
 abbrev pub AnswersCircuit : Option ℕ → {H : Type 0} → ShelfGhosts H → RigState → RigState → H → H
     → Result Ordered Stop → Type 0
@@ -194,7 +198,8 @@ pub record RoundsMove {Q : Type 0} (queue : QueueGhosts Q) (s t : RigState) (e d
 
 -- Steps over the stimulus in the second slot, a round of them at a time, from each state of a circuit that the
 -- evaluator has. Between two moments at which its queue is empty come the calls of one round. Nothing is moved
--- before the first step is begun.
+-- before the first step is begun. If the evaluator stands alone, of short edges and with a queue that was never
+-- called, the device is full only if it has fewer blocks than the circuit's room.
 pub record PrintsSteps {H W Q : Type 0} (h : ShelfGhosts H) (w : SinkGhosts W) (queue : QueueGhosts Q)
     (round : Round) (s t : RigState) (e d : Sweeper Q) (shelf shelf_after : H) (out out_after : W)
     (pending : List ℕ) (result : Result (Unit {0}) Stop) : Type 0 where
@@ -223,6 +228,8 @@ pub record PrintsSteps {H W Q : Type 0} (h : ShelfGhosts H) (w : SinkGhosts W) (
       (ceiling (steps_of e.header.inputs ((h.stand shelf).slot Second).left
       ((h.stand shelf_after).slot Second)) round.lines)
   pub paid : (2 ^ 64 - 1 ≤ t.moves) ⊎ (t.used ≤ t.moves + 2 * t.pool.shape.frames)
+  pub room : SweepsAlone queue 0 s e → IsShortSweeper s e → IfErr result (λ stop.
+      IfStopsFull stop (λ used. used < eval_room s.pool.shape (circuit_size e.header)))
 
 -- All lines went out, if steps ended as due; and in any case a front of them.
 pub record PrintsAll (took : List ℕ → List ℕ → List ℕ) (lines old new : List ℕ)
@@ -233,7 +240,7 @@ pub record PrintsAll (took : List ℕ → List ℕ → List ℕ) (lines old new 
 -- An evaluation by these edges, which are all that is on the rig: as `PrintsSteps`, with nothing pending,
 -- for a circuit in any order of its gates, from the state in which each latch has its reset. At every end the
 -- moves are those of making an evaluator, and of the rounds of the steps that were begun: of one step each, or
--- of up to 64 if it is wide.
+-- of up to 64 if it is wide. If the device tells, it is full only if it has fewer blocks than the circuit's room.
 pub record RunsSteps {H W : Type 0} (wide : Bool) (h : ShelfGhosts H) (w : SinkGhosts W) (s t : RigState)
     (o : Ordered) (shelf shelf_after : H) (out out_after : W) (result : Result (Unit {0}) Stop)
     : Type 0 where
@@ -251,6 +258,8 @@ pub record RunsSteps {H W : Type 0} (wide : Bool) (h : ShelfGhosts H) (w : SinkG
   pub cause : IfErr result (StepsCause (fault_counts (h.faults shelf) (w.faults out))
       (fault_counts (h.faults shelf_after) (w.faults out_after)) s t)
   pub full : IfErr result (λ stop. IfStopsFull stop (FillsEval t))
+  pub room : IsTrue s.device.told → IfErr result (λ stop.
+      IfStopsFull stop (λ used. used < eval_room s.pool.shape (circuit_size o.header)))
   pub moves : IsTrue h.tells → IsTrue s.device.told
       → t.moves ≤ s.moves + (making_moves s.pool.shape (circuit_size o.header)
       + rounds_moves wide s.pool.shape (circuit_size o.header)

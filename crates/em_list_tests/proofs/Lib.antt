@@ -1,3 +1,4 @@
 pub mod Beside
 pub mod Dealt
+pub mod Rooms
 pub mod Sorted

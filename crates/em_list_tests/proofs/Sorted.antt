@@ -1,5 +1,5 @@
 -- A queue that sorts a list, which is written before and read afterwards.
-use Rattle.std.proofs.Common.{◌≡◌, ℕ, List, [], ◌∷◌, IsTrue, sym, ap, ◌∙◌, arith, Result, Ok, Err, IsErr, OnOk}
+use Rattle.std.proofs.Common.{◌≡◌, ℕ, List, [], ◌∷◌, ◌++◌, IsTrue, sym, ap, ◌∙◌, arith, Result, Ok, Err, IsErr, OnOk}
 use Rattle.em_record.specs.Shape.{fan_of}
 use Rattle.em_record.specs.declared.record.Record.{Record}
 use Rattle.em_frames.specs.Pool.{PoolCounts, SameFrames}
@@ -7,20 +7,20 @@ use Rattle.em_space.specs.Ledger.{Account}
 use Rattle.em_space.specs.Queue.{Shares}
 use Rattle.em_space.specs.Rig.{Goes, RigState}
 use Rattle.em_space.specs.declared.fault.EmFault.{EmFault}
+use Rattle.em_space.specs.declared.queue.Queue.{Ghosts}
 use Rattle.em_space.proofs.Held.{apart_none}
 use Rattle.em_space.proofs.Queues.{out_same}
 use Rattle.em_space.proofs.Steps.{same_frames_then}
 use Rattle.em_chain.specs.Chain.{IsChain, chain_blocks, chain_items}
 use Rattle.em_chain.specs.declared.chain.Chain.{Chain}
-use Rattle.em_plain.specs.contracts.scan_queue.ScanQueueQueue.TheImpl.{ghosts}
 use Rattle.em_plain.specs.QueueLaws.{out, stays}
 use Rattle.em_plain.specs.ScanQueue.{IsScanQueue, QueueHasFrame, counts_of, queue_blocks}
 use Rattle.em_plain.specs.declared.scan_queue.ScanQueue.{ScanQueue}
-use Rattle.em_queued.specs.Queued.{StopsBeside}
+use Rattle.em_queued.specs.Queued.{RunsBeside, StopsBeside}
 use Rattle.em_queued.specs.Room.{StatedRoom}
 use Rattle.em_queued.proofs.Queued.{apart_after}
 use Rattle.em_sorting.specs.Lacking.{AllLack}
-use Rattle.em_sorting.specs.Sorts.{CanSort, IsSorted}
+use Rattle.em_sorting.specs.Sorts.{CanSort}
 use Rattle.em_list_tests.specs.Ready.{KeepsQueue, ReadyNew}
 
 -- The queue stays over calls that change no block that was in use.
@@ -53,12 +53,13 @@ shares_same {p} {r} x y h = record {
 }
 
 -- The list that was written may be sorted.
-pub can_sort : {s t : RigState} {q : ScanQueue} {c : Chain} → ReadyNew s q → Goes [] s t
+pub can_sort : {Q : Type 0} {h : Ghosts Q} {x : Q} {s t : RigState} {q : ScanQueue} {c : Chain}
+    → h.counts x ≡ counts_of q → h.blocks x t ≡ queue_blocks t q → ReadyNew s q → Goes [] s t
     → IsChain t c → c.count ≡ 3 → (IsTrue t.device.told → AllLack [] (chain_items t c))
-    → CanSort ghosts q t c
-can_sort {s} {t} {q} {c} r g is n lacks = record {
+    → CanSort h x t c
+can_sort {h = h} {x} {s} {t} {q} {c} counts blocks r g is n lacks = record {
   sound = g.sound;
-  empty = r.len;
+  empty = rw counts r.len;
   free = record {
     singles =
         let e = ap fan_of g.frames.shape in omega (arith, r.free.singles, g.frames.free, e);
@@ -66,9 +67,9 @@ can_sort {s} {t} {q} {c} r g is n lacks = record {
     rack = g.frames.rack ∙ r.free.rack;
   };
   most = omega (arith, n);
-  few = omega (arith, n, r.calls);
+  few = rw counts (omega (arith, n, r.calls));
   chain = is;
-  holds = λ z. rw ((queue_kept r.is g).1 (sym g.touches.told ∙ z), r.none) (is.told z).holds;
+  holds = λ z. rw (blocks, (queue_kept r.is g).1 (sym g.touches.told ∙ z), r.none) (is.told z).holds;
   lacks = lacks;
 }
 
@@ -87,17 +88,18 @@ kept_stops {s = s} {t} {v} x {y} (Err e) i g h f = record {
 }
 
 -- or it was sorted, and the new list was read.
-pub kept_sorted : {T : Type 0} {s t u v : RigState} {x y : ScanQueue} {c d : Chain}
-    (result : Result T EmFault) → Goes [] s t → IsSorted ghosts x y c d t u → IsScanQueue u y
-    → Goes (chain_blocks u d) u v → KeepsQueue s v y result
-kept_sorted {T} {s} {t} {u} {v} {x} {y} {c} {d} result g h i r =
+pub kept_sorted : {T : Type 0} {n p : ℕ} {held : List ℕ} {a b : Account} {s t u v : RigState}
+    (x : ScanQueue) {y : ScanQueue} (d : Chain) (result : Result T EmFault) → Goes [] s t
+    → RunsBeside n p held (queue_blocks u y ++ chain_blocks u d) a b (counts_of x) (counts_of y) t u
+    → IsScanQueue u y → Goes (chain_blocks u d) u v → KeepsQueue s v y result
+kept_sorted {T} {s = s} {t} {u} {v} x {y} d result g h i r =
     let is = (stays y (chain_blocks u d) u v i r.touches
-    (apart_after (queue_blocks u y) (chain_blocks u d) h.runs)
+    (apart_after (queue_blocks u y) (chain_blocks u d) h)
     (out_same (counts_of y) u.pool v.pool (out y u i.rest) r.frames)).0 in
     record {
       sound = r.sound;
       frames = same_frames_then s.pool u.pool v.pool
-          (same_frames_then s.pool t.pool u.pool g.frames h.runs.runs.frames) r.frames;
+          (same_frames_then s.pool t.pool u.pool g.frames h.runs.frames) r.frames;
       has = is.rest;
       is = on_ok result is;
     }

@@ -15,6 +15,8 @@ mod queued;
 #[cfg(test)]
 mod queues;
 #[cfg(test)]
+mod room_queue;
+#[cfg(test)]
 mod rows;
 #[cfg(test)]
 mod sorting;

@@ -8,10 +8,10 @@ ghost use Rattle.em_list_tests.specs.Ready.{CanPlay, Keeps, KeepsQueue, ReadyNew
 
 use crate::clients::{copies, drains};
 use crate::queued::pops_into;
+use crate::room_queue::RoomQueue;
 use crate::rows::nth;
 use crate::sorting::sorts;
 use em_frames::Device;
-use em_plain::ScanQueue;
 use em_record::Record;
 use em_space::{EmFault, Queue, Rig};
 
@@ -30,18 +30,18 @@ pub fn item(place: u64, number: u64) -> Record
 /// Pushes an item with a number that is greater than those of all others.
 fn push_next<D: Device>(
     rig: &mut Rig<'_, D>,
-    queue: &mut ScanQueue,
+    queue: &mut RoomQueue,
     place: u64,
     number: u64,
 ) -> Result<(), EmFault>
     requires sound { Sound (seen D.state rig.old) }
-    requires is { IsScanQueue (seen D.state rig.old) queue.old }
+    requires is { IsScanQueue (seen D.state rig.old) queue.old.queue }
     requires free { CanServe (seen D.state rig.old).pool }
-    requires few { queue.old.calls ≤ 2 ^ 20 }
-    requires lacks { LacksFrom number (seen D.state rig.old) queue.old }
-    ensures kept { KeepsQueue (seen D.state rig.old) (seen D.state rig.new) queue.new result }
-    ensures calls { queue.new.calls ≡ queue.old.calls + 1 }
-    ensures lacks { OnOk result (LacksFrom (number + 1) (seen D.state rig.new) queue.new) }
+    requires few { queue.old.queue.calls ≤ 2 ^ 20 }
+    requires lacks { LacksFrom number (seen D.state rig.old) queue.old.queue }
+    ensures kept { KeepsQueue (seen D.state rig.old) (seen D.state rig.new) queue.new.queue result }
+    ensures calls { queue.new.queue.calls ≡ queue.old.queue.calls + 1 }
+    ensures lacks { OnOk result (LacksFrom (number + 1) (seen D.state rig.new) queue.new.queue) }
 {
     queue.push(rig, item(place, number))
 }
@@ -57,14 +57,14 @@ fn popped(call: Record) -> Option<Record> {
 /// Whether the queue has `a` items, if there is 3 in `c`; else whether the next item is the one that the call is to pop.
 fn checks<D: Device>(
     rig: &mut Rig<'_, D>,
-    queue: &mut ScanQueue,
+    queue: &mut RoomQueue,
     call: Record,
 ) -> Result<bool, EmFault>
-    requires ready { ReadyQueue (2 ^ 20) (seen D.state rig.old) queue.old }
-    ensures kept { KeepsQueue (seen D.state rig.old) (seen D.state rig.new) queue.new result }
-    ensures calls { queue.new.calls ≤ queue.old.calls + 1 }
-    ensures lacks { OnOk result ((n : ℕ) → LacksFrom n (seen D.state rig.old) queue.old
-        → LacksFrom (n + 1) (seen D.state rig.new) queue.new) }
+    requires ready { ReadyQueue (2 ^ 20) (seen D.state rig.old) queue.old.queue }
+    ensures kept { KeepsQueue (seen D.state rig.old) (seen D.state rig.new) queue.new.queue result }
+    ensures calls { queue.new.queue.calls ≤ queue.old.queue.calls + 1 }
+    ensures lacks { OnOk result ((n : ℕ) → LacksFrom n (seen D.state rig.old) queue.old.queue
+        → LacksFrom (n + 1) (seen D.state rig.new) queue.new.queue) }
 {
     if call.c == 3 {
         return Ok(queue.len() == call.a);
@@ -76,15 +76,15 @@ fn checks<D: Device>(
 /// Makes a call, and answers whether it came out right. With 0 in `c` an item of the place `a` and of this number is pushed.
 fn step<D: Device>(
     rig: &mut Rig<'_, D>,
-    queue: &mut ScanQueue,
+    queue: &mut RoomQueue,
     call: Record,
     number: u64,
 ) -> Result<bool, EmFault>
-    requires ready { ReadyQueue (2 ^ 20) (seen D.state rig.old) queue.old }
-    requires lacks { LacksFrom number (seen D.state rig.old) queue.old }
-    ensures kept { KeepsQueue (seen D.state rig.old) (seen D.state rig.new) queue.new result }
-    ensures calls { queue.new.calls ≤ queue.old.calls + 1 }
-    ensures lacks { OnOk result (LacksFrom (number + 1) (seen D.state rig.new) queue.new) }
+    requires ready { ReadyQueue (2 ^ 20) (seen D.state rig.old) queue.old.queue }
+    requires lacks { LacksFrom number (seen D.state rig.old) queue.old.queue }
+    ensures kept { KeepsQueue (seen D.state rig.old) (seen D.state rig.new) queue.new.queue result }
+    ensures calls { queue.new.queue.calls ≤ queue.old.queue.calls + 1 }
+    ensures lacks { OnOk result (LacksFrom (number + 1) (seen D.state rig.new) queue.new.queue) }
 {
     if call.c == 0 {
         push_next(rig, queue, call.a, number)?;
@@ -96,14 +96,14 @@ fn step<D: Device>(
 /// Makes some calls, numbered from 1, and answers whether all came out right.
 fn steps<D: Device>(
     rig: &mut Rig<'_, D>,
-    queue: &mut ScanQueue,
+    queue: &mut RoomQueue,
     calls: &[Record],
 ) -> Result<bool, EmFault>
-    requires ready { ReadyQueue (2 ^ 10) (seen D.state rig.old) queue.old }
+    requires ready { ReadyQueue (2 ^ 10) (seen D.state rig.old) queue.old.queue }
     requires few { length calls.now ≤ 2 ^ 19 }
-    requires lacks { LacksFrom 1 (seen D.state rig.old) queue.old }
-    ensures kept { KeepsQueue (seen D.state rig.old) (seen D.state rig.new) queue.new result }
-    ensures few { OnOk result (queue.new.calls ≤ 2 ^ 20) }
+    requires lacks { LacksFrom 1 (seen D.state rig.old) queue.old.queue }
+    ensures kept { KeepsQueue (seen D.state rig.old) (seen D.state rig.new) queue.new.queue result }
+    ensures few { OnOk result (queue.new.queue.calls ≤ 2 ^ 20) }
 {
     for number in 0..calls.len() {
         if !step(rig, queue, calls[number], number as u64 + 1)? {
@@ -116,13 +116,13 @@ fn steps<D: Device>(
 /// Makes the calls of the first list, and then what the script says with the second one.
 fn play<D: Device>(
     rig: &mut Rig<'_, D>,
-    queue: &mut ScanQueue,
+    queue: &mut RoomQueue,
     script: &str,
     lists: &[Vec<Record>],
 ) -> Result<bool, EmFault>
-    requires ready { ReadyNew (seen D.state rig.old) queue.old }
-    requires lacks { LacksFrom 1 (seen D.state rig.old) queue.old }
-    ensures kept { KeepsQueue (seen D.state rig.old) (seen D.state rig.new) queue.new result }
+    requires ready { ReadyNew (seen D.state rig.old) queue.old.queue }
+    requires lacks { LacksFrom 1 (seen D.state rig.old) queue.old.queue }
+    ensures kept { KeepsQueue (seen D.state rig.old) (seen D.state rig.new) queue.new.queue result }
 {
     if script == "sort" {
         return sorts(rig, queue);
@@ -147,7 +147,7 @@ pub fn follow<D: Device>(
     requires ready { CanPlay (seen D.state rig.old) }
     ensures kept { Keeps (seen D.state rig.old) (seen D.state rig.new) }
 {
-    let mut queue = ScanQueue::new(rig)?;
+    let mut queue = RoomQueue::new(rig)?;
     match play(rig, &mut queue, script, lists) {
         Ok(done) => {
             queue.end(rig)?;

@@ -3,7 +3,7 @@ mod Contents
 mod Numbers
 mod Ordered
 mod Pushed
-mod Rooms
+pub mod Rooms
 mod Shares
 mod Batches
 pub mod Stays

@@ -74,6 +74,7 @@ makes_ext {s} {t} {q} n = record {
   few = omega arith;
   area = omega arith;
   used = n.used;
+  most = n.most;
   pays = record {
     is = ⊎_elim
         (λ (h : 2 ^ 64 - 1 ≤ t.moves). inl h)
@@ -94,6 +95,8 @@ pub fails_ext : {s t : RigState} {fault : EmFault} → StopsNewTrunk s t fault
 fails_ext x = record {
   goes = x.goes;
   used = x.used;
+  most = x.most;
+  full = x.full;
   pays = x.pays;
   moves = x.moves;
   cause = x.cause;

@@ -5,11 +5,9 @@ use Rattle.em_io.specs.declared.shelf.Slot.{Slot}
 use Rattle.em_io.specs.declared.shelf.Slot.TheVariants.{First, Second}
 use Rattle.em_io.specs.Sink.{SentPart}
 use Rattle.em_frames.specs.Device.{DeviceState}
-use Rattle.em_ends.specs.Asked.{ToldIf}
-use Rattle.em_answers.specs.Limits.{asked_of_file, by_cost}
+use Rattle.em_answers.specs.Limits.{asked_of_file}
 use Rattle.em_answers.specs.FileDue.{due_status, output_text}
 use Rattle.em_ends.specs.Ended.{Ended, Outside}
-use Rattle.em_lines.specs.RunSize.{run_size}
 use Rattle.em_ends.specs.Status.{IfEndsDamaged, IfEndsFull, OnEnd, OnDone}
 use Rattle.em_ends.specs.declared.status.Status.{Status}
 use Rattle.em_ends.specs.declared.status.Status.TheVariants.{ReadFault}
@@ -43,10 +41,8 @@ ended_as {took} tells kind x y shape blocks old mid new status device output e r
           (r.prefix t (back d)));
       full = r.full;
       paid = r.paid;
-      size = λ t d. subst (λ (z : List ℕ). IfEndsFull status
-          (λ used. used ≤ by_cost.most shape (run_size kind z (new.stand.slot First).left)))
-          (e t) (r.size t (subst (λ (v : DeviceState). ToldIf by_cost.most_told v.told)
-          (sym device) d));
+      room = λ t d. subst (λ (z : List ℕ). IfEndsFull status (λ used. IfSome (asked_of_file kind z).room
+          (λ f. used < f shape new.stand.slot))) (e t) (r.room t (back d));
       moves = λ t d. subst (λ (z : List ℕ). IfSome (asked_of_file kind z).moves
           (λ f. new.device.moves ≤ old.device.moves + f shape new.stand.slot)) (e t)
           (subst (λ (v : DeviceState). IfSome (asked_of_file kind x).moves

@@ -1,5 +1,5 @@
 -- A run on made texts ends as the run of its task on them did, with its summary in place of the answers.
-use Rattle.std.proofs.Common.{◌≡◌, ℕ, ◌+◌, ◌≤◌, List, Option, Some, None, IfSome, ap, sym, subst, ◌∙◌, refl, arith, true, IsTrue}
+use Rattle.std.proofs.Common.{◌≡◌, ℕ, ◌+◌, ◌≤◌, List, Option, Some, None, IfSome, ap, sym, subst, ◌∙◌, refl, arith, true, IsTrue, ◌<◌}
 use Rattle.em_record.specs.Shape.{ShapeNumbers}
 use Rattle.em_io.specs.Shelf.{SlotState, Stand}
 use Rattle.em_io.specs.Sink.{IsRule, SentPart}
@@ -25,6 +25,14 @@ moves_whole : (moves : Option (ShapeNumbers → (Slot → SlotState) → ℕ)) (
     → IfSome (whole moves) (λ f. after ≤ before + f shape other)
 moves_whole None shape slots other before after r h = tt
 moves_whole (Some f) shape slots other before after r h = omega (arith, r, h)
+
+-- So are blocks that were fewer than are enough.
+room_whole : (room : Option (ShapeNumbers → (Slot → SlotState) → ℕ)) (shape : ShapeNumbers)
+    (slots other : Slot → SlotState) (used : ℕ)
+    → IfSome room (λ f. f shape slots ≤ f shape (λ slot. read_whole))
+    → IfSome room (λ f. used < f shape slots) → IfSome (whole room) (λ f. used < f shape other)
+room_whole None shape slots other used r h = tt
+room_whole (Some f) shape slots other used r h = omega (arith, r, h)
 
 -- The task's run left the tally `last`, and `b` on the made shelf.
 module _ {IsState : List ℕ → Type 0} {took : List ℕ → List ℕ → List ℕ} (rule : IsRule IsState took)
@@ -69,9 +77,9 @@ module _ {IsState : List ℕ → Type 0} {took : List ℕ → List ℕ → List 
       → SentPart took old.output (summary_if asked.status summary) new.output
   part_none same = part-of (sent-nothing rule ok (summary_if asked.status summary) same)
 
-  -- the blocks that the run may hold are no fewer for whole texts
+  -- the blocks that are enough for whole texts are no fewer
   abbrev Rises : Type 0
-  Rises = asked.most shape b.slot ≤ asked.most shape (λ slot. read_whole)
+  Rises = IfSome asked.room (λ f. f shape b.slot ≤ f shape (λ slot. read_whole))
 
   -- so are the moves that it may make
   abbrev MovesRise : Type 0
@@ -83,10 +91,6 @@ module _ {IsState : List ℕ → Type 0} {took : List ℕ → List ℕ → List 
       → IfSome (whole asked.moves) (λ f. new.device.moves ≤ old.device.moves + f shape new.stand.slot)
   kept m h t d =
       moves_whole asked.moves shape b.slot new.stand.slot old.device.moves new.device.moves m (h d)
-
-  most_whole : (used : ℕ) → Rises → used ≤ asked.most shape b.slot
-      → used ≤ asked.most shape (λ slot. read_whole)
-  most_whole used r h = omega (arith, r, h)
 
   -- It isn't done, and nothing was printed. A tally doesn't fail.
   pub ends_unsummed : (s : Status) → (s ≡ Done → ⊥) → (s ≡ WriteFault → ⊥) → OnUsage s ⊥ → Rises
@@ -109,7 +113,7 @@ module _ {IsState : List ℕ → Type 0} {took : List ℕ → List ℕ → List 
     prefix = λ t d. part_none same;
     full = tt;
     paid = tt;
-    size = λ t d. tt;
+    room = λ t d. tt;
     moves = kept m (e.moves refl);
     damaged = tt;
   }
@@ -119,7 +123,7 @@ module _ {IsState : List ℕ → Type 0} {took : List ℕ → List ℕ → List 
     prefix = λ t d. part_none same;
     full = e.full;
     paid = e.paid;
-    size = λ t d. most_whole used r (e.size refl d);
+    room = λ t d. room_whole asked.room shape b.slot new.stand.slot used r (e.room refl d);
     moves = kept m (e.moves refl);
     damaged = tt;
   }
@@ -129,7 +133,7 @@ module _ {IsState : List ℕ → Type 0} {took : List ℕ → List ℕ → List 
     prefix = λ t d. part_none same;
     full = tt;
     paid = tt;
-    size = λ t d. tt;
+    room = λ t d. tt;
     moves = kept m (e.moves refl);
     damaged = e.damaged;
   }
@@ -150,7 +154,7 @@ module _ {IsState : List ℕ → Type 0} {took : List ℕ → List ℕ → List 
     prefix = λ t d. part-of (sent-all (all ∙ ap (took old.output) (summary_due e d)));
     full = tt;
     paid = tt;
-    size = λ t d. tt;
+    room = λ t d. tt;
     moves = kept m (e.moves refl);
     damaged = tt;
   }
@@ -165,7 +169,7 @@ module _ {IsState : List ℕ → Type 0} {took : List ℕ → List ℕ → List 
         (summary_due e d) part;
     full = tt;
     paid = tt;
-    size = λ t d. tt;
+    room = λ t d. tt;
     moves = kept m (e.moves refl);
     damaged = tt;
   }

@@ -27,8 +27,10 @@ use Rattle.em_words.specs.declared.job.Task.TheVariants.{Answer, Eval}
 use Rattle.em_lines.specs.declared.text.FileKind.{FileKind}
 use Rattle.em_lines.specs.declared.text.FileKind.TheVariants.{Map, Queue, Stab}
 use Rattle.em_eval.proofs.EvalCosts.{eval_cost_rises}
+use Rattle.em_eval.proofs.EvalRoom.{eval_room_rises}
 use Rattle.em_lines.proofs.ReadLaws.{within_grows}
 use Rattle.em_eval.specs.EvalRun.{start_of}
+use Rattle.em_ready.proofs.RoomLaws.{room_rises}
 
 -- more commands report no fewer pairs
 pairs_rise : (xs : List NumberedInterval) (cs : List Command) (m n : ℕ) → m ≤ n
@@ -90,6 +92,13 @@ more_rounds : (wide : Bool) (few many : ℕ) → few ≤ many → rounds_of wide
 more_rounds false few many h = h
 more_rounds true few many h = let more = ceiling_rises few many 64 (omega arith) h in omega (arith, more)
 
+-- no less was read of a circuit whose text is read whole
+read_rises : (start : Option ℕ) (circuit : List ℕ) (slots : Slot → SlotState)
+    → circuit_read start (slots First) circuit ≤ circuit_read start read_whole circuit
+read_rises start circuit slots =
+    text_size_rises start (given_of (slots First) circuit) (given_of read_whole circuit) circuit
+    (given_most (slots First) circuit)
+
 -- nor is that of an evaluation of whole texts
 eval_rises : (wide : Bool) (start : Option ℕ) (shape : ShapeNumbers) (circuit stimulus : List ℕ) (slots : Slot → SlotState)
     → eval_cost shape (circuit_read start (slots First) circuit)
@@ -97,9 +106,7 @@ eval_rises : (wide : Bool) (start : Option ℕ) (shape : ShapeNumbers) (circuit 
     ≤ eval_cost shape (circuit_read start read_whole circuit)
     (rounds_of wide (steps_read start circuit read_whole stimulus)) (passes_read start circuit)
 eval_rises wide start shape circuit stimulus slots =
-    let size : circuit_read start (slots First) circuit ≤ circuit_read start read_whole circuit =
-    text_size_rises start (given_of (slots First) circuit) (given_of read_whole circuit) circuit
-    (given_most (slots First) circuit) in
+    let size = read_rises start circuit slots in
     let steps : steps_read start circuit (slots Second) stimulus
     ≤ steps_read start circuit read_whole stimulus =
     steps_rise (either_text start 0 circuit) (given_of (slots Second) stimulus)
@@ -110,15 +117,18 @@ eval_rises wide start shape circuit stimulus slots =
     (more_rounds wide (steps_read start circuit (slots Second) stimulus)
     (steps_read start circuit read_whole stimulus) steps)
 
--- No fewer blocks for whole texts.
+-- No fewer blocks are enough for whole texts.
 pub most_rises : (task : Task) (texts : Slot → List ℕ) (shape : ShapeNumbers)
-    (slots : Slot → SlotState)
-    → (asked_of task texts).most shape slots
-    ≤ (asked_of task texts).most shape (λ slot. read_whole)
+    (slots : Slot → SlotState) → IfSome (asked_of task texts).room
+    (λ f. f shape slots ≤ f shape (λ slot. read_whole))
 most_rises (Answer kind) texts shape slots =
-    let more = file_rises kind shape (texts First) (slots First).left in omega (arith, more)
+    let text = texts First in
+    room_rises shape (run_size kind text (slots First).left) (run_size kind text [])
+    (size_rises kind text (slots First).left [] (omega arith))
 most_rises (Eval uninit wide) texts shape slots =
-    let more = eval_rises wide (start_of uninit) shape (texts First) (texts Second) slots in omega (arith, more)
+    let read = circuit_read (start_of uninit) (slots First) (texts First) in
+    let all = circuit_read (start_of uninit) read_whole (texts First) in
+    eval_room_rises shape read all (read_rises (start_of uninit) (texts First) slots)
 
 -- Nor fewer moves.
 pub moves_rise : (task : Task) (texts : Slot → List ℕ) (shape : ShapeNumbers)

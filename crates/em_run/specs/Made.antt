@@ -65,13 +65,12 @@ whole None = None
 whole (Some f) = Some (λ shape slots. f shape (λ slot. read_whole))
 
 -- What a task on made texts asks, from what it asks of files with these texts: its status, its summary,
--- and the moves that it may make and the blocks that it may hold if both texts are read whole.
+-- and the moves that it may make and the blocks that are enough for it if both texts are read whole.
 abbrev pub summed_up : Task → ℕ → Asked → Asked
 summed_up task count asked = record {
   status = asked.status;
   status_told = asked.status_told;
   output = summary_if asked.status (summary_of task count asked.output);
   moves = whole asked.moves;
-  most = λ shape slots. asked.most shape (λ slot. read_whole);
-  most_told = asked.most_told;
+  room = whole asked.room;
 }

@@ -7,7 +7,7 @@ use Rattle.em_model.specs.MapAnswers.{answer_record, answer_records, get_numbers
 use Rattle.em_model.specs.Map.{map_answers}
 use Rattle.em_model.specs.declared.command.Command.{Command}
 use Rattle.em_model.specs.declared.command.Command.TheVariants.{Put, Del, Get, Push, Pop, Interval, Stab}
-use Rattle.aig_defs.specs.Graph.{AllLack}
+use Rattle.em_sorting.specs.Lacking.{AllLack}
 
 -- no two of these records have the same words a and b
 abbrev AllUnlike : List Record → Type 0

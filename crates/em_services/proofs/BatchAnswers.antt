@@ -1,12 +1,12 @@
 -- A batch is finished, and its answers are put in order.
-use Rattle.std.proofs.Common.{◌≡◌, ℕ, ◌+◌, ◌*◌, ◌<◌, ◌≤◌, List, length, ap, sym, ◌∙◌, arith, IsTrue, None, Some, Result, Ok, Err, IfOk, IfErr, OnErr}
+use Rattle.std.proofs.Common.{◌≡◌, ℕ, ◌+◌, ◌*◌, ◌<◌, ◌≤◌, List, length, ap, sym, ◌∙◌, arith, IsTrue, Some, Result, Ok, Err, IfOk, IfErr, OnErr}
 use Rattle.std.specs.Int.{div_ceil}
 use Rattle.em_record.specs.Shape.{ShapeNumbers, fan_of, payload_of}
 use Rattle.em_frames.specs.Pool.{GivenFrames, PoolCounts, SameFrames}
 use Rattle.em_model.specs.MapAnswers.{answer_records}
 use Rattle.em_model.specs.declared.command.Command.{Command}
 use Rattle.em_space.specs.Queue.{Pays}
-use Rattle.em_space.specs.Rig.{Cause, RigState, Touches}
+use Rattle.em_space.specs.Rig.{Cause, RigState, Touches, Sound}
 use Rattle.em_space.specs.declared.fault.EmFault.{EmFault}
 use Rattle.em_space.proofs.Paying.{pays_more, pays_then}
 use Rattle.em_space.proofs.Steps.{cause_after}
@@ -17,14 +17,21 @@ use Rattle.em_chain.specs.declared.chain.Chain.{Chain}
 use Rattle.em_chain.proofs.Counts.{packed_blocks}
 use Rattle.em_chain.proofs.Readers.{length_items}
 use Rattle.em_tree.specs.Calls.{StopsFinishing}
-use Rattle.em_tree_cost.specs.Shares.{chain_share, queue_share}
+use Rattle.em_tree_cost.specs.Shares.{chain_share, queue_share, tree_room}
 use Rattle.em_tree_cost.proofs.Ceilings.{ceil_is, ceil_mono, ceiling_is}
 use Rattle.em_tree_cost.proofs.Rising.{queue_share_rises}
 use Rattle.em_map.specs.Batch.{BatchCosts, FinishedBatch, HasCommands, batch_blocks, trunk_of}
 use Rattle.em_map.specs.declared.batch.Batch.{Batch}
-use Rattle.em_services.specs.BatchService.{AreAnswers, IsGivenBatch, OrdersAnswers, batch_counts, map_share, ordering_moves}
-use Rattle.em_services.specs.Service.{CanAnswer, GivesFrames, LeavesAnswers, WithinAllowance}
+use Rattle.em_services.specs.BatchService.{AreAnswers, IsGivenBatch, OrdersAnswers, batch_counts, map_share, ordering_moves, ordering_room}
+use Rattle.em_services.specs.Service.{CanAnswer, GivesFrames, LeavesAnswers, WithinAllowance, FullOverRoom, WithinRoom}
 use Rattle.em_services.proofs.AnswerOrder.{answers_lack, answers_most}
+use Rattle.em_record.specs.Cost.{room}
+use Rattle.em_plain.specs.Room.{StaysWithin}
+use Rattle.em_tree_walk.proofs.Losses.{chain_length}
+use Rattle.em_trunk.specs.Room.{FullOverRoom as TreeFullOverRoom, WithinRoom as TreeWithinRoom}
+use Rattle.em_map.proofs.Rooms.{given_blocks}
+use Rattle.em_services.specs.InOrder.{lists_room}
+use Rattle.em_ready.proofs.RoomLaws.{answers_room, commands_room, over_used, when_full}
 
 -- the blocks of a packed list of at most n records, read, released and written anew
 pub ceiling_share : (shape : ShapeNumbers) (count n : ℕ) → count ≤ n → 0 < payload_of shape
@@ -98,15 +105,22 @@ module _ (s m t : RigState) (b : Batch) (c : Chain) (f : FinishedBatch s m b c) 
     frames_are = given_then s.pool m.pool t.pool f.tree.frames o.goes.frames;
   }
 
+  -- the blocks in use, but for those of the answers
+  finished_used : IsTrue s.device.told → m.used + length (batch_blocks s b) ≡ s.used + c.blocks
+  finished_used z =
+      let used = f.tree.loses z in
+      let own = chain_length f.tree.chain (finished_touches.told ∙ z) in
+      omega (arith, used, own)
+
   pub answers_leaves : (result : Result Chain EmFault) → OrdersAnswers m t c result
-      → IfOk result (LeavesAnswers None (batch_blocks s b) (batch_counts b) s t)
+      → IfOk result (LeavesAnswers (Some room) (batch_blocks s b) (batch_counts b) s t)
   answers_leaves (Ok d) o = record {
     is = o.is;
     packed = λ z. o.packed (finished_touches.told ∙ z);
     within = within_then s m (batch_blocks s b) (chain_blocks m c) (chain_blocks t d)
         finished_touches f.tree.session.within o.session.within;
     pays = pays_then f.tree.pays o.pays o.session.touches.moves;
-    used = tt;
+    used = λ z. let used = o.used in let first = finished_used z in omega (arith, used, first);
   }
   answers_leaves (Err fault) o = tt
 
@@ -143,6 +157,11 @@ module _ (s m t : RigState) (b : Batch) (c : Chain) (f : FinishedBatch s m b c) 
   ordered_moves (Ok d) o z = o.moves z
   ordered_moves (Err fault) o z = o.moves z
 
+  ordered_room : (result : Result Chain EmFault) → OrdersAnswers m t c result
+      → IsTrue m.device.told → StaysWithin c.blocks (ordering_room m c) m t
+  ordered_room (Ok d) o z = o.room z
+  ordered_room (Err fault) o z = o.room z
+
   pub answers_moves : (result : Result Chain EmFault) → OrdersAnswers m t c result
       → IsGivenBatch s b → BatchCosts s m b → (cs : List Command) → HasCommands s b cs
       → WithinAllowance (Some map_share) (length cs) (batch_counts b).spent s t
@@ -153,6 +172,48 @@ module _ (s m t : RigState) (b : Batch) (c : Chain) (f : FinishedBatch s m b c) 
       let later = costs.later in
       let rest = order_moves i z in
       rw (← h.calls) (omega (arith, moves, own, later, rest))
+
+  -- At no moment the batch and its answers held more than the room.
+  module _ (i : IsGivenBatch s b) (sound : Sound s) where
+    finish_room : IsTrue s.device.told → tree_room s.pool.shape b.calls + (trunk_of b).answers.blocks
+        ≤ room s.pool.shape b.calls
+    finish_room z =
+        let given = given_blocks s b i.commands i.is i.has z sound.shape in
+        commands_room s.pool.shape b.calls b.calls (trunk_of b).answers.blocks sound.shape (omega arith)
+        given
+
+    order_room : IsTrue s.device.told → ordering_room m c ≤ room s.pool.shape b.calls
+    order_room z =
+        let told = finished_touches.told ∙ z in
+        let few = answers_count s m b c f i z in
+        let low : 128 ≤ m.pool.shape.block = f.tree.session.sound.shape.block_low in
+        let blocks = packed_blocks m c low f.tree.chain told (f.tree.packed z) in
+        let most = answers_room m.pool.shape c.count b.calls (lists_room m c)
+        f.tree.session.sound.shape few (omega (arith, blocks)) in
+        rw (← f.tree.frames.shape) most
+
+    pub answers_room_is : (result : Result Chain EmFault) → OrdersAnswers m t c result
+        → (IsTrue s.device.told → TreeWithinRoom b.calls s m (trunk_of b))
+        → (cs : List Command) → HasCommands s b cs
+        → WithinRoom (Some room) (length cs) (batch_blocks s b) s t
+    answers_room_is result o w cs h = λ z.
+        let first = (w z).most in
+        let last = (ordered_room result o (finished_touches.told ∙ z)).is in
+        let used = finished_used z in
+        let one = finish_room z in
+        let two = order_room z in
+        rw (← h.calls) (record { is = omega (arith, first, last, used, one, two) })
+
+    pub answers_full : (result : Result Chain EmFault) → OrdersAnswers m t c result
+        → (cs : List Command) → HasCommands s b cs
+        → IfErr result (FullOverRoom (Some room) (length cs) (batch_blocks s b) s)
+    answers_full (Ok d) o cs h = tt
+    answers_full (Err fault) o cs h = λ z.
+        let used = finished_used z in
+        let two = order_room z in
+        when_full fault (λ n. n + c.blocks < m.used + ordering_room m c)
+        (λ n. n + length (batch_blocks s b) < s.used + room s.pool.shape (length cs))
+        (λ n less. rw (← h.calls) (omega (arith, less, used, two))) (o.full (finished_touches.told ∙ z))
 
   pub answers_cause : (result : Result Chain EmFault) → OrdersAnswers m t c result
       → IfErr result (Cause s t)
@@ -177,3 +238,27 @@ module _ (s t : RigState) (b : Batch) (fault : EmFault) (h : StopsFinishing s t 
         let own = costs.share z in
         let later = costs.later in
         rw (← k.calls) (omega (arith, own, later))
+
+    module _ (i : IsGivenBatch s b) (sound : Sound s) where
+      unfinished_own : IsTrue s.device.told
+          → tree_room s.pool.shape b.calls + (trunk_of b).answers.blocks ≤ room s.pool.shape b.calls
+      unfinished_own z =
+          let given = given_blocks s b i.commands i.is i.has z sound.shape in
+          commands_room s.pool.shape b.calls b.calls (trunk_of b).answers.blocks sound.shape (omega arith)
+          given
+
+      pub unfinished_room : (IsTrue s.device.told → TreeWithinRoom b.calls s t (trunk_of b))
+          → (cs : List Command) → HasCommands s b cs
+          → WithinRoom (Some room) (length cs) (batch_blocks s b) s t
+      unfinished_room w cs k = λ z.
+          let most = (w z).most in
+          let own = unfinished_own z in
+          rw (← k.calls) (record { is = omega (arith, most, own) })
+
+      pub unfinished_full : (IsTrue s.device.told → TreeFullOverRoom b.calls s (trunk_of b) fault)
+          → (cs : List Command) → HasCommands s b cs
+          → FullOverRoom (Some room) (length cs) (batch_blocks s b) s fault
+      unfinished_full over cs k = λ z.
+          rw (← k.calls) (over_used fault (length (batch_blocks s b)) s.used
+          (tree_room s.pool.shape b.calls + (trunk_of b).answers.blocks) (room s.pool.shape b.calls) s t
+          (over z).full h.cause h.touches.blocks (unfinished_own z))

@@ -1,5 +1,5 @@
 -- A batch as a service: what its calls leave.
-use Rattle.std.proofs.Common.{◌+◌, ◌*◌, List, [], ◌∷◌, ◌++◌, ap, arith, None, Some, Result, Ok, Err, OnOk, OnErr, IfOk, IfErr}
+use Rattle.std.proofs.Common.{◌+◌, ◌*◌, List, [], ◌∷◌, ◌++◌, ap, arith, Some, Result, Ok, Err, OnOk, OnErr, IfOk, IfErr, ◌≡◌, ◌≤◌, length, IsTrue}
 use Rattle.em_model.specs.declared.command.Command.{Command}
 use Rattle.em_space.specs.Queue.{Pays}
 use Rattle.em_space.specs.Rig.{Cause, Goes, RigState, Sound}
@@ -8,15 +8,20 @@ use Rattle.em_space.proofs.Paying.{pays_more}
 use Rattle.em_chain.specs.Effects.{Unmoved}
 use Rattle.em_tree.specs.Calls.{StopsNewTrunk}
 use Rattle.em_trunk.specs.Lists.{LeavesTrunk}
-use Rattle.em_map.specs.Batch.{BatchHasFrames, CountsCommand, HasCommands, IsNewBatch, TakesTo, batch_blocks}
+use Rattle.em_map.specs.Batch.{BatchHasFrames, CountsCommand, HasCommands, IsNewBatch, TakesTo, batch_blocks, trunk_of}
 use Rattle.em_map.specs.declared.batch.Batch.{Batch}
 use Rattle.em_services.specs.BatchService.{IsGivenBatch, batch_counts, map_share}
-use Rattle.em_services.specs.Service.{GivesFrames, MakesService, TakesCommand, WithinAllowance}
+use Rattle.em_services.specs.Service.{GivesFrames, MakesService, TakesCommand, WithinAllowance, FullOverRoom, WithinRoom}
 use Rattle.em_services.proofs.OrderedBatch.{share_some}
+use Rattle.em_record.specs.Cost.{room}
+use Rattle.em_trunk.specs.Room.{FullOverRoom as TreeFullOverRoom, WithinRoom as TreeWithinRoom}
+use Rattle.em_tree_cost.specs.Shares.{tree_room}
+use Rattle.em_map.proofs.Rooms.{given_blocks}
+use Rattle.em_ready.proofs.RoomLaws.{commands_room, over_used, room_some, two_missing}
 
 -- A batch was made,
 pub made : (s t : RigState) (result : Result Batch EmFault) → IfOk result (IsNewBatch s t)
-    → IfOk result (λ b. MakesService (Some map_share) None 2 (batch_blocks t b) (batch_counts b) s t)
+    → IfOk result (λ b. MakesService (Some map_share) (Some room) 2 (batch_blocks t b) (batch_counts b) s t)
 made s t (Ok b) n = record {
   sound = n.tree.session.sound;
   touches = n.tree.session.touches;
@@ -24,7 +29,7 @@ made s t (Ok b) n = record {
   within = n.tree.session.within;
   n = n.none.calls;
   pays = pays_more n.tree.pays (omega arith);
-  used = tt;
+  used = λ z. let used = n.tree.loses z in omega (arith, used);
   spent = let spent = n.tree.spent in omega (arith, spent);
 }
 made s t (Err fault) n = tt
@@ -38,6 +43,23 @@ made_moves s t (Ok b) n h = λ z.
 made_moves s t (Err fault) n h = λ z.
     let moves = h.moves in
     let some = share_some s.pool.shape (2 * 0) (2 * 0) in omega (arith, moves, some)
+
+-- and at most two blocks,
+pub made_room : (s t : RigState) (result : Result Batch EmFault) → IfOk result (IsNewBatch s t)
+    → IfErr result (StopsNewTrunk s t) → WithinRoom (Some room) 0 [] s t
+made_room s t (Ok b) n h = λ z.
+    let most = n.tree.most in
+    let some = room_some s.pool.shape 0 in record { is = omega (arith, most, some) }
+made_room s t (Err fault) n h = λ z.
+    let most = h.most in
+    let some = room_some s.pool.shape 0 in record { is = omega (arith, most, some) }
+
+pub made_full : (s t : RigState) (result : Result Batch EmFault)
+    → IfErr result (StopsNewTrunk s t) → IfErr result (FullOverRoom (Some room) 0 [] s)
+made_full s t (Ok b) h = tt
+made_full s t (Err fault) h = λ z.
+    let some = room_some s.pool.shape 0 in
+    two_missing fault 0 (room s.pool.shape 0) s t h.full h.cause h.goes.touches.blocks (omega (arith, some))
 
 pub made_given : (s t : RigState) (result : Result Batch EmFault) → IfOk result (IsNewBatch s t)
     → IfOk result (IsGivenBatch t)
@@ -73,6 +95,31 @@ take_moves s t b d n = λ z.
     let share = rw (n.calls) at (n.share z) in
     let spent = n.tree.spent in omega (arith, share, spent)
 
+-- and at most the blocks of its room,
+module _ (s t : RigState) (b : Batch) (i : IsGivenBatch s b) (sound : Sound s) where
+  own_room : IsTrue s.device.told → tree_room s.pool.shape (b.calls + 1) + (trunk_of b).answers.blocks
+      ≤ room s.pool.shape (b.calls + 1)
+  own_room z =
+      let given = given_blocks s b i.commands i.is i.has z sound.shape in
+      commands_room s.pool.shape b.calls (b.calls + 1) (trunk_of b).answers.blocks sound.shape
+      (omega arith) given
+
+  pub take_room : (IsTrue s.device.told → TreeWithinRoom (b.calls + 1) s t (trunk_of b))
+      → WithinRoom (Some room) ((batch_counts b).n + 1) (batch_blocks s b) s t
+  take_room w = λ z.
+      let most = (w z).most in
+      let own = own_room z in record { is = omega (arith, most, own) }
+
+  pub take_full : {T : Type 0} (result : Result T EmFault)
+      → IfErr result (λ fault. IsTrue s.device.told → TreeFullOverRoom (b.calls + 1) s (trunk_of b) fault)
+      → IfErr result (Cause s t) → t.blocks ≡ s.blocks
+      → IfErr result (FullOverRoom (Some room) ((batch_counts b).n + 1) (batch_blocks s b) s)
+  take_full (Ok x) over cause same = tt
+  take_full (Err fault) over cause same = λ z.
+      over_used fault (length (batch_blocks s b)) s.used
+      (tree_room s.pool.shape (b.calls + 1) + (trunk_of b).answers.blocks)
+      (room s.pool.shape (b.calls + 1)) s t (over z).full cause same (own_room z)
+
 -- or the call gave up.
 module _ (T : Type 0) (c : Command) (s t : RigState) (b d : Batch) where
   pub take_goes : (result : Result T EmFault) → TakesTo c s t b d result
@@ -103,13 +150,13 @@ module _ (T : Type 0) (c : Command) (s t : RigState) (b d : Batch) where
   take_has (Err fault) h = tt
 
   pub takes : (result : Result T EmFault) → TakesTo c s t b d result → CountsCommand s t b d
-      → OnOk result (TakesCommand (Some map_share) None (batch_blocks s b) (batch_blocks t d)
+      → OnOk result (TakesCommand (Some map_share) (Some room) (batch_blocks s b) (batch_blocks t d)
       (batch_counts b) (batch_counts d) s t)
   takes (Ok x) h n = record {
     within = h.tree.session.within;
     n = n.calls;
     pays = h.tree.pays;
-    used = tt;
+    used = λ z. h.tree.loses z;
     spent = let spent = n.tree.spent in omega (arith, spent);
   }
   takes (Err fault) h n = tt

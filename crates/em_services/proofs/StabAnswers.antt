@@ -1,14 +1,14 @@
 -- An interval list is finished by a queue that is made for it.
-use Rattle.std.proofs.Common.{◌≡◌, ℕ, ◌+◌, ◌*◌, ◌≤◌, List, [], ◌++◌, length, ap, sym, subst, ◌∙◌, arith, IsTrue, IfSome, Option, None, Some, Result, Ok, Err, IfOk, OnErr, IfErr}
+use Rattle.std.proofs.Common.{◌≡◌, ℕ, ◌+◌, ◌*◌, ◌≤◌, List, [], ◌++◌, length, ap, sym, subst, ◌∙◌, arith, IsTrue, IfSome, Option, Some, Result, Ok, Err, IfOk, OnErr, IfErr, ◌<◌, max}
 use Rattle.std.proofs.Math.Nat.{mul-le-mul_left}
-use Rattle.em_record.specs.Cost.{blocks_of, lev}
+use Rattle.em_record.specs.Cost.{blocks_of, lev, room}
 use Rattle.em_record.specs.Shape.{ShapeNumbers, fan_of}
 use Rattle.em_frames.specs.Pool.{GivenFrames, PoolCounts, singles_of}
 use Rattle.em_model.specs.StabAnswers.{stab_pairs}
 use Rattle.em_model.specs.declared.command.Command.{Command}
 use Rattle.em_space.specs.Ledger.{Session}
 use Rattle.em_space.specs.Queue.{Pays, QueueCounts, Shares}
-use Rattle.em_space.specs.Rig.{Cause, RigState, Sound}
+use Rattle.em_space.specs.Rig.{Cause, RigState, Sound, IfFull}
 use Rattle.em_space.specs.declared.fault.EmFault.{EmFault}
 use Rattle.em_space.specs.declared.fault.EmFault.TheVariants.{Damaged, DeviceFault, Full}
 use Rattle.em_space.specs.declared.queue.Queue.{Ghosts as QueueGhosts}
@@ -19,15 +19,18 @@ use Rattle.em_space.proofs.Steps.{cause_after, goes_nothing, touches_then, touch
 use Rattle.em_space.proofs.Within.{touches_within}
 use Rattle.em_chain.specs.Chain.{chain_items}
 use Rattle.em_chain.specs.declared.chain.Chain.{Chain}
-use Rattle.em_segment.specs.Finishes.{CanFinish, FinishesTo, GivesAll, StabCosts}
+use Rattle.em_segment.specs.Finishes.{CanFinish, FinishesTo, GivesAll, StabCosts, FullIfSmall}
 use Rattle.em_segment.specs.Stabs.{HasCommands, IsStab, LeavesStab, StabHasFrames, stab_account, stab_blocks, stab_size}
 use Rattle.em_segment.specs.declared.stab.Stab.{Stab}
 use Rattle.em_segment.proofs.StabCalls.{stab_few}
 use Rattle.em_segment.proofs.StabLaws.{StabStays, stab_beside, stab_frames_stay}
-use Rattle.em_tree_cost.specs.Shares.{queue_share, stab_share}
+use Rattle.em_tree_cost.specs.Shares.{queue_share, stab_share, stab_room, tree_room}
 use Rattle.em_ready.specs.Queues.{FailsToMake, MakesQueue}
-use Rattle.em_services.specs.Service.{CanAnswer, GivesFrames, LeavesAnswers, WithinAllowance}
+use Rattle.em_services.specs.Service.{CanAnswer, GivesFrames, LeavesAnswers, WithinAllowance, FullOverRoom, WithinRoom}
 use Rattle.em_services.specs.StabService.{stab_counts}
+use Rattle.em_tree_cost.proofs.Rising.{tree_room_rises}
+use Rattle.em_ready.proofs.RoomLaws.{finish_room, stabs_room, two_missing, when_full}
+use Rattle.em_services.proofs.Stabbing.{list_length}
 
 -- the frames of a queue that was made came back with the two of the list
 given_all : (c : QueueCounts) (p q r : PoolCounts)
@@ -113,13 +116,16 @@ module _ {Q : Type 0} (q : QueueGhosts Q) (x : Q) (v : Stab) (s m : RigState) (s
     }
 
     pub finish_leaves : (result : Result Chain EmFault) → FinishesTo q x m t v result
-        → IfOk result (LeavesAnswers None (stab_blocks s v) (stab_counts v) s t)
+        → IfOk result (LeavesAnswers (Some room) (stab_blocks s v) (stab_counts v) s t)
     finish_leaves (Ok c) f = record {
       is = f.chain;
       packed = λ z. f.packed (makes.session.touches.told ∙ z);
       within = (session_trans both_stand f.session).within;
       pays = pays_then owed_before f.pays f.session.touches.moves;
-      used = tt;
+      used = λ z.
+          let used = f.used in
+          let made = makes.used in
+          let own = list_length s v i z in omega (arith, used, made, own);
     }
     finish_leaves (Err fault) h = tt
 
@@ -166,6 +172,86 @@ module _ {Q : Type 0} (q : QueueGhosts Q) (x : Q) (v : Stab) (s m : RigState) (s
         let spent = makes.spent in
         omega (arith, here, spent)
 
+    -- At no moment list and queue held more than the room.
+    module _ (is_room : q.room ≡ Some tree_room)
+        (fits : IsTrue m.device.told → IfSome q.room (λ f. (q.counts x).most ≤ f m.pool.shape (q.counts x).k))
+        (cs : List Command) (h : HasCommands s v cs) where
+      abbrev size : ℕ
+      size = length cs + length (stab_pairs cs)
+
+      -- a queue that isn't called has less room,
+      new_fits : IsTrue s.device.told → (q.counts x).most ≤ tree_room s.pool.shape (4 * size)
+      new_fits z =
+          let k = makes.new.k in
+          let own : (q.counts x).most ≤ tree_room m.pool.shape (q.counts x).k =
+          subst (λ (o : Option (ShapeNumbers → ℕ → ℕ)). IfSome o
+          (λ f. (q.counts x).most ≤ f m.pool.shape (q.counts x).k)) is_room
+          (fits (makes.session.touches.told ∙ z)) in
+          let rises = tree_room_rises m.pool.shape (q.counts x).k (4 * size) (omega (arith, k)) in
+          rw (← makes.session.touches.shape) (omega (arith, own, rises))
+
+      -- as has a list that wasn't finished
+      list_fits : (stab_account v).blocks ≤ stab_room s.pool.shape size
+      list_fits =
+          let len = h.len in
+          let few = stab_few size sound i (omega (arith, len)) in
+          omega (arith, few)
+
+      pub finish_room_is : (IsTrue m.device.told → (cs : List Command) → HasCommands m v cs
+          → StabCosts q x m t v cs) → WithinRoom (Some room) size (stab_blocks s v) s t
+      finish_room_is costs = λ z.
+          let c = costs (makes.session.touches.told ∙ z) cs (list_beside.commands cs h) in
+          let within : t.most + ((q.counts x).blocks + (stab_account v).blocks)
+          ≤ max (m.most + ((q.counts x).blocks + (stab_account v).blocks))
+          (m.used + (tree_room m.pool.shape (4 * stab_size v cs) + stab_room m.pool.shape (stab_size v cs))) =
+          subst (λ (o : Option (ShapeNumbers → ℕ → ℕ)). IfSome o (λ f. (q.counts x).n ≡ 0
+          → t.most + ((q.counts x).blocks + (stab_account v).blocks)
+          ≤ max (m.most + ((q.counts x).blocks + (stab_account v).blocks))
+          (m.used + (f m.pool.shape (4 * stab_size v cs) + stab_room m.pool.shape (stab_size v cs)))))
+          is_room c.room makes.new.n in
+          let here : t.most + ((q.counts x).blocks + (stab_account v).blocks)
+          ≤ max (m.most + ((q.counts x).blocks + (stab_account v).blocks))
+          (m.used + (tree_room s.pool.shape (4 * size) + stab_room s.pool.shape size)) =
+          rw (makes.session.touches.shape, h.len) at within in
+          let wide = finish_room s.pool.shape size sound.shape in
+          let own = list_length s v i z in
+          let new = new_fits z in
+          let first = makes.most in
+          let used = makes.used in
+          let list = list_fits in
+          record { is = omega (arith, here, wide, own, new, first, used, list) }
+
+      pub finish_full : (result : Result Chain EmFault)
+          → (IsTrue m.device.told → (cs : List Command) → HasCommands m v cs
+          → FullIfSmall q x m v cs result)
+          → IfErr result (FullOverRoom (Some room) size (stab_blocks s v) s)
+      finish_full (Ok c) over = tt
+      finish_full (Err fault) over = λ z.
+          let all : IfFull fault (λ used. IfSome q.room (λ f. (q.counts x).n ≡ 0
+          → used + ((q.counts x).blocks + (stab_account v).blocks)
+          < m.used + (f m.pool.shape (4 * stab_size v cs) + stab_room m.pool.shape (stab_size v cs)))) =
+          over (makes.session.touches.told ∙ z) cs (list_beside.commands cs h) in
+          let full : IfFull fault (λ used. (q.counts x).n ≡ 0
+          → used + ((q.counts x).blocks + (stab_account v).blocks)
+          < m.used + (tree_room m.pool.shape (4 * stab_size v cs) + stab_room m.pool.shape (stab_size v cs))) =
+          subst (λ (o : Option (ShapeNumbers → ℕ → ℕ)). IfFull fault (λ used. IfSome o (λ f.
+          (q.counts x).n ≡ 0 → used + ((q.counts x).blocks + (stab_account v).blocks)
+          < m.used + (f m.pool.shape (4 * stab_size v cs) + stab_room m.pool.shape (stab_size v cs)))))
+          is_room all in
+          let here : IfFull fault (λ used. (q.counts x).n ≡ 0
+          → used + ((q.counts x).blocks + (stab_account v).blocks)
+          < m.used + (tree_room s.pool.shape (4 * size) + stab_room s.pool.shape size)) =
+          rw (makes.session.touches.shape, h.len) at full in
+          let wide = finish_room s.pool.shape size sound.shape in
+          let own = list_length s v i z in
+          let used = makes.used in
+          let none = makes.new.n in
+          when_full fault (λ n. (q.counts x).n ≡ 0
+          → n + ((q.counts x).blocks + (stab_account v).blocks)
+          < m.used + (tree_room s.pool.shape (4 * size) + stab_room s.pool.shape size))
+          (λ n. n + length (stab_blocks s v) < s.used + room s.pool.shape size)
+          (λ n less. let small = less none in omega (arith, small, wide, own, used)) here
+
 -- None was made, and the list was abandoned.
 left_cause : (s m : RigState) (p : PoolCounts) (fault : EmFault) → Cause s m fault
     → Cause s (record m { pool = p }) fault
@@ -205,6 +291,33 @@ module _ (v : Stab) (s m : RigState) (fault : EmFault) (sound : Sound s) (i : Is
         let low = sound.shape.frames_low in
         subst (λ (x : RigState). Pays (stab_counts v).unstored (2 * s.pool.shape.frames) s x)
         (sym l.same) (record { is = (pays_more {p = (stab_counts v).unstored} fails.pays (omega (arith, low))).is })
+
+    module _ (cs : List Command) (h : HasCommands s v cs) where
+      list_small : 2 + (stab_account v).blocks
+          ≤ room s.pool.shape (length cs + length (stab_pairs cs))
+      list_small =
+          let n = length cs + length (stab_pairs cs) in
+          let len = h.len in
+          let few = stab_few n sound i (omega (arith, len)) in
+          let wide = stabs_room s.pool.shape n sound.shape in
+          omega (arith, few, wide)
+
+      pub unmade_room : WithinRoom (Some room) (length cs + length (stab_pairs cs)) (stab_blocks s v) s t
+      unmade_room = λ z.
+          let own = list_length s v i z in
+          let small = list_small in
+          let most = fails.most in
+          let same = ap (λ (x : RigState). x.most) l.same in
+          record { is = omega (arith, own, small, most, same) }
+
+      pub unmade_full : FullOverRoom (Some room) (length cs + length (stab_pairs cs)) (stab_blocks s v) s
+          fault
+      unmade_full = λ z.
+          let own = list_length s v i z in
+          let small = list_small in
+          two_missing fault (length (stab_blocks s v))
+          (room s.pool.shape (length cs + length (stab_pairs cs))) s m fails.full fails.cause
+          fails.goes.touches.blocks (omega (arith, own, small))
 
     pub unmade_cause : Cause s t fault
     unmade_cause = subst (λ (x : RigState). Cause s x fault) (sym l.same)

@@ -1,5 +1,5 @@
 -- An interval list as a service: what its calls leave.
-use Rattle.std.proofs.Common.{◌≡◌, ◌+◌, List, [], ◌∷◌, ◌++◌, ap, refl, arith, inr, None, Some, Result, Ok, Err, IsOk, OnOk, OnErr, IfOk, IfErr}
+use Rattle.std.proofs.Common.{◌≡◌, ◌+◌, List, [], ◌∷◌, ◌++◌, ap, refl, arith, inr, Some, Result, Ok, Err, IsOk, OnOk, OnErr, IfOk, IfErr, ◌<◌, length, ◌∙◌, IsTrue}
 use Rattle.std.proofs.lemmas.List.{length-append}
 use Rattle.em_model.specs.declared.command.Command.{Command}
 use Rattle.em_space.specs.Queue.{Pays}
@@ -10,11 +10,14 @@ use Rattle.em_space.proofs.Runs.{runs_goes}
 use Rattle.em_chain.specs.Effects.{Unmoved}
 use Rattle.em_chain.specs.Writer.{IsWriter, writer_blocks}
 use Rattle.em_chain.specs.declared.writer.Writer.{Writer}
-use Rattle.em_segment.specs.Stabs.{HasCommands, IsNewStab, IsStab, LeavesStab, StabHasFrames, TakeCosts, TakesTo, stab_blocks}
+use Rattle.em_segment.specs.Stabs.{HasCommands, IsNewStab, IsStab, LeavesStab, StabHasFrames, TakeCosts, TakesTo, stab_blocks, FullOverRoom as StabFullOverRoom, stab_account, stab_len}
 use Rattle.em_segment.specs.declared.stab.Stab.{Stab}
-use Rattle.em_tree_cost.specs.Shares.{stab_share}
-use Rattle.em_services.specs.Service.{GivesFrames, MakesService, TakesCommand, WithinAllowance}
+use Rattle.em_tree_cost.specs.Shares.{stab_share, stab_room}
+use Rattle.em_services.specs.Service.{GivesFrames, MakesService, TakesCommand, WithinAllowance, FullOverRoom, WithinRoom}
 use Rattle.em_services.specs.StabService.{stab_counts}
+use Rattle.em_record.specs.Cost.{room}
+use Rattle.em_tree_walk.proofs.Losses.{writer_length}
+use Rattle.em_ready.proofs.RoomLaws.{stabs_room, when_full}
 
 -- a list that counts no block has none
 no_blocks : (t : RigState) (w : Writer) → IsWriter t w → w.blocks ≡ 0 → writer_blocks t w ≡ []
@@ -28,9 +31,18 @@ new_blocks s t v n =
       no_blocks t v.stabs n.is.stabs.writer (omega (arith, none)),
     ) refl
 
+-- a list holds as many blocks as it counts
+pub list_length : (s : RigState) (v : Stab) → IsStab s v → IsTrue s.device.told
+    → length (stab_blocks s v) ≡ (stab_account v).blocks
+list_length s v i z =
+    let pieces = writer_length i.intervals.writer z in
+    let points = writer_length i.stabs.writer z in
+    let both = length-append (writer_blocks s v.intervals) (writer_blocks s v.stabs) in
+    omega (arith, pieces, points, both)
+
 -- An interval list was made,
 pub made : (s t : RigState) (result : Result Stab EmFault) → IfOk result (IsNewStab s t)
-    → IfOk result (λ v. MakesService (Some stab_share) None 2 (stab_blocks t v) (stab_counts v) s t)
+    → IfOk result (λ v. MakesService (Some stab_share) (Some room) 2 (stab_blocks t v) (stab_counts v) s t)
 made s t (Ok v) n = record {
   sound = n.sound;
   touches = n.touches;
@@ -41,7 +53,9 @@ made s t (Ok v) n = record {
     is = let used = n.unmoved.same.used in
         let moves = n.unmoved.moves in inr (omega (arith, used, moves));
   };
-  used = tt;
+  used = λ z.
+      let none = ap length (new_blocks s t v n) in
+      let used = n.unmoved.same.used in omega (arith, none, used);
   spent = let moves = n.unmoved.moves in omega (arith, moves);
 }
 made s t (Err fault) n = tt
@@ -62,6 +76,12 @@ pub made_moves : (s t : RigState) (result : Result Stab EmFault) → IsOk result
 made_moves s t (Ok v) ok n = λ z. let moves = n.unmoved.moves in omega (arith, moves)
 made_moves s t (Err fault) ok n = cc
 
+-- and no block,
+pub made_room : (s t : RigState) (result : Result Stab EmFault) → IsOk result
+    → IfOk result (IsNewStab s t) → WithinRoom (Some room) 0 [] s t
+made_room s t (Ok v) ok n = λ z. let most = n.unmoved.same.most in record { is = omega (arith, most) }
+made_room s t (Err fault) ok n = cc
+
 -- which never fails.
 pub made_surely : (P : Type 0) (result : Result Stab EmFault) → IsOk result → OnErr result P
 made_surely P (Ok v) ok = tt
@@ -75,6 +95,27 @@ made_by P (Err fault) ok = cc
 pub take_moves : (s t : RigState) (v : Stab) → TakeCosts s t v
     → WithinAllowance (Some stab_share) ((stab_counts v).n + 1) (stab_counts v).spent s t
 take_moves s t v costs = λ z. let share = costs.share in omega (arith, share)
+
+-- and at most the blocks of its room,
+pub take_room : (s t : RigState) (v : Stab) → Sound s → IsStab s v → TakeCosts s t v
+    → WithinRoom (Some room) ((stab_counts v).n + 1) (stab_blocks s v) s t
+take_room s t v sound i costs = λ z.
+    let most = costs.room in
+    let own = list_length s v i z in
+    let wide = stabs_room s.pool.shape (stab_len v + 1) sound.shape in
+    record { is = omega (arith, most, own, wide) }
+
+pub take_full : {T : Type 0} (s : RigState) (v : Stab) (result : Result T EmFault) → Sound s
+    → IsStab s v → StabFullOverRoom s v result
+    → IfErr result (FullOverRoom (Some room) ((stab_counts v).n + 1) (stab_blocks s v) s)
+take_full s v (Ok x) sound i over = tt
+take_full s v (Err fault) sound i over = λ z.
+    let own = list_length s v i z in
+    let wide = stabs_room s.pool.shape (stab_len v + 1) sound.shape in
+    when_full fault
+    (λ used. used + (stab_account v).blocks < s.used + stab_room s.pool.shape (stab_len v + 1))
+    (λ used. used + length (stab_blocks s v) < s.used + room s.pool.shape (stab_len v + 1))
+    (λ used less. omega (arith, less, own, wide)) over
 
 -- or the call gave up.
 module _ (T : Type 0) (c : Command) (s t : RigState) (v w : Stab) where
@@ -98,7 +139,7 @@ module _ (T : Type 0) (c : Command) (s t : RigState) (v w : Stab) where
   take_has (Err fault) h = tt
 
   pub takes : (result : Result T EmFault) → TakesTo c s t v w result → IsStab s v
-      → OnOk result (TakesCommand (Some stab_share) None (stab_blocks s v) (stab_blocks t w)
+      → OnOk result (TakesCommand (Some stab_share) (Some room) (stab_blocks s v) (stab_blocks t w)
       (stab_counts v) (stab_counts w) s t)
   takes (Ok x) h i = record {
     within = h.runs.session.within;
@@ -107,7 +148,11 @@ module _ (T : Type 0) (c : Command) (s t : RigState) (v w : Stab) where
         let before = i.has.len in
         let one = length-append i.given (c ∷ []) in omega (arith, more, before, one);
     pays = h.runs.spends.pays;
-    used = tt;
+    used = λ z.
+        let used = h.runs.spends.used in
+        let before = list_length s v i z in
+        let after = list_length t w h.is (h.runs.session.touches.told ∙ z) in
+        omega (arith, used, before, after);
     spent = let moves = h.runs.spends.moves in omega (arith, moves);
   }
   takes (Err fault) h i = tt

@@ -12,6 +12,8 @@ use Rattle.em_tree_cost.proofs.Rising.{batch_share_rises, div_ceil_rises, queue_
 use Rattle.em_services.specs.BatchService.{IsGivenBatch, map_share}
 use Rattle.em_services.specs.Service.{FramesOut, RisesBySize}
 use Rattle.em_lines.specs.declared.text.FileKind.TheVariants.{Map, Queue}
+use Rattle.em_record.specs.Cost.{room}
+use Rattle.em_ready.proofs.RoomLaws.{room_rises}
 
 pub no_queue : Map ≡ Queue → ⊥
 no_queue e = cc
@@ -56,3 +58,7 @@ rising shape m n is h =
 
 pub unstored_most : (b : Batch) → batch_unstored b ≤ 2
 unstored_most b = omega arith
+
+-- nor less room
+pub rising_room : RisesBySize room
+rising_room shape m n is h = room_rises shape m n h

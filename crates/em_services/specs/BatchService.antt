@@ -1,22 +1,24 @@
 -- A batch as a service, and its answers in order.
-use Rattle.std.specs.Prelude.{◌≡◌, ℕ, ◌+◌, ◌*◌, ◌≤◌, ◌^◌, List, [], IsTrue, Result, Ok, Err}
+use Rattle.std.specs.Prelude.{◌≡◌, ℕ, ◌+◌, ◌*◌, ◌≤◌, ◌^◌, List, [], IsTrue, Result, Ok, Err, ◌<◌}
 use Rattle.em_record.specs.Order.{in_order}
 use Rattle.em_record.specs.Shape.{ShapeNumbers}
 use Rattle.em_frames.specs.Pool.{SameFrames}
 use Rattle.em_model.specs.declared.command.Command.{Command}
 use Rattle.em_space.specs.Ledger.{Session}
 use Rattle.em_space.specs.Queue.{Pays}
-use Rattle.em_space.specs.Rig.{Cause, Goes, RigState, Sound}
+use Rattle.em_space.specs.Rig.{Cause, Goes, RigState, Sound, IfFull}
 use Rattle.em_space.specs.declared.fault.EmFault.{EmFault}
 use Rattle.em_chain.specs.Chain.{IsChain, IsPacked, chain_blocks, chain_items}
 use Rattle.em_chain.specs.declared.chain.Chain.{Chain}
-use Rattle.aig_defs.specs.Graph.{AllLack}
-use Rattle.em_tree_cost.specs.Shares.{batch_share, chain_share, queue_share}
-use Rattle.aig_edges.specs.Pushes.{CanServeBeside}
-use Rattle.aig_edges.specs.Sorts.{sorting_moves}
+use Rattle.em_tree_cost.specs.Shares.{batch_share, chain_share, queue_share, tree_room}
 use Rattle.em_map.specs.Batch.{HasCommands, IsBatch, batch_unstored, trunk_of}
 use Rattle.em_map.specs.declared.batch.Batch.{Batch}
 use Rattle.em_services.specs.Service.{ServiceCounts}
+use Rattle.em_plain.specs.Room.{StaysWithin}
+use Rattle.em_sorting.specs.Lacking.{AllLack}
+use Rattle.em_sorting.specs.Pushes.{CanServeBeside}
+use Rattle.em_sorting.specs.Sorts.{sorting_moves}
+use Rattle.em_services.specs.InOrder.{lists_room}
 
 -- the moves of a batch whose answers are put in order: its own, those of a queue of two calls for each
 -- answer, and those of the lists that go in and out
@@ -30,12 +32,11 @@ pub record IsGivenBatch (s : RigState) (b : Batch) : Type 0 where
   pub commands : List Command
   pub has : HasCommands s b commands
 
--- its numbers as a service: it states no room
+-- its numbers as a service
 abbrev pub batch_counts : Batch → ServiceCounts
 batch_counts b = record {
   n = b.calls;
   spent = (trunk_of b).spent;
-  blocks = 0;
   unstored = batch_unstored b;
 }
 
@@ -55,12 +56,18 @@ abbrev pub ordering_moves : RigState → Chain → ℕ
 ordering_moves s c =
     queue_share s.pool.shape (2 * c.count) (2 * c.count) + sorting_moves s c
 
+-- the most blocks of it: the room of that queue, and both lists
+abbrev pub ordering_room : RigState → Chain → ℕ
+ordering_room s c = tree_room s.pool.shape (2 * c.count) + lists_room s c
+
 -- The second list has the records of the first in order. The first was given up.
 pub record AnswersInOrder (s t : RigState) (c d : Chain) : Type 0 where
   pub is : IsChain t d
   pub packed : IsTrue s.device.told → IsPacked t d
   pub session : Session (chain_blocks s c) s t (chain_blocks t d)
   pub frames : SameFrames s.pool t.pool
+  pub used : t.used + c.blocks ≡ s.used + d.blocks
+  pub room : IsTrue s.device.told → StaysWithin c.blocks (ordering_room s c) s t
   pub pays : Pays 0 0 s t
   pub items : IsTrue s.device.told → chain_items t d ≡ in_order (chain_items s c)
   pub moves : IsTrue s.device.told → t.moves ≤ s.moves + ordering_moves s c
@@ -69,6 +76,9 @@ pub record AnswersInOrder (s t : RigState) (c d : Chain) : Type 0 where
 pub record StopsAnswering (s t : RigState) (c : Chain) (fault : EmFault) : Type 0 where
   pub goes : Goes (chain_blocks s c) s t
   pub pays : Pays 0 (2 * s.pool.shape.frames) s t
+  pub room : IsTrue s.device.told → StaysWithin c.blocks (ordering_room s c) s t
+  pub full : IsTrue s.device.told
+      → IfFull fault (λ used. used + c.blocks < s.used + ordering_room s c)
   pub moves : IsTrue s.device.told → t.moves ≤ s.moves + ordering_moves s c
   pub cause : Cause s t fault
 

@@ -2,7 +2,7 @@
 use Rattle.std.specs.Prelude.{◌≡◌, IsTrue, List, length}
 use Rattle.em_model.specs.declared.command.Command.{Command}
 use Rattle.em_space.specs.Rig.{RigState}
-use Rattle.em_plain.specs.CommandList.{held, list_commands, list_len, unstored}
+use Rattle.em_plain.specs.CommandList.{list_commands, list_len, unstored}
 use Rattle.em_plain.specs.declared.command_list.CommandList.{CommandList}
 use Rattle.em_services.specs.Service.{ServiceCounts}
 
@@ -16,6 +16,5 @@ abbrev pub list_counts : CommandList → ServiceCounts
 list_counts l = record {
   n = list_len l;
   spent = 0;
-  blocks = held l;
   unstored = unstored l;
 }

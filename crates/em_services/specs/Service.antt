@@ -1,11 +1,10 @@
 -- What every service promises: docs/CONTRACTS.md, "Services".
-use Rattle.std.specs.Prelude.{ℕ, ◌+◌, ◌*◌, List, Bool, true, false, IsTrue, Option, Some, None, ◌≡◌, ◌-◌, ◌≤◌, IfSome, [], length}
+use Rattle.std.specs.Prelude.{ℕ, ◌+◌, ◌*◌, List, false, IsTrue, Option, Some, None, ◌≡◌, ◌-◌, ◌≤◌, IfSome, [], length, ◌<◌}
 use Rattle.em_record.specs.Shape.{ShapeNumbers, fan_of, IsShape}
 use Rattle.em_lines.specs.declared.text.FileKind.{FileKind}
 use Rattle.em_lines.specs.declared.text.FileKind.TheVariants.{Map, Queue, Stab}
 use Rattle.em_frames.specs.Pool.{PoolCounts, GivenFrames, LentFrames, singles_of}
-use Rattle.em_space.specs.Rig.{RigState, Sound, Touches}
-use Rattle.em_ends.specs.Asked.{ToldIf}
+use Rattle.em_space.specs.Rig.{RigState, Sound, Touches, IfFull}
 use Rattle.em_record.specs.declared.record.Record.{Record}
 use Rattle.em_model.specs.MapAnswers.{answer_records}
 use Rattle.em_model.specs.declared.command.Command.{Command}
@@ -15,6 +14,7 @@ use Rattle.em_chain.specs.Chain.{IsChain, IsPacked, chain_blocks}
 use Rattle.em_chain.specs.declared.chain.Chain.{Chain}
 use Rattle.em_plain.specs.Room.{StaysWithin}
 use Rattle.em_model.specs.StabAnswers.{stab_pairs}
+use Rattle.em_space.specs.declared.fault.EmFault.{EmFault}
 
 -- The numbers of a service.
 pub record ServiceCounts : Type 0 where
@@ -22,8 +22,6 @@ pub record ServiceCounts : Type 0 where
   pub n : ℕ
   -- at least as many moves as were made in its calls; any number if it states no allowance
   pub spent : ℕ
-  -- the blocks that it holds; any number if it states no room
-  pub blocks : ℕ
   -- the blocks that it holds and that weren't stored since they came into use
   pub unstored : ℕ
 
@@ -39,16 +37,6 @@ abbrev pub size_of : FileKind → List Command → ℕ
 size_of Map commands = length commands
 size_of Queue commands = length commands
 size_of Stab commands = length commands + length (stab_pairs commands)
-
--- whether the size of a run depends on what the device gives back: the pairs that are reported do
-abbrev pub counts_pairs : FileKind → Bool
-counts_pairs Map = false
-counts_pairs Queue = false
-counts_pairs Stab = true
-
--- What the size of a run asks of the device: pairs are reported as it tells.
-abbrev pub CountsBy : FileKind → Bool → Type 0
-CountsBy kind told = ToldIf (counts_pairs kind) told
 
 -- A number of moves or blocks doesn't fall where the size rises.
 abbrev pub RisesBySize : (ShapeNumbers → ℕ → ℕ) → Type 0
@@ -71,11 +59,18 @@ WithinAllowance None size spent old new = Unit {0}
 WithinAllowance (Some f) size spent old new =
     IsTrue old.device.told → spent + new.moves ≤ old.moves + f old.pool.shape size
 
--- In no moment of a call did a service, which held this many blocks before, hold more than its room
--- for a size, if it states one.
-abbrev pub WithinRoom : Option (ShapeNumbers → ℕ → ℕ) → ℕ → ℕ → RigState → RigState → Type 0
+-- In no moment of a call did a service, which held these blocks before, hold more than its room for a
+-- size, if it states one and the device tells.
+abbrev pub WithinRoom : Option (ShapeNumbers → ℕ → ℕ) → ℕ → List ℕ → RigState → RigState → Type 0
 WithinRoom None size held old new = Unit {0}
-WithinRoom (Some f) size held old new = StaysWithin held (f old.pool.shape size) old new
+WithinRoom (Some f) size held old new =
+    IsTrue old.device.told → StaysWithin (length held) (f old.pool.shape size) old new
+
+-- A call on it was full only if this room and the blocks of others are more than all.
+abbrev pub FullOverRoom : Option (ShapeNumbers → ℕ → ℕ) → ℕ → List ℕ → RigState → EmFault → Type 0
+FullOverRoom None size held old fault = Unit {0}
+FullOverRoom (Some f) size held old fault = IsTrue old.device.told
+    → IfFull fault (λ used. used + length held < old.used + f old.pool.shape size)
 
 -- A service was made: its frames are lent, and its blocks weren't in use.
 pub record MakesService (allowance room : Option (ShapeNumbers → ℕ → ℕ)) (frames : ℕ)
@@ -86,7 +81,7 @@ pub record MakesService (allowance room : Option (ShapeNumbers → ℕ → ℕ))
   pub within : Within old [] held
   pub n : c.n ≡ 0
   pub pays : Pays 0 c.unstored old new
-  pub used : IfSome room (λ f. new.used ≡ old.used + c.blocks)
+  pub used : IsTrue old.device.told → IfSome room (λ f. new.used ≡ old.used + length held)
   pub spent : IfSome allowance (λ f. new.moves ≤ old.moves + c.spent)
 
 -- A service with the first numbers took a command, and has the second. Its blocks were its own or
@@ -96,7 +91,8 @@ pub record TakesCommand (allowance room : Option (ShapeNumbers → ℕ → ℕ))
   pub within : Within old held now
   pub n : d.n ≡ c.n + 1
   pub pays : Pays c.unstored d.unstored old new
-  pub used : IfSome room (λ f. new.used + c.blocks ≡ old.used + d.blocks)
+  pub used : IsTrue old.device.told
+      → IfSome room (λ f. new.used + length held ≡ old.used + length now)
   pub spent : IfSome allowance (λ f. new.moves + c.spent ≤ old.moves + d.spent)
 
 -- A service gave its frames back. Only these blocks may have changed.
@@ -112,4 +108,5 @@ pub record LeavesAnswers (room : Option (ShapeNumbers → ℕ → ℕ)) (held : 
   pub packed : IsTrue old.device.told → IsPacked new answers
   pub within : Within old held (chain_blocks new answers)
   pub pays : Pays c.unstored 0 old new
-  pub used : IfSome room (λ f. new.used + c.blocks ≡ old.used + answers.blocks)
+  pub used : IsTrue old.device.told
+      → IfSome room (λ f. new.used + length held ≡ old.used + answers.blocks)

@@ -11,6 +11,8 @@ use Rattle.em_segment.specs.declared.stab.Stab.{Stab}
 use Rattle.em_segment.proofs.StabLaws.{stab_beside, stab_frames_stay}
 use Rattle.em_services.specs.Service.{FramesOut, RisesBySize}
 use Rattle.em_lines.specs.declared.text.FileKind.TheVariants as kind
+use Rattle.em_record.specs.Cost.{room}
+use Rattle.em_ready.proofs.RoomLaws.{room_rises}
 
 pub no_queue : kind.Stab ≡ kind.Queue → ⊥
 no_queue e = cc
@@ -49,3 +51,7 @@ unstored_most v = omega arith
 -- a greater size is allowed no fewer moves
 pub rising : RisesBySize stab_share
 rising shape m n is h = stab_share_rises shape m n h
+
+-- nor has it less room
+pub rising_room : RisesBySize room
+rising_room shape m n is h = room_rises shape m n h

@@ -3,11 +3,10 @@ use Rattle.em_segment.specs.Stabs.{stab_account, stab_len}
 use Rattle.em_segment.specs.declared.stab.Stab.{Stab}
 use Rattle.em_services.specs.Service.{ServiceCounts}
 
--- its numbers as a service: it states no room
+-- its numbers as a service
 abbrev pub stab_counts : Stab → ServiceCounts
 stab_counts v = record {
   n = stab_len v;
   spent = (stab_account v).paid;
-  blocks = 0;
   unstored = (stab_account v).unstored;
 }

@@ -3,15 +3,17 @@
 //!
 //!     batch --finish--> [3: 7] [1: none] [2: 5] --queue--> [1: none] [2: 5] [3: 7]
 
-ghost use Rattle.std.specs.Prelude.{◌<◌, ◌^◌, None, Some};
+ghost use Rattle.std.specs.Prelude.{◌<◌, ◌^◌, Some, ◌+◌, IfErr, IsTrue};
 ghost use Rattle.em_space.specs.Queue.{CanServe};
 ghost use Rattle.em_space.specs.Rig.{Sound};
 ghost use Rattle.em_space.specs.Seen.{seen};
-ghost use Rattle.em_map.specs.Batch.{CountsCommand, IsBatch, TakesTo};
+ghost use Rattle.em_map.specs.Batch.{CountsCommand, IsBatch, TakesTo, trunk_of};
 ghost use Rattle.em_services.specs.BatchLaws as laws;
 ghost use Rattle.em_services.specs.BatchService.{AreAnswers, IsGivenBatch, OrdersAnswers, batch_counts, map_share};
 ghost use Rattle.em_lines.specs.Kind.{IsOfKind};
 ghost use Rattle.em_lines.specs.declared.text.FileKind.TheVariants as kind;
+ghost use Rattle.em_record.specs.Cost.{room as stated_room};
+ghost use Rattle.em_trunk.specs.Room.{FullOverRoom, WithinRoom};
 
 use crate::ordering::put_in_order;
 use crate::service::Service;
@@ -41,6 +43,10 @@ fn give_batch<D: Device>(
         batch.old batch.new result }
     ensures counts { CountsCommand (seen D.state rig.old) (seen D.state rig.new)
         batch.old batch.new }
+    ensures room { IsTrue (seen D.state rig.old).device.told → WithinRoom (batch.old.calls + 1)
+        (seen D.state rig.old) (seen D.state rig.new) (trunk_of batch.old) }
+    ensures over { IfErr result (λ fault. IsTrue (seen D.state rig.old).device.told
+        → FullOverRoom (batch.old.calls + 1) (seen D.state rig.old) (trunk_of batch.old) fault) }
 {
     match command {
         Command::Put { key, value } => batch.put(rig, key, value),
@@ -85,7 +91,7 @@ impl Service for Batch {
 
     ghost allowance = { Some map_share };
 
-    ghost room = { None };
+    ghost room = { Some stated_room };
 
     ghost no_queue = { laws.no_queue };
 
@@ -107,11 +113,11 @@ impl Service for Batch {
 
     ghost rising = { laws.rising };
 
-    ghost rising_room = { tt };
+    ghost rising_room = { laws.rising_room };
 
     const KIND: FileKind = FileKind::Map;
 
-    #[tactic(auto, using(crate::proofs::Batching::made, crate::proofs::Batching::made_given, crate::proofs::Batching::made_none, crate::proofs::Batching::unmade_goes, crate::proofs::Batching::unmade_owes, crate::proofs::Batching::unmade_cause, crate::proofs::Batching::made_moves))]
+    #[tactic(auto, using(crate::proofs::Batching::made, crate::proofs::Batching::made_given, crate::proofs::Batching::made_full, crate::proofs::Batching::made_none, crate::proofs::Batching::made_room, crate::proofs::Batching::unmade_goes, crate::proofs::Batching::unmade_owes, crate::proofs::Batching::unmade_cause, crate::proofs::Batching::made_moves))]
     fn new<D: Device>(rig: &mut Rig<'_, D>) -> Result<Batch, EmFault> {
         Batch::new(rig)
     }

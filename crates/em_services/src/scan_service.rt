@@ -112,7 +112,7 @@ impl Service for ScanMap {
         ScanMap::new(rig)
     }
 
-    #[tactic(auto, using(crate::proofs::Scanning::list_takes, crate::proofs::Scanning::list_has, crate::proofs::Scanning::list_is))]
+    #[tactic(auto, using(crate::proofs::Scanning::list_takes, crate::proofs::Scanning::list_has, crate::proofs::Scanning::list_is, crate::proofs::Scanning::take_room, crate::proofs::Scanning::take_full))]
     fn take<D: Device>(&mut self, rig: &mut Rig<'_, D>, command: Command) -> Result<(), EmFault> {
         give_map(self, rig, command)
     }
@@ -178,7 +178,7 @@ impl Service for ScanStab {
         ScanStab::new(rig)
     }
 
-    #[tactic(auto, using(crate::proofs::Scanning::list_takes, crate::proofs::Scanning::list_has, crate::proofs::Scanning::list_is))]
+    #[tactic(auto, using(crate::proofs::Scanning::list_takes, crate::proofs::Scanning::list_has, crate::proofs::Scanning::list_is, crate::proofs::Scanning::take_room, crate::proofs::Scanning::take_full))]
     fn take<D: Device>(&mut self, rig: &mut Rig<'_, D>, command: Command) -> Result<(), EmFault> {
         give_stab(self, rig, command)
     }

@@ -16,7 +16,7 @@ ghost use Rattle.em_space.specs.Seen.{seen};
 ghost use Rattle.em_chain.specs.Chain.{chain_items};
 ghost use Rattle.em_chain.specs.Effects.{Unmoved};
 ghost use Rattle.em_lines.specs.Kind.{IsOfKind};
-ghost use Rattle.em_services.specs.Service.{CountsBy, CanAnswer, FramesOut, GivesFrames, LeavesAnswers, MakesService, RisesBySize, ServiceCounts, TakesCommand, WithinAllowance, WithinRoom, records_for, size_of};
+ghost use Rattle.em_services.specs.Service.{CanAnswer, FramesOut, GivesFrames, LeavesAnswers, MakesService, RisesBySize, ServiceCounts, TakesCommand, WithinAllowance, WithinRoom, records_for, size_of, FullOverRoom};
 ghost use Rattle.em_lines.specs.declared.text.FileKind as kinds;
 ghost use Rattle.em_lines.specs.declared.text.FileKind.TheVariants as kind;
 
@@ -48,7 +48,7 @@ pub trait Service {
     /// At most this many moves for commands of a size, by the shape; where there is such a number.
     ghost allowance: { Option (ShapeNumbers → ℕ → ℕ) };
     /// At most this many blocks at once for commands of a size, by the shape; where there is such a
-    /// number.
+    /// number and the device tells.
     ghost room: { Option (ShapeNumbers → ℕ → ℕ) };
 
     const KIND: FileKind;
@@ -63,7 +63,8 @@ pub trait Service {
         ensures is { IfOk result (λ v. IsService v (seen D.state rig.new)) }
         ensures has { IfOk result (λ v. Has v (seen D.state rig.new) []) }
         ensures goes { OnErr result (Goes [] (seen D.state rig.old) (seen D.state rig.new)) }
-        ensures room { WithinRoom room 0 0 (seen D.state rig.old) (seen D.state rig.new) }
+        ensures room { WithinRoom room 0 [] (seen D.state rig.old) (seen D.state rig.new) }
+        ensures full { IfErr result (FullOverRoom room 0 [] (seen D.state rig.old)) }
         ensures moves { WithinAllowance allowance 0 0
             (seen D.state rig.old) (seen D.state rig.new) }
         ensures owes { OnErr result (Pays 0 (seen D.state rig.old).pool.shape.frames
@@ -87,8 +88,11 @@ pub trait Service {
         ensures takes { OnOk result (TakesCommand allowance room
             (blocks self.old (seen D.state rig.old)) (blocks self.new (seen D.state rig.new))
             (counts self.old) (counts self.new) (seen D.state rig.old) (seen D.state rig.new)) }
-        ensures room { WithinRoom room ((counts self.old).n + 1) (counts self.old).blocks
+        ensures room { WithinRoom room ((counts self.old).n + 1)
+            (blocks self.old (seen D.state rig.old))
             (seen D.state rig.old) (seen D.state rig.new) }
+        ensures full { IfErr result (FullOverRoom room ((counts self.old).n + 1)
+            (blocks self.old (seen D.state rig.old)) (seen D.state rig.old)) }
         ensures moves { WithinAllowance allowance ((counts self.old).n + 1) (counts self.old).spent
             (seen D.state rig.old) (seen D.state rig.new) }
         ensures owes { OnErr result (Pays (counts self.old).unstored
@@ -110,9 +114,11 @@ pub trait Service {
             → (cs : List commands.Command) → Has self (seen D.state rig.old) cs
             → chain_items (seen D.state rig.new) c ≡ records_for KIND cs) }
         ensures room { (cs : List commands.Command) → Has self (seen D.state rig.old) cs
-            → CountsBy KIND (seen D.state rig.old).device.told
-            → WithinRoom room (size_of KIND cs) (counts self).blocks
+            → WithinRoom room (size_of KIND cs) (blocks self (seen D.state rig.old))
             (seen D.state rig.old) (seen D.state rig.new) }
+        ensures full { (cs : List commands.Command) → Has self (seen D.state rig.old) cs
+            → IfErr result (FullOverRoom room (size_of KIND cs)
+            (blocks self (seen D.state rig.old)) (seen D.state rig.old)) }
         ensures moves { (cs : List commands.Command) → Has self (seen D.state rig.old) cs
             → WithinAllowance allowance (size_of KIND cs) (counts self).spent
             (seen D.state rig.old) (seen D.state rig.new) }

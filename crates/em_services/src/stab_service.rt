@@ -3,16 +3,17 @@
 //!
 //!     intervals, points --finish--> (0, 3) (0, 7) (2, 3)
 
-ghost use Rattle.std.specs.Prelude.{◌<◌, ◌^◌, None, Some};
+ghost use Rattle.std.specs.Prelude.{◌<◌, ◌^◌, Some};
 ghost use Rattle.em_space.specs.Queue.{CanServe};
 ghost use Rattle.em_space.specs.Rig.{Sound};
 ghost use Rattle.em_space.specs.Seen.{seen};
-ghost use Rattle.em_segment.specs.Stabs.{IsStab, TakeCosts, TakesTo, stab_len};
+ghost use Rattle.em_segment.specs.Stabs.{IsStab, TakeCosts, TakesTo, stab_len, FullOverRoom};
 ghost use Rattle.em_tree_cost.specs.Shares.{stab_share};
 ghost use Rattle.em_lines.specs.Kind.{IsOfKind};
 ghost use Rattle.em_services.specs.StabLaws as laws;
 ghost use Rattle.em_services.specs.StabService.{stab_counts};
 ghost use Rattle.em_lines.specs.declared.text.FileKind.TheVariants as kind;
+ghost use Rattle.em_record.specs.Cost.{room as stated_room};
 
 use crate::service::Service;
 use em_chain::Chain;
@@ -37,6 +38,7 @@ fn give_list<D: Device>(
     ensures takes { TakesTo command (seen D.state rig.old) (seen D.state rig.new)
         list.old list.new result }
     ensures costs { TakeCosts (seen D.state rig.old) (seen D.state rig.new) list.old }
+    ensures small { FullOverRoom (seen D.state rig.old) list.old result }
 {
     match command {
         Command::Interval { low, high } => list.interval(rig, low, high),
@@ -64,7 +66,7 @@ impl Service for Stab {
 
     ghost allowance = { Some stab_share };
 
-    ghost room = { None };
+    ghost room = { Some stated_room };
 
     ghost no_queue = { laws.no_queue };
 
@@ -86,11 +88,11 @@ impl Service for Stab {
 
     ghost rising = { laws.rising };
 
-    ghost rising_room = { tt };
+    ghost rising_room = { laws.rising_room };
 
     const KIND: FileKind = FileKind::Stab;
 
-    #[tactic(auto, using(crate::proofs::Stabbing::made, crate::proofs::Stabbing::made_is, crate::proofs::Stabbing::made_none, crate::proofs::Stabbing::made_moves, crate::proofs::Stabbing::made_surely, crate::proofs::Stabbing::made_by))]
+    #[tactic(auto, using(crate::proofs::Stabbing::made, crate::proofs::Stabbing::made_is, crate::proofs::Stabbing::made_none, crate::proofs::Stabbing::made_moves, crate::proofs::Stabbing::made_room, crate::proofs::Stabbing::made_surely, crate::proofs::Stabbing::made_by))]
     fn new<D: Device>(rig: &mut Rig<'_, D>) -> Result<Stab, EmFault> {
         Stab::new(rig)
     }

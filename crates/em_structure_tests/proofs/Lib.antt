@@ -5,3 +5,4 @@ mod TreeKeeps
 mod BatchKeeps
 mod QueueKeeps
 mod StabKeeps
+mod SortKeeps

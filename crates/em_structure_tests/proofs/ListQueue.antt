@@ -45,6 +45,7 @@ makes_list {s} {t} {q} l u is none fresh =
       few = omega arith;
       area = omega arith;
       used = omega (arith, u.same.used, blocks);
+      most = omega (arith, u.same.most);
       pays = record { is = inr (omega (arith, u.same.used, u.moves)) };
       spent = omega (arith, u.moves, spent);
     }

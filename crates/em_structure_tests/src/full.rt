@@ -81,9 +81,20 @@ fn blocks_enough(
 /// - 4: 1100 pushes into a queue, and as many pops.
 /// - 5: five stabs and three intervals, which have four pairs.
 /// - 6: an interval from 100 to 900 over a point at each place from 0 to 1024.
+/// - 7, 8: rising pushes into a queue, which leave 112 or 113 items in the tree's root, and as many pops.
+/// - 9, 10: puts of rising keys into a batch, which leave as many in the tree's root.
+/// - 11: a list of 1016 items in falling order, which a queue sorts.
 fn row(alloc: Global, number: u64) -> Result<(Structure, Vec<Record>), Fail> {
+    let count = match number {
+        1 => 700,
+        7 => 512 + 2048 + 112,
+        8 => 512 + 2048 + 113,
+        9 => 2048 + 112,
+        10 => 2048 + 113,
+        _ => 4097,
+    };
     let mut puts = Vec::new(alloc);
-    add_rising(&mut puts, 0, if number == 1 { 700 } else { 4097 }, 4097, 0)?;
+    add_rising(&mut puts, 0, count, count, 0)?;
     Ok(match number {
         0 => {
             let ops = drawn(alloc, 300, 20_000)?;
@@ -103,6 +114,9 @@ fn row(alloc: Global, number: u64) -> Result<(Structure, Vec<Record>), Fail> {
             (Structure::Queue, with_last(alloc, &calls, POP, 1100, 1)?)
         }
         5 => (Structure::Stab, worked(alloc)?),
+        7 | 8 => (Structure::Queue, with_last(alloc, &puts, POP, count, 1)?),
+        9 | 10 => (Structure::Batch, puts),
+        11 => (Structure::Sorting, pushes(alloc, 1016, true)?),
         _ => (Structure::Stab, one_over_points(alloc, 1025, 100, 900)?),
     })
 }
@@ -183,8 +197,21 @@ fn each_call_of_a_node_that_fails_is_a_fault(rt: HostRuntime) -> Result<(), Fail
 /// - Row 6: the four strips have 3, 3, 3 and 2 blocks of points. Beside them the list of the two strips in the middle and
 ///   those of the pieces that go down into the two others have a block each, and the 514 pairs of the middle have 5: 19 at
 ///   once.
+///
+/// In rows 7, 9 and 11 all blocks of the device are in use when a call comes that needs none, and the call is Ok.
+///
+/// - Rows 7 and 9: the batch gets 2048 puts, and so does the tree of the queue: 512 items that a full heap of 1024 gives it,
+///   and all that come then. They fill the root's buffer, in 17 blocks, which is emptied into that of the leaf: 20 blocks
+///   with the root, the leaf and one that is written. 1024 of them are settled, and have 9 blocks. The others are in the
+///   last 9 of the 17, with 16 in the last of these. Then the root's buffer gets 112 in a block: 21 are in use. The
+///   first pop that finds the heap empty, and `finish`, empty them into the leaf's buffer: 111 fill its last block, and when
+///   the last one was read, the block that it came from is free again. The next load frees 8 blocks, and leaves 2 of the
+///   buffer: with them, root and leaf the 2048 records that result have 17 blocks, which are all 21 again.
+/// - Rows 8 and 10: of 113 the last but one needs a block, and all 21 are in use.
+/// - Row 11: the list has 8 blocks, and the queue's tree 2. The heap has room for all items, and the sorted list has the
+///   blocks that the other one had.
 #[test]
-fn a_device_of_too_few_blocks_is_full(rt: HostRuntime) -> Result<(), Fail> {
+fn full_comes_exactly_with_too_few_blocks(rt: HostRuntime) -> Result<(), Fail> {
     for (number, least, most) in [
         (0, 2 + 2, 2 + 6 * 3),
         (1, 2 + 3, 2 + 6 * 3),
@@ -192,6 +219,11 @@ fn a_device_of_too_few_blocks_is_full(rt: HostRuntime) -> Result<(), Fail> {
         (4, 2 + 5, 2 + 6 * 5),
         (5, 4, 4),
         (6, 19, 19),
+        (7, 21, 21),
+        (8, 22, 22),
+        (9, 21, 21),
+        (10, 22, 22),
+        (11, 10, 10),
     ] {
         let (structure, calls) = row(rt.alloc(), number)?;
         let enough = blocks_enough(rt.alloc(), structure, &calls)?;

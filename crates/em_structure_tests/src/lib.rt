@@ -28,6 +28,8 @@ mod reading;
 #[cfg(test)]
 mod runs;
 #[cfg(test)]
+mod sorts;
+#[cfg(test)]
 mod stab_answers;
 #[cfg(test)]
 mod stab_scripts;

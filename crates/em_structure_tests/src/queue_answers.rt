@@ -2,9 +2,10 @@
 //! the heap has room for 1024 items.
 
 use crate::item_scripts::{drawn, pushes, with_last};
+use crate::map_scripts::record;
 use crate::plain_queue::agrees;
 use crate::queues::{DRAIN, POP};
-use crate::runs::{Structure, run};
+use crate::runs::{NO_CALL, Structure, run, run_failing};
 use em_devices::Cost;
 use em_record::Record;
 use std::alloc::Global;
@@ -67,12 +68,32 @@ fn items_are_sorted_within_the_share(rt: HostRuntime) -> Result<(), Fail> {
 }
 
 /// `drain` of `em_client`, which is generic over the queue, with 5000 items, of which the heap holds 1024 at most.
+///
+/// And `sort` of `em_sorting`, with a list that the heap has room for, on a device of which all blocks are in use then: 8 of
+/// the list and 2 of the queue's tree. The 8 are written, read, written in order and read; the queue makes 4 moves.
 #[test]
-fn a_client_drains_the_queue(rt: HostRuntime) -> Result<(), Fail> {
+fn clients_drain_the_queue_and_sort_by_it(rt: HostRuntime) -> Result<(), Fail> {
     let calls = pushes(rt.alloc(), 5000, false)?;
     let calls = with_last(rt.alloc(), &calls, DRAIN, 1, 1)?;
     let mut found = vec![in rt.alloc(); POP; 5000]?;
     let cost = run(rt.alloc(), Structure::Queue, (128, 64), &calls, &mut found)?;
     assert!(rt; agrees(rt.alloc(), &calls, &found) && cost.0 == 0);
+    let mut list = pushes(rt.alloc(), 1016, true)?;
+    let mut found = Vec::new(rt.alloc());
+    let (told, cost) = run_failing(
+        rt.alloc(),
+        Structure::Sorting,
+        (128, 64),
+        10,
+        NO_CALL,
+        &list,
+        &mut found,
+    )?;
+    list.sort()?;
+    assert_eq!(rt; (told, cost.0, cost.1, cost.2), (Ok(()), 0, 10, 36));
+    let notes = [record(10, 0, 0, 0), record(10, 1016, 0, 0)];
+    assert!(rt;
+        found.len() == 1018 && found.starts_with(&notes) && found.ends_with(list.as_slice())
+    );
     Ok(())
 }

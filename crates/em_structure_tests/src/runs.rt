@@ -6,7 +6,7 @@ ghost use Rattle.em_space.specs.Rig.{Opens};
 ghost use Rattle.em_space.specs.Seen.{seen};
 ghost use Rattle.em_structure_tests.specs.Ready.{HasAll, KeepsRig};
 
-use crate::{batches, queues, stabs, trees};
+use crate::{batches, queues, sorts, stabs, trees};
 use em_devices::{Cost, Quiet, ended};
 use em_frames::{Device, Grant};
 use em_record::{Record, Shape};
@@ -21,6 +21,8 @@ pub enum Structure {
     Batch,
     Queue,
     Stab,
+    /// A queue that sorts a list of them.
+    Sorting,
 }
 
 /// Whether the run gave up, and why; and what it cost.
@@ -41,6 +43,7 @@ fn serve<D: Device>(
         Structure::Batch => batches::serve(rig, calls, found),
         Structure::Queue => queues::serve(rig, calls, found),
         Structure::Stab => stabs::serve(rig, calls, found),
+        Structure::Sorting => sorts::serve(rig, calls, found),
     }
 }
 

@@ -5,7 +5,7 @@ ghost use Rattle.em_space.specs.Seen.{seen};
 ghost use Rattle.em_empty.specs.Node.{CanEmpty};
 ghost use Rattle.em_tree_part_tests.specs.Ready.{IsReady, Keeps};
 
-use crate::blocks::{entry_in, record, store_node};
+use crate::blocks::{Row, entry_in, record, store_node};
 use crate::calls::Call;
 use crate::rows::{Answer, NONE, first_wrong_row};
 use em_chain::Chain;
@@ -41,8 +41,25 @@ fn five() -> [Record; 5] {
     ]
 }
 
+/// A get that waits for the second child, whose key is that of the five.
+fn sixth() -> Record {
+    record(150, 3000, 2, 0)
+}
+
+/// Stores this many gets, one at most, in the buffer of each of two children, and answers the entries of a node over them.
+#[tactic(auto, using(crate::proofs::Ready::kept))]
+fn store_waiting<D: Device>(rig: &mut Rig<'_, D>, count: u64) -> Result<[Row; 2], EmFault>
+    requires ready { IsReady (seen D.state rig.old) }
+    ensures keeps { Keeps (seen D.state rig.old) (seen D.state rig.new) }
+{
+    let count = (count as usize).min(1);
+    let first = write(rig, &[record(7, 3001, 2, 0)][..count])?;
+    let second = write(rig, &[sixth()][..count])?;
+    Ok([(5, 0, first.words()), (101, 0, second.words())])
+}
+
 /// Stores a chain of some records, and a node of level 1 with two children at most, from 5 and from 101 on. If three
-/// are asked for, the block has the level 64, and is no node.
+/// are asked for, the block has the level 64, and is no node; if four are, there are two, for each of which a get waits.
 #[tactic(auto, using(crate::proofs::Ready::kept, crate::proofs::Ready::can_empty))]
 fn store_both<D: Device>(
     rig: &mut Rig<'_, D>,
@@ -54,8 +71,8 @@ fn store_both<D: Device>(
     ensures keeps { Keeps (seen D.state rig.old) (seen D.state rig.new) }
     ensures can { IfOk result (λ made. CanEmpty (seen D.state rig.new) made.0 made.1) }
 {
-    let rows = [(5, 0, [0; 5]), (101, 0, [0; 5])];
     let chain = write(rig, records)?;
+    let rows = store_waiting(rig, children / 4)?;
     let level = if children == 3 { 64 } else { 1 };
     let node = store_node(rig, level, &rows[..(children as usize).min(2)])?;
     Ok((node, chain))
@@ -80,8 +97,8 @@ fn child_has<D: Device>(
 }
 
 /// Empties a chain of some gets into a node with some children. Answers the least place of a full buffer, and
-/// whether the buffer of a place has the gets that it should: the five of one key if there are two children, else
-/// all.
+/// whether the buffer of a place has the gets that it should: the five of one key if there are two children; the one
+/// that waited there and the first of the five if a get waited; else all.
 #[tactic(auto, using(crate::proofs::Ready::kept))]
 pub fn emptied<D: Device>(rig: &mut Rig<'_, D>, children: u64, count: u64, at: u64) -> Answer
     requires ready { IsReady (seen D.state rig.old) }
@@ -95,7 +112,12 @@ pub fn emptied<D: Device>(rig: &mut Rig<'_, D>, children: u64, count: u64, at: u
         None => NONE,
     };
     let five = five();
-    let wanted: &[Record] = if children == 2 { &five } else { sent };
+    let two = [sixth(), five[0]];
+    let wanted: &[Record] = match children {
+        2 => &five,
+        4 => &two,
+        _ => sent,
+    };
     let has = child_has(rig, node, at as usize, wanted)?;
     Ok([least, u64::from(has), 0, 0, 0, 0, 0, 0])
 }
@@ -115,6 +137,16 @@ pub fn emptied<D: Device>(rig: &mut Rig<'_, D>, children: u64, count: u64, at: u
 /// chain's first block were loaded; four frames are out, and no block was freed. With call 19 failing, the node
 /// isn't loaded. A node with no child, in block 17, is none to empty into, and a block that is no node isn't either:
 /// 18 moves before, and the load, with the node's frame out.
+///
+/// Last, children with room: a get waits for each, in a block of its own. 127 records stand in a block, of which 126 go to
+/// the first child, whose block has 127 then. So no block is needed: chain, buffers and node are all four blocks of the
+/// device. 4 moves write these, and the emptying makes 7: it loads the node, the chain's block and that of each buffer,
+/// and stores both and the node. To look at a child takes 2.
+///
+/// With 128 records the chain has two blocks, and the last record is one too many for the first child's block. The first
+/// block of the chain is freed by then, and serves: on all five blocks of the device 5 moves come before; the emptying
+/// loads the node, two blocks of the chain and one of each buffer, and stores two blocks of the first buffer, one of the
+/// other and the node; and 2 look at it.
 const EMPTYINGS: &str = "\
 100 none 2 2048 1|ok none 1|19 20 57 4
 100 none 1 2048 0|ok 0 1|18 19 72 3
@@ -123,6 +155,8 @@ const EMPTYINGS: &str = "\
 100 19 2 2048 1|fault|18 18 19 1
 100 none 0 2048 0|damaged 17|18 18 19 1
 100 none 3 2048 0|damaged 17|18 18 19 1
+4 none 4 127 1|ok none 1|3 4 13 4
+5 none 4 128 1|ok none 1|4 5 16 4
 ";
 
 #[test]

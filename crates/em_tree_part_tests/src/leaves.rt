@@ -107,10 +107,11 @@ fn left_of<D: Device, S: Settle>(
     left
 }
 
-/// Does that over a new rig, and answers what it costs. More records or operations aren't tried.
+/// Does that over a new rig of this many blocks, and answers what it costs. More records or operations aren't tried.
 #[tactic(auto, using(crate::proofs::Ready::kept, crate::proofs::Ready::ready_opened, crate::proofs::Ready::whole_ready))]
 fn run<S: Settle>(
     alloc: Global,
+    blocks: u64,
     settle: &S,
     case: &Case<'_>,
 ) -> Result<(Result<Left, EmFault>, Cost), Fail>
@@ -120,7 +121,7 @@ fn run<S: Settle>(
         return Ok((Ok((0, 0, Record::ZERO, false, false)), (0, 0, 0, 0)));
     }
     let mut device = Quiet::new(alloc, &[])?;
-    let mut rig = opened(alloc, 200, &mut device)?;
+    let mut rig = opened(alloc, blocks.max(1).min(1000), &mut device)?;
     let left = left_of(&mut rig, settle, case);
     Ok((left, ended(rig)))
 }
@@ -135,10 +136,10 @@ fn puts(alloc: Global, first: u64, count: u64) -> Result<Vec<Record>, AllocError
     Ok(records)
 }
 
-/// The stored records of the keys from 0 on.
-fn kept(alloc: Global, count: u64) -> Result<Vec<Record>, AllocError> {
+/// The stored records of the keys from one on, below another.
+fn kept(alloc: Global, first: u64, end: u64) -> Result<Vec<Record>, AllocError> {
     let mut records = Vec::new(alloc);
-    for key in 0..count {
+    for key in first..end {
         records.push(record(key, 0, 0, key))?;
     }
     Ok(records)
@@ -170,7 +171,7 @@ fn operations_of_a_key_are_settled_in_order(rt: HostRuntime) -> Result<(), Fail>
             record(6, 0, 0, 0),
         ],
     };
-    let ended = run(rt.alloc(), &MapSettle {}, &case)?;
+    let ended = run(rt.alloc(), 200, &MapSettle {}, &case)?;
     assert_eq!(rt;
         ended,
         (Ok((1, 0, Record::ZERO, true, true)), (2, 2, 4, 11))
@@ -180,16 +181,16 @@ fn operations_of_a_key_are_settled_in_order(rt: HostRuntime) -> Result<(), Fail>
 
 /// 1024 puts of new keys over some records of a leaf. Answers what is left, if the low part has this many records.
 fn filled(alloc: Global, count: u64, low: u64) -> Result<Result<Left, EmFault>, Fail> {
-    let stored = kept(alloc, count)?;
+    let stored = kept(alloc, 0, count)?;
     let ops = puts(alloc, count, 1024)?;
-    let lows = kept(alloc, low)?;
+    let lows = kept(alloc, 0, low)?;
     let case = Case {
         stored: stored.as_slice(),
         ops: ops.as_slice(),
         lows: lows.as_slice(),
         given: &[],
     };
-    let (left, _cost) = run(alloc, &MapSettle {}, &case)?;
+    let (left, _cost) = run(alloc, 200, &MapSettle {}, &case)?;
     Ok(left)
 }
 
@@ -215,10 +216,61 @@ fn a_bag_keeps_all_records(rt: HostRuntime) -> Result<(), Fail> {
         lows: &[record(3, 1, 9, 9), record(5, 1, 8, 0), record(5, 2, 1, 0)],
         given: &[],
     };
-    let ended = run(rt.alloc(), &BagSettle {}, &case)?;
+    let ended = run(rt.alloc(), 200, &BagSettle {}, &case)?;
     assert_eq!(rt;
         ended,
         (Ok((3, 0, Record::ZERO, true, true)), (1, 1, 2, 11))
     );
+    Ok(())
+}
+
+/// Removes the first keys of a leaf with some records, on a device of this many blocks.
+fn removed(
+    alloc: Global,
+    blocks: u64,
+    count: u64,
+    gone: u64,
+) -> Result<(Result<Left, EmFault>, Cost), Fail> {
+    let stored = kept(alloc, 0, count)?;
+    let lows = kept(alloc, gone, count)?;
+    let mut ops = Vec::new(alloc);
+    for key in 0..gone {
+        ops.push(record(key, 1, 1, 0))?;
+    }
+    let case = Case {
+        stored: stored.as_slice(),
+        ops: ops.as_slice(),
+        lows: lows.as_slice(),
+        given: &[],
+    };
+    run(alloc, blocks, &MapSettle {}, &case)
+}
+
+/// All blocks of the device are the leaf's, and fewer records result. A block of the leaf is freed with its last record.
+///
+/// - Of 127 records in one block none or one, the last, is left. None needs no block; the last one is read, which frees
+///   its block, before it is written. 1 move writes the leaf's block, and 1 loads it. The one that is left is stored and
+///   read by 2.
+/// - Of 200 records in two blocks the 73 of the second one are left, which go into the freed first one. The leaf's blocks
+///   are written and loaded by 4 moves, and the new one is stored and read by 2.
+/// - If two of one block are left, the first of them is written before the last one is read. It needs a block, and all
+///   are in use: 2 moves, as above. Frames are out as above.
+#[test]
+fn a_load_that_leaves_fewer_records_needs_no_free_block(rt: HostRuntime) -> Result<(), Fail> {
+    for (blocks, count, gone, cost) in [
+        (1, 127, 127, (0, 1, 2, 11)),
+        (1, 127, 126, (1, 1, 4, 11)),
+        (2, 200, 127, (1, 2, 6, 11)),
+    ] {
+        let ended = removed(rt.alloc(), blocks, count, gone)?;
+        let left = count.saturating_sub(gone);
+        assert_eq!(rt;
+            ended,
+            (Ok((left, 0, Record::ZERO, true, true)), cost),
+            "{gone} of {count}"
+        );
+    }
+    let refused = removed(rt.alloc(), 1, 127, 125)?;
+    assert_eq!(rt; refused, (Err(EmFault::Full { used: 1 }), (1, 1, 2, 11)));
     Ok(())
 }

@@ -1,6 +1,6 @@
 -- What the top call says of a job, from how its run ended.
 use Rattle.std.proofs.Common.{◌≡◌, ℕ, ◌+◌, ◌-◌, ◌*◌, ◌<◌, ◌≤◌, ◌^◌, inl, inr, ⊎_elim, Bool, List, Option, refl, ap, subst, ◌∙◌, arith, Ok, IfSome}
-use Rattle.em_record.specs.Shape.{ShapeNumbers, IsShape}
+use Rattle.em_record.specs.Shape.{ShapeNumbers}
 use Rattle.em_io.specs.Shelf.{SlotState, Stand}
 use Rattle.em_io.specs.declared.shelf.Shelf.{Ghosts as ShelfGhosts}
 use Rattle.em_io.specs.declared.sink.Sink.{Ghosts as SinkGhosts}
@@ -17,34 +17,28 @@ use Rattle.em_ends.specs.declared.status.Status.{Status}
 use Rattle.em_ends.specs.declared.status.Status.TheVariants.{Done, Malformed, ReadFault, WriteFault, DeviceFault, Full, NoMemory, Damaged}
 use Rattle.em_ends.specs.declared.status.Status.TheVariants as status
 use Rattle.em_ends.specs.Asked.{Asked}
-use Rattle.em_run.specs.Tasks.{asked_of, OpensNamed}
-use Rattle.emtool.specs.Bound.{transfer_bound}
+use Rattle.em_run.specs.Tasks.{OpensNamed}
+use Rattle.emtool.specs.Bound.{transfer_bound, stated_room}
 use Rattle.em_run.specs.Due.{due_by, texts_on}
-use Rattle.em_run.specs.Made.{read_whole}
 use Rattle.em_ends.specs.Opens.{ReadsNamed}
 use Rattle.em_run.specs.Origin.{LeavesOutside, OnMade, asked_on, slots_of, tells_of}
-use Rattle.emtool.specs.Promise.{Completes, EndsAsDue, FullHasCause, GivesDue, KeepsCost, Run, room_of}
+use Rattle.emtool.specs.Promise.{Completes, EndsAsDue, FullHasCause, GivesDue, KeepsCost, Run, room_of, IsTold}
 use Rattle.em_ends.specs.Ended.{Caused, Ended, Outside, outside}
 use Rattle.em_run.specs.Runs.{HasSizes, RunsJob, RunsOn}
 use Rattle.em_ends.specs.Status.{OnBegun, OnUsage}
-use Rattle.em_ends.proofs.EndLaws.{ended_opened, told_if}
+use Rattle.em_ends.proofs.EndLaws.{ended_opened, full_by_moves}
 
--- the blocks that a task's run may hold are fewer than its bound, with four for each frame
-task_small : (task : Task) (shape : ShapeNumbers) (texts : Slot → List ℕ)
-    (slots : Slot → SlotState) (used : ℕ) → IsShape shape
-    → used ≤ (asked_of task texts).most shape slots
-    → used < transfer_bound task shape texts slots + 4 * shape.frames
-task_small (Answer kind) shape texts slots used is h = let some = is.frames_low in omega (arith, h, some)
-task_small (Eval uninit wide) shape texts slots used is h = let some = is.frames_low in omega (arith, h, some)
-
--- so are those of its run on texts of this origin
-origin_small : (origin : Origin) (task : Task) (shape : ShapeNumbers) (texts : Slot → List ℕ)
-    (slots : Slot → SlotState) (used : ℕ) → IsShape shape
-    → used ≤ (asked_on origin task texts).most shape slots
-    → used < transfer_bound task shape texts (slots_of origin slots) + 4 * shape.frames
-origin_small Files task shape texts slots used is h = task_small task shape texts slots used is h
-origin_small (Made start count) task shape texts slots used is h =
-    task_small task shape texts (λ slot. read_whole) used is h
+-- The blocks of a full device are fewer than the stated room of a run on texts of this origin, if they are
+-- fewer than the room that it is held to, and at most its transfer cost and two for each frame.
+origin_room : (origin : Origin) (task : Task) (shape : ShapeNumbers) (texts : Slot → List ℕ)
+    (slots : Slot → SlotState) (used : ℕ)
+    → IfSome (asked_on origin task texts).room (λ f. used < f shape slots)
+    → used ≤ transfer_bound task shape texts (slots_of origin slots) + 2 * shape.frames
+    → used < stated_room task shape texts (slots_of origin slots)
+origin_room Files (Answer kind) shape texts slots used h k = omega (arith, h, k)
+origin_room Files (Eval uninit wide) shape texts slots used h k = omega (arith, h, k)
+origin_room (Made start count) (Answer kind) shape texts slots used h k = omega (arith, h, k)
+origin_room (Made start count) (Eval uninit wide) shape texts slots used h k = omega (arith, h, k)
 
 -- the moves of a run on texts of this origin are within the transfer cost
 origin_moves : (origin : Origin) (task : Task) (shape : ShapeNumbers) (texts : Slot → List ℕ)
@@ -90,11 +84,17 @@ module _ (tells : Bool) (took : List ℕ → List ℕ → List ℕ) (old new : O
   abbrev RunEnded : Status → Type 0
   RunEnded s = Ended (tells_of job.origin tells) took asked job.shape job.blocks old new s
 
-  small : IsShape job.shape → (used : ℕ) → used ≤ asked.most job.shape new.stand.slot
-      → used < room_of the_run
-  small is used h =
-      let less = origin_small job.origin job.task job.shape texts new.stand.slot used is h in
-      omega (arith, less)
+  small : (used : ℕ) → job.blocks ≤ 2 ^ 40 → old.device.moves ≡ 0 → RunEnded (Full used)
+      → IsTold the_run → used < room_of the_run
+  small used high none e told =
+      let bound = transfer_bound job.task job.shape texts (slots_of job.origin new.stand.slot) in
+      let moved : new.device.moves - old.device.moves ≤ bound =
+      origin_moves job.origin job.task job.shape texts new.stand.slot old.device.moves new.device.moves
+      (e.moves told.shelf told.device) in
+      let all : used ≡ job.blocks = e.full in
+      origin_room job.origin job.task job.shape texts new.stand.slot used (e.room told.shelf told.device)
+      (full_by_moves job.blocks used new.device.moves bound job.shape.frames high all
+      (omega (arith, moved, none)) e.paid)
 
   -- the end of a run says what is due
   pub answers_end : (s : Status) → RunEnded s → GivesDue (Ok the_run) s
@@ -109,43 +109,41 @@ module _ (tells : Bool) (took : List ℕ → List ℕ → List ℕ) (old new : O
       old.device.moves new.device.moves (e.moves told.shelf told.device)
 
   -- and what a full device is
-  pub full_end : (s : Status) → IsShape job.shape → RunEnded s → OnBegun s (old.device.moves ≡ 0)
+  pub full_end : (s : Status) → job.blocks ≤ 2 ^ 40 → RunEnded s → OnBegun s (old.device.moves ≡ 0)
       → FullHasCause (Ok the_run) s
-  full_end (Full used) is e none = record {
+  full_end (Full used) high e none = record {
     all = e.full;
     moves = λ below. ⊎_elim
         (λ (h : 2 ^ 64 - 1 ≤ new.device.moves). absurd (omega (arith, h)))
         (λ (h : used ≤ new.device.moves + 2 * job.shape.frames).
         omega (arith, h, none)) e.paid;
-    held = e.size;
-    room = λ t d. small is used (e.size t d);
+    room = small used high none e;
   }
-  full_end Done is e none = tt
-  full_end (status.Usage kind word) is e none = tt
-  full_end (Malformed kind place) is e none = tt
-  full_end ReadFault is e none = tt
-  full_end WriteFault is e none = tt
-  full_end DeviceFault is e none = tt
-  full_end NoMemory is e none = tt
-  full_end (Damaged block) is e none = tt
+  full_end Done high e none = tt
+  full_end (status.Usage kind word) high e none = tt
+  full_end (Malformed kind place) high e none = tt
+  full_end ReadFault high e none = tt
+  full_end WriteFault high e none = tt
+  full_end DeviceFault high e none = tt
+  full_end NoMemory high e none = tt
+  full_end (Damaged block) high e none = tt
 
   -- where nothing failed and the device has room, the status is the one due
-  pub complete_end : (s : Status) → IsShape job.shape → OnUsage s ⊥ → RunEnded s → Caused old new s
-      → Completes (Ok the_run) s
-  complete_end Done is none e c told quiet room = inl (e.answers told.shelf told.device).0
-  complete_end (Malformed kind place) is none e c told quiet room =
+  pub complete_end : (s : Status) → job.blocks ≤ 2 ^ 40 → OnUsage s ⊥ → RunEnded s → Caused old new s
+      → OnBegun s (old.device.moves ≡ 0) → Completes (Ok the_run) s
+  complete_end Done high none e c first told quiet room = inl (e.answers told.shelf told.device).0
+  complete_end (Malformed kind place) high none e c first told quiet room =
       inl (e.answers told.shelf told.device).0
-  complete_end (status.Usage kind word) is none e c told quiet room = absurd none
-  complete_end ReadFault is none e c told quiet room = absurd (quiet.read (c.read refl))
-  complete_end WriteFault is none e c told quiet room = absurd (quiet.write (c.write refl))
-  complete_end DeviceFault is none e c told quiet room = absurd (quiet.device (c.device refl))
-  complete_end (Full used) is none e c told quiet room =
+  complete_end (status.Usage kind word) high none e c first told quiet room = absurd none
+  complete_end ReadFault high none e c first told quiet room = absurd (quiet.read (c.read refl))
+  complete_end WriteFault high none e c first told quiet room = absurd (quiet.write (c.write refl))
+  complete_end DeviceFault high none e c first told quiet room = absurd (quiet.device (c.device refl))
+  complete_end (Full used) high none e c first told quiet room =
       let all = e.full in
-      let less = small is used
-      (e.size told.shelf (told_if asked.most_told old.device.told told.device)) in
-      absurd (omega arith)
-  complete_end NoMemory is none e c told quiet room = inr refl
-  complete_end (Damaged block) is none e c told quiet room = cc (told.device, e.damaged.0)
+      let less = small used high first e told in
+      absurd (omega (arith, all, less, room))
+  complete_end NoMemory high none e c first told quiet room = inr refl
+  complete_end (Damaged block) high none e c first told quiet room = cc (told.device, e.damaged.0)
 
 -- what a run of a job promises besides its end
 pub record Besides {H W : Type 0} (h : ShelfGhosts H) (w : SinkGhosts W) (job : Job)

@@ -65,7 +65,8 @@ moves_of run = run.new.device.moves - run.old.device.moves
 
 -- the blocks that are enough for the run
 abbrev pub room_of : Run → ℕ
-room_of run = stated_room run.due.job run.due.texts run.new.stand.slot
+room_of run = stated_room run.due.job.task run.due.job.shape run.due.texts
+    (slots_of run.due.job.origin run.new.stand.slot)
 
 -- If the status is Done or Malformed, status and output are the ones due.
 abbrev pub GivesDue : Result Run Usage → Status → Type 0
@@ -120,16 +121,13 @@ LeavesAll shelf out shelf_after out_after (Ok run) status =
 LeavesAll shelf out shelf_after out_after (Err usage) status = Unit {0}
 
 -- The device has `used` blocks and no more. They are at most the moves made plus two for each frame,
--- if the count of moves isn't at its end. If the shelf tells and, if the task needs that, the device,
--- they are at most as many as the run may hold, which are fewer than the stated room.
+-- if the count of moves isn't at its end. If texts and device are told, they are fewer than the stated
+-- room.
 pub record IsFull (run : Run) (used : ℕ) : Type 0 where
   pub all : used ≡ run.due.job.blocks
   pub moves : run.new.device.moves < 2 ^ 64 - 1 → used + run.old.device.moves
       ≤ run.new.device.moves + 2 * run.due.job.shape.frames
-  pub held : IsTrue run.tells → ToldIf run.due.asked.most_told run.old.device.told
-      → used ≤ run.due.asked.most run.due.job.shape run.new.stand.slot
-  pub room : IsTrue run.tells → ToldIf run.due.asked.most_told run.old.device.told
-      → used < room_of run
+  pub room : IsTold run → used < room_of run
 
 -- If the run ends as full, the device is as small as `IsFull` says.
 abbrev pub FullHasCause : Result Run Usage → Status → Type 0

@@ -28,7 +28,7 @@ use std::test::Fail;
 /// Circuits without a fault, which are evaluated on a stimulus, in rows as `each_call` has them. The shelf is
 /// called once to open the circuit, once for each 3 bytes of it, and once at its end; and so for the stimulus,
 /// which is read as it is used. The output is called at the end of the run alone, for each 3 bytes.
-const EVALUATED: [&str; 11] = [
+const EVALUATED: [&str; 13] = [
     // Two inputs, an output and a gate, and so three edges. The line of the first step is pending if the second one fails,
     // and is sent then. The device: 50 calls, of which 42 come before the first step:
     //
@@ -129,6 +129,20 @@ const EVALUATED: [&str; 11] = [
     // bytes, and 4 for the stimulus. The output: two calls.
     "eval --block=128 --frames=64 a s|aig 3 2 0 1 1/6/\x02\x02i1 y/c/and|11/01/|1/0/|0|\
      46 0,4 2|14 0,1 2,1 4|1 0,1 3",
+    // The half adder: the carry 6 is x and y, 7 is neither, and the sum 3 is neither of both. Five definitions, three gates
+    // and eight edges. The first pass finds 6 and 7, whose variables are greater than that of the sum, and the second one
+    // the sum. The device: 61 calls, of which 45 come before the first step, as of the conjunction and 3 for the second
+    // pass, and each of four steps makes 4, as there. The shelf: 34 calls: 28 for the circuit's 78 bytes, one that opens the
+    // stimulus, one for each of its lines, and one at its end. The output: four calls for 12 bytes.
+    "eval --block=128 --frames=64 a s|\
+     aag 7 2 0 2 3/2/4/6/12/6 13 15/12 2 4/14 3 5/i0 x/i1 y/o0 s/o1 c/c/half adder/|\
+     00/01/10/11/|00/10/10/01/|0|49 0,4 3,4 6,4 9|30 0,1 3,1 6,1 9,1 12|4 0+3",
+    // The half adder in the binary form: 3 is x and y, 4 is neither, and the sum 5 is neither of both. One pass finds all.
+    // The device: 58 calls, the 42 of the conjunction before the first step and 4 in each of four steps. The shelf: 28
+    // calls: 22 for the circuit's 58 bytes, and 6 for the stimulus. The output: four calls.
+    "eval --block=128 --frames=64 a s|\
+     aig 5 2 0 2 3/10/6/\x02\x02\x03\x02\x01\x02i0 x/i1 y/o0 s/o1 c/c/half adder/|\
+     00/01/10/11/|00/10/10/01/|0|46 0,4 3,4 6,4 9|24 0,1 3,1 6,1 9,1 12|4 0+3",
 ];
 
 /// Circuits without latches, which are evaluated many lines at once. The device is called before the first group as

@@ -51,7 +51,7 @@ fn ends_so(rt: &HostRuntime, row: &str) -> Result<bool, Fail> {
 
 /// A row has the words of a run, its file, what goes wrong, the exit code, what output and error stream took, and the moves of
 /// the device.
-const ROWS: [&str; 32] = [
+const ROWS: [&str; 36] = [
     // Call 2 of the shelf gives the end of line 1, which is faulty, and call 3 would fail: nothing is read after the first
     // fault.
     "map a|bogus/get 1/pop/stab 1/bogus/|shelf 3|2||emtool: malformed: Unknown at 1/|",
@@ -111,6 +111,20 @@ const ROWS: [&str; 32] = [
     "stab --block=128 --frames=64 --blocks=4 a|297*iv 1 2/3*stab 1/|next|6||emtool: the scratch device is full at 4 blocks/|2",
     "stab --block=128 --frames=64 --blocks=5 a|297*iv 1 2/3*stab 1/|next|6||emtool: the scratch device is full at 5 blocks/|3",
     "stab --block=128 --frames=64 --blocks=100 a|297*iv 1 2/3*stab 1/|next|8||emtool: scratch block 3 is damaged/|7",
+    // Of a circuit the definitions take block 0, the uses block 1, and gates or resets block 2; blocks 3 and 4 are the leaf
+    // and the root of a queue's tree. The latch whose next bit is its negation has one definition and three uses. The half
+    // adder has five definitions and two uses, in both forms. In place of the definitions the uses are read, which are
+    // more than one, or fewer than five: 3 moves write the lists, 2 the leaf and the root, and one reads. Four blocks are
+    // full with the leaf.
+    "eval --block=128 --frames=64 --blocks=100 a s|aag 1 0 1 2 0/2 3/2/3/|next|8||emtool: scratch block 0 is damaged/|6",
+    "eval --block=128 --frames=64 --blocks=100 a s|\
+     aag 7 2 0 2 3/2/4/6/12/6 13 15/12 2 4/14 3 5/i0 x/i1 y/o0 s/o1 c/c/half adder/|next|8||\
+     emtool: scratch block 0 is damaged/|6",
+    "eval --block=128 --frames=64 --blocks=100 a s|\
+     aig 5 2 0 2 3/10/6/\x02\x02\x03\x02\x01\x02i0 x/i1 y/o0 s/o1 c/c/half adder/|next|8||\
+     emtool: scratch block 0 is damaged/|6",
+    "eval --block=128 --frames=64 --blocks=4 a s|aag 1 0 1 2 0/2 3/2/3/|next|6||\
+     emtool: the scratch device is full at 4 blocks/|4",
 ];
 
 #[test]

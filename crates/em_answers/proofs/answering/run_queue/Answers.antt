@@ -76,7 +76,7 @@ returns-in-Err-clause-moves g c = λ t d.
 
 pub returns-in-Ok-clause-runs : goal.returns-in-Ok-clause-runs
 returns-in-Ok-clause-runs g c =
-    let limits = queue_limits (seen g.D.Device.state c.args.rig.now).blocks in
+    let limits = queue_limits g.Q.Queue.room in
     let stand = g.H.Shelf.stand c.args.shelf.now in
     let text = (stand.slot First).left in
     let r = c.in-Ok.ensures in
@@ -104,12 +104,17 @@ returns-in-Err-clause-runs g c =
     let first = seen g.D.Device.state c.args.rig.now in
     let mid = seen g.D.Device.state c.serve-done.new.rig in
     let last = seen g.D.Device.state c.abandon.new.rig in
-    let limits = queue_limits first.blocks in
+    let limits = queue_limits g.Q.Queue.room in
     let text = (stand.slot First).left in
     let counts = g.Q.Queue.counts c.serve-done.new.queue in
     let r = c.in-Err.ensures in
     let l = c.abandon.ensures.leaves in
     let feed = c.new-feed.ensures in
+    let laws = g.met.Q.Queue in
+    let calls : IsTrue g.H.Shelf.tells → counts.n
+    ≤ commands_taken kind.Queue text (after.slot First).left =
+    λ t. subst (λ (f : Fed). counts.n ≤ commands_taken kind.Queue (rest f stand)
+    (after.slot f.slot).left) feed (r.calls t) in
     let stop = c.in-Err.stop in
     let faults = fault_counts (g.H.Shelf.faults c.args.shelf.now) (g.W.Sink.faults c.args.out.now) in
     let later = fault_counts (g.H.Shelf.faults c.serve-done.new.shelf)
@@ -127,8 +132,8 @@ returns-in-Err-clause-runs g c =
           (file_cause limits g.H.Shelf.tells kind.Queue text faults later first last stop
           (queue_stops g.H.Shelf.tells kind.Queue text faults later first mid last counts stop l cause))
           (file_fills limits g.H.Shelf.tells kind.Queue text after.slot last stop
-          (queue_filled g.H.Shelf.tells text (after.slot First).left first mid last counts faults later
-          stop l r.full cause r.calls_only.touches.blocks))
+          (queue_filled g.Q.Queue.room g.H.Shelf.tells text (after.slot First).left mid last counts stop
+          laws.rising_room (laws.k_most c.serve-done.new.queue mid r.frames) calls l r.full))
           (record {
             fault = λ t d. rw c.in-Err.is at (answers t d).fault;
             part = λ t d. (answers t d).part;

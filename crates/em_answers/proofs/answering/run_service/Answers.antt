@@ -20,7 +20,7 @@ pub returns-in-Ok-print_answers-clause-runs : goal.returns-in-Ok-print_answers-c
 returns-in-Ok-print_answers-clause-runs g c =
     let kind = g.S.Service.KIND in
     let first = seen g.D.Device.state c.args.rig.now in
-    let limits = service_limits g.S.Service.allowance g.S.Service.room first.blocks kind in
+    let limits = service_limits g.S.Service.allowance g.S.Service.room in
     let stand = g.H.Shelf.stand c.args.shelf.now in
     let after = g.H.Shelf.stand c.read_answers.new.shelf in
     let mid = seen g.D.Device.state c.read_answers.new.rig in
@@ -64,8 +64,7 @@ returns-in-Ok-print_answers-clause-runs g c =
 pub returns-in-Err-print_answers-clause-runs : goal.returns-in-Err-print_answers-clause-runs
 returns-in-Err-print_answers-clause-runs g c =
     let kind = g.S.Service.KIND in
-    let limits = service_limits g.S.Service.allowance g.S.Service.room
-    (seen g.D.Device.state c.args.rig.now).blocks kind in
+    let limits = service_limits g.S.Service.allowance g.S.Service.room in
     let stand = g.H.Shelf.stand c.args.shelf.now in
     let after = g.H.Shelf.stand c.read_answers.new.shelf in
     let first = seen g.D.Device.state c.args.rig.now in
@@ -118,8 +117,7 @@ returns-in-Err-print_answers-clause-runs g c =
 pub returns-in-Err-clause-runs : goal.returns-in-Err-clause-runs
 returns-in-Err-clause-runs g c =
     let kind = g.S.Service.KIND in
-    let limits = service_limits g.S.Service.allowance g.S.Service.room
-    (seen g.D.Device.state c.args.rig.now).blocks kind in
+    let limits = service_limits g.S.Service.allowance g.S.Service.room in
     let stand = g.H.Shelf.stand c.args.shelf.now in
     let after = g.H.Shelf.stand c.read_answers.new.shelf in
     let first = seen g.D.Device.state c.args.rig.now in

@@ -30,7 +30,7 @@ returns-in_default-clause-taken g c = λ told.
 pub returns-in-Err-Fault-clause-moves : goal.returns-in-Err-Fault-clause-moves
 returns-in-Err-Fault-clause-moves g c = λ told.
     let inv = c.loop-next.invariant in
-    alone_reads g.S.Service.allowance g.S.Service.room g.S.Service.KIND _ _
+    alone_reads g.S.Service.allowance g.S.Service.room g.S.Service.KIND _ _ _
     (g.S.Service.counts c.loop-next.service) (seen g.D.Device.state c.args.rig.now)
     (seen g.D.Device.state c.loop-next.rig) g.met.S.Service.rising inv.goes.sound.shape
     inv.goes.touches.told inv.goes.touches.shape inv.alone
@@ -40,7 +40,7 @@ returns-in-Err-Fault-clause-moves g c = λ told.
 pub returns-in-Err-Read-clause-moves : goal.returns-in-Err-Read-clause-moves
 returns-in-Err-Read-clause-moves g c = λ told.
     let inv = c.loop-next.invariant in
-    alone_reads g.S.Service.allowance g.S.Service.room g.S.Service.KIND _ _
+    alone_reads g.S.Service.allowance g.S.Service.room g.S.Service.KIND _ _ _
     (g.S.Service.counts c.loop-next.service) (seen g.D.Device.state c.args.rig.now)
     (seen g.D.Device.state c.loop-next.rig) g.met.S.Service.rising inv.goes.sound.shape
     inv.goes.touches.told inv.goes.touches.shape inv.alone
@@ -50,7 +50,7 @@ returns-in-Err-Read-clause-moves g c = λ told.
 pub returns-in_default-clause-moves : goal.returns-in_default-clause-moves
 returns-in_default-clause-moves g c = λ told.
     let inv = c.loop-next.invariant in
-    alone_reads g.S.Service.allowance g.S.Service.room g.S.Service.KIND _ _
+    alone_reads g.S.Service.allowance g.S.Service.room g.S.Service.KIND _ _ _
     (g.S.Service.counts c.loop-next.service) (seen g.D.Device.state c.args.rig.now)
     (seen g.D.Device.state c.loop-next.rig) g.met.S.Service.rising inv.goes.sound.shape
     inv.goes.touches.told inv.goes.touches.shape inv.alone
@@ -68,7 +68,7 @@ returns-in-Err-clause-moves g c = λ told.
     let taken = counted_left kind _ _ c.take_line.new.feed
     (g.H.Shelf.stand c.take_line.new.shelf) c.args.feed.now.slot (counts.n + 1) more
     (l.reads.reads.slot ∙ inv.reads.slot) (omega arith) in
-    call_reads g.S.Service.allowance g.S.Service.room kind _ _ (counts.n + 1) counts
+    call_reads g.S.Service.allowance g.S.Service.room kind _ _ _ (counts.n + 1) counts
     (seen g.D.Device.state c.args.rig.now) (seen g.D.Device.state c.loop-next.rig)
     (seen g.D.Device.state c.take.new.rig) g.met.S.Service.rising inv.goes.sound.shape
     inv.goes.touches.told inv.goes.touches.shape inv.alone t.moves
@@ -100,19 +100,18 @@ returns-in-Err-clause-stop g c =
     let last = seen g.D.Device.state c.take.new.rig in
     record {
       cause = cause_after held first mid last c.in-Err.fault inv.goes.touches t.cause;
-      full = filled_call g.S.Service.allowance g.S.Service.room first.blocks (counts.n + 1) g.H.Shelf.tells
-          kind _ _ _ counts mid last c.in-Err.fault g.met.S.Service.rising_room inv.goes.sound.shape t.goes.sound
-          t.goes.touches inv.goes.touches.blocks inv.alone
+      full = filled_call g.S.Service.allowance g.S.Service.room (counts.n + 1) g.H.Shelf.tells
+          kind _ _ (g.S.Service.blocks c.loop-next.service mid) counts mid last c.in-Err.fault
+          g.met.S.Service.rising_room inv.goes.sound.shape t.goes.touches inv.alone
           (pays_more t.owes (omega arith)) t.cause
-          (λ told counted.
+          (λ told.
           let line = rw c.KIND.ensures at (rw inv.number at (rw c.in-Some.is at (l.taken told))) in
           let more = counted_more kind _ _ _ counts.n c.in-Some.command (inv.counted told) line in
           let taken = counted_left kind _ _ c.take_line.new.feed
           (g.H.Shelf.stand c.take_line.new.shelf) c.args.feed.now.slot (counts.n + 1) more
           (l.reads.reads.slot ∙ inv.reads.slot) (omega arith) in
           record {
-            within = t.room;
-            least = omega arith;
+            full = t.full;
             most =
                 let m = taken_most kind (rest c.args.feed.now (g.H.Shelf.stand c.args.shelf.now))
                 ((g.H.Shelf.stand c.take_line.new.shelf).slot c.args.feed.now.slot).left in

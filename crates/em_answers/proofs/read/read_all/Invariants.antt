@@ -27,8 +27,8 @@ invariant-loop-next g l =
       free : CanServe now.pool;
       is : g.S.Service.IsService l.service now;
       within : Within first held (g.S.Service.blocks l.service now);
-      alone : StandsAlone g.S.Service.allowance g.S.Service.room (g.S.Service.counts l.service)
-          now;
+      alone : StandsAlone g.S.Service.allowance g.S.Service.room
+          (g.S.Service.blocks l.service now) (g.S.Service.counts l.service) now;
       given : List Command;
       has : g.S.Service.Has l.service now given;
       number : l.number ≡ n + 1;

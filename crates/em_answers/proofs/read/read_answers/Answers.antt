@@ -13,7 +13,7 @@ returns-in-Err-clause-stop g c =
     let u = seen g.D.Device.state c.new.new.rig in
     stops_new g.H.Shelf g.S.Service.allowance g.S.Service.room g.S.Service.KIND c.args.feed.now
     c.args.shelf.now s u c.in-Err.fault g.met.S.Service.rising_room c.requires.unused
-    c.requires.none_moved e.goes e.room e.owes e.cause
+    c.requires.none_moved e.goes e.full e.owes e.cause
 
 pub returns-in-Ok-answers-clause-blocks : goal.returns-in-Ok-answers-clause-blocks
 returns-in-Ok-answers-clause-blocks g c = λ t d.
@@ -47,8 +47,8 @@ returns-in-Ok-answers-clause-moves g c = λ t.
     let r = c.in-Ok-read_all.ensures in
     let a = c.in-Ok-answers.ensures in
     let service = c.read_all.new.service in
-    answers_reads g.S.Service.allowance g.S.Service.room kind text left (g.S.Service.counts service) s u
-    v g.met.S.Service.rising r.goes.sound.shape (r.goes.touches.told ∙ made.touches.told)
+    answers_reads g.S.Service.allowance g.S.Service.room kind text left
+    (g.S.Service.blocks service u) (g.S.Service.counts service) s u v g.met.S.Service.rising r.goes.sound.shape (r.goes.touches.told ∙ made.touches.told)
     (r.goes.touches.shape ∙ made.touches.shape) r.alone
     (a.moves (good_commands kind text) (r.has t)) (r.taken t)
     (g.met.S.Service.n_is service u (good_commands kind text) (r.has t))
@@ -65,8 +65,8 @@ returns-in-Err-answers-clause-moves g c = λ t.
     let r = c.in-Ok-read_all.ensures in
     let a = c.in-Err-answers.ensures in
     let service = c.read_all.new.service in
-    answers_reads g.S.Service.allowance g.S.Service.room kind text left (g.S.Service.counts service) s u
-    v g.met.S.Service.rising r.goes.sound.shape (r.goes.touches.told ∙ made.touches.told)
+    answers_reads g.S.Service.allowance g.S.Service.room kind text left
+    (g.S.Service.blocks service u) (g.S.Service.counts service) s u v g.met.S.Service.rising r.goes.sound.shape (r.goes.touches.told ∙ made.touches.told)
     (r.goes.touches.shape ∙ made.touches.shape) r.alone
     (a.moves (good_commands kind text) (r.has t)) (r.taken t)
     (g.met.S.Service.n_is service u (good_commands kind text) (r.has t))
@@ -88,7 +88,7 @@ returns-in-Err-answers-clause-stop g c =
     (g.S.Service.counts service) s m u v c.in-Err-answers.fault g.met.S.Service.rising_room
     made.touches made.within r.goes r.alone a.gives a.owes a.cause r.taken
     (λ t. g.met.S.Service.n_is service u (good_commands kind text) (r.has t))
-    (λ t counted. a.room (good_commands kind text) (r.has t) counted)
+    (λ t. a.full (good_commands kind text) (r.has t))
 
 pub returns-in-Err-read_all-clause-stop : goal.returns-in-Err-read_all-clause-stop
 returns-in-Err-read_all-clause-stop g c =

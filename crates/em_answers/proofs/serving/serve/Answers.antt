@@ -9,6 +9,7 @@ use Rattle.em_space.proofs.Steps.{goes_nothing}
 use Rattle.em_space.proofs.Within.{touches_within, within_same, within_then}
 use Rattle.em_chain.proofs.Keeps.{touches_none}
 use Rattle.em_answers.specs.Answer.{queue_text}
+use Rattle.em_answers.specs.Serve.{IsFilledBy}
 use Rattle.em_lines.specs.CommandLine.{parsed_from}
 use Rattle.em_lines.specs.LineTaken.{LineTaken}
 use Rattle.em_lines.specs.Lines.{lines_of}
@@ -16,7 +17,7 @@ use Rattle.em_lines.specs.declared.text.FileKind.TheVariants.{Queue}
 use Rattle.em_ends.proofs.Printing.{sent_line}
 use Rattle.em_answers.proofs.QueueModel.{follows_first}
 use Rattle.em_lines.proofs.ReadLaws.{counted_left, counted_more, counted_none, counted_read}
-use Rattle.em_answers.proofs.Served.{alone_next, next_answer, stopped}
+use Rattle.em_answers.proofs.Served.{alone_next, next_answer, stopped, stops_by, stops_full}
 use Rattle.em_lines.proofs.Steps.{reads_then}
 use Rattle.em_answers.proofs.serving.serve.Goals as goal
 
@@ -90,6 +91,18 @@ returns-in_err-pushes-clause-answers g c = λ told dev.
     (part-rest g.met.W.Sink.rule (g.met.W.Sink.is_state c.args.out.now) p.sent
     (rw step (part-more (queue_text (queue_answers_from (queue_step p.model command) later))
     (v.prints (inv.touches.told ∙ dev) p.model p.follows).part)))
+
+pub returns-in_err-pushes-clause-full : goal.returns-in_err-pushes-clause-full
+returns-in_err-pushes-clause-full g c =
+    let v = c.in_err-pushes.ensures in
+    let mid = seen g.D.Device.state c.loop-next.rig in
+    let last = seen g.D.Device.state c.serve_one.new.rig in
+    let before = g.Q.Queue.counts c.loop-next.queue in
+    let after = g.Q.Queue.counts c.serve_one.new.queue in
+    stops_by (IsFilledBy g.Q.Queue.room after last) _ _ c.from_residual.ensures.1
+    (stops_full g.Q.Queue (g.Q.Queue.blocks c.loop-next.queue mid) mid last before after
+    (g.W.Sink.faults c.loop-next.out) (g.W.Sink.faults c.serve_one.new.out) _ c.loop-next.invariant.alone
+    v.serves v.cause v.owes v.full)
 
 pub returns-in_err-pushes-clause-calls_only : goal.returns-in_err-pushes-clause-calls_only
 returns-in_err-pushes-clause-calls_only g c =

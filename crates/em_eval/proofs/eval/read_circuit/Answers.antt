@@ -1,4 +1,4 @@
-use Rattle.std.proofs.Common.{[], ◌++◌, arith, refl, sym, ◌∙◌}
+use Rattle.std.proofs.Common.{[], ◌++◌, arith, refl, sym, ◌∙◌, Err}
 use Rattle.em_space.specs.Seen.{seen}
 use Rattle.em_space.proofs.Paying.{pays_of_owes, pays_then}
 use Rattle.em_space.proofs.Steps.{goes_then}
@@ -13,9 +13,10 @@ use Rattle.em_ends.specs.Stop.{circuit_stop}
 use Rattle.em_ends.specs.declared.stop.Stop.TheVariants.{Em}
 use Rattle.em_eval.proofs.Circuit.{reads_from}
 use Rattle.em_eval.proofs.CircuitCosts.{sort_low}
-use Rattle.em_eval.proofs.CircuitEdges.{edges_made, order_stops, stopped_by}
-use Rattle.em_eval.proofs.CircuitMade.{HasGraph, build_stops, ends_goes, graph_goes, has_graph, has_parts, text_stops, unmade_stops}
+use Rattle.em_eval.proofs.CircuitEdges.{edges_made, order_room, order_stops, stopped_by}
+use Rattle.em_eval.proofs.CircuitMade.{HasGraph, build_room, build_stops, ends_goes, graph_few, graph_goes, has_graph, has_parts, text_few, text_stops, unmade_stops}
 use Rattle.em_eval.proofs.CircuitMoves.{build_moves, order_keeps, read_moves, used_moves}
+use Rattle.em_eval.proofs.EvalRoom.{ext_tree}
 use Rattle.em_eval.proofs.Making.{can_build}
 use Rattle.em_ready.proofs.Queues.{fails_ext, makes_ext, serves_again}
 use Rattle.em_eval.proofs.eval.read_circuit.Given as given
@@ -58,7 +59,7 @@ returns-in_err-queue-clause-reads g c =
     c.read_either.new.shelf s u (Em c.in_err-queue.field-0.0) _
     c.from_residual-in_err-queue.ensures.1 text
     (unmade_stops c.in_err-queue.field-0.0 c.requires.unused e.goes
-    (pays_of_owes 0 0 0 e.owes (omega arith)) f)
+    (pays_of_owes 0 0 0 e.owes (omega arith)) f (text_few c.args.uninit c.requires.unused text e.takes))
     (read_moves text u e f.moves)
 
 -- the parts that were read are those of some circuit
@@ -118,7 +119,8 @@ returns-in_err-graph-clause-reads g c =
     stopped_by g.H.Shelf c.new-feed.result c.read_either.new.feed c.args.shelf.now
     c.read_either.new.shelf s v (circuit_stop fault) _ c.from_residual-in_err-graph.ensures.1
     text
-    (build_stops (counts_of q) fault c.requires.unused h k.uses_up k.stops k.cause k.stores)
+    (build_stops (counts_of q) fault c.requires.unused h k.uses_up k.stops k.cause k.stores
+    (build_room {q = ghosts} (Err fault) h (ext_tree u.pool.shape) makes.new.k k.room))
     (build_moves text v e h
     (λ told n runs few short. used_moves v n runs refl makes since k.costs told few short) v
     (omega arith))
@@ -168,7 +170,8 @@ returns-in_err-queue-2-clause-reads g c =
     c.from_residual-in_err-queue-2.ensures.1 text
     (unmade_stops c.in_err-queue-2.field-0.0 c.requires.unused
     (graph_goes (counts_of q) (queue_blocks u q) h k.uses_up)
-    (pays_then h.pays k.stores.1 k.uses_up.touches.moves) f)
+    (pays_then h.pays k.stores.1 k.uses_up.touches.moves) f
+    (graph_few (counts_of q) c.in_ok-graph.graph h k.builds k.stores))
     (build_moves text v e h
     (λ told n runs few short. used_moves v n runs refl makes since k.costs told few short) w f.moves)
 
@@ -253,7 +256,8 @@ returns-in_err-order-clause-reads g c =
     stopped_by g.H.Shelf c.new-feed.result c.read_either.new.feed c.args.shelf.now
     c.read_either.new.shelf s x (circuit_stop stop) _ c.from_residual-in_err-order.ensures.1
     text
-    (order_stops (counts_of last) stop c.requires.unused h k.uses_up k.stops k.cause k.blocks.stores)
+    (order_stops (counts_of last) stop c.requires.unused h k.uses_up k.stops k.cause k.blocks.stores
+    (order_room {q = ghosts} (Err stop) h (ext_tree w.pool.shape) (second g here).new.k k.blocks))
     (order_keeps text v e p
     (λ told n runs few short. used_moves v n runs refl makes since b.costs told few short) refl
     (second g here) then h k.costs)

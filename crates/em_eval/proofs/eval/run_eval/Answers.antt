@@ -12,7 +12,7 @@ use Rattle.em_ends.specs.Stop.{fault_counts}
 use Rattle.em_ends.specs.declared.status.Malform.TheVariants.{Aig}
 use Rattle.em_ends.specs.declared.status.Status.TheVariants.{Done, Malformed, ReadFault}
 use Rattle.em_ends.proofs.EndLaws.{ended_read, ended_stop}
-use Rattle.em_eval.proofs.Evaluated.{circuit_cause, circuit_full, circuit_keeps, circuit_stopped, device_keeps, done_caused, ended_latched, eval_fills, malformed_caused, none_first, none_more, none_taken, steps_cause, steps_caused, steps_done, steps_full, steps_keep, steps_stopped, still_there, still_unopened, unopened_caused}
+use Rattle.em_eval.proofs.Evaluated.{circuit_cause, circuit_few, circuit_keeps, circuit_stopped, device_keeps, done_caused, ended_latched, eval_fills, malformed_caused, none_first, none_more, none_taken, steps_cause, steps_caused, steps_done, steps_few, steps_keep, steps_stopped, still_there, still_unopened, unopened_caused}
 use Rattle.em_ends.proofs.Opening.{lost_opened, not_done, on_end, text_left, text_some}
 use Rattle.em_eval.proofs.EvalOpens.{opens_eval, reads_both}
 use Rattle.em_eval.proofs.eval.run_eval.Goals as goal
@@ -77,8 +77,8 @@ returns-in-Err-clause-runs g c =
           (ended_stop tells (asked_of_eval c.args.wide (start_of c.args.uninit) y w) _ _ s t r.goes.touches r.goes.sound refl refl
           (λ z d. device_keeps _ sound r.goes.sound (keeps z d)) stop
           faults later (circuit_cause c.args.wide (start_of c.args.uninit) tells x y w same faults later s t stop own.cause)
-          (eval_fills c.args.wide (start_of c.args.uninit) tells y w last.slot stop c.requires.none_moved r.goes.touches r.goes.sound
-          (circuit_full c.args.wide (start_of c.args.uninit) tells x y w same faults later s t stop own.cause) keeps own.full)
+          (eval_fills c.args.wide (start_of c.args.uninit) tells y w last.slot t stop own.full
+          (circuit_few c.args.wide (start_of c.args.uninit) tells x y w same last.slot s t stop r.goes.touches own.room))
           (circuit_stopped c.args.wide (start_of c.args.uninit) tells x y w same g.met.W.Sink.rule _ _
           (g.met.W.Sink.is_state c.args.out.now) refl faults later s t stop refl own.cause));
       caused = search rules;
@@ -331,9 +331,9 @@ returns-in-Err-evaluate_either-clause-runs g c =
           (λ e h. device_keeps _ sound v.goes.sound (keeps e h)) stop faults later
           (steps_cause c.args.wide tells told x y z w t edges same given spells few faults later s u stop refl
           r.goes.touches v.ends v.cause)
-          (eval_fills c.args.wide (start_of c.args.uninit) tells y w last.slot stop c.requires.none_moved touches v.goes.sound
-          (steps_full c.args.wide tells told x y z w t edges same given spells few faults later u stop v.cause) keeps
-          v.full)
+          (eval_fills c.args.wide (start_of c.args.uninit) tells y w last.slot u stop v.full
+          (steps_few c.args.wide tells told x y z w t edges same given spells few last.slot u stop v.goes.touches
+          (λ e. rw first (own.size e)) v.room))
           (steps_stopped c.args.wide tells told x y z w t edges same given spells few _ _ refl stop
           (λ e h. v.prints e (r.goes.touches.told ∙ h) (spells e).circuit (by_pass (spells e).circuit)
           ((spells e).orders h).is)));

@@ -99,6 +99,7 @@ module _ (g : given.Over) (c : After-group g) where
         cause = k.cause;
         further = k.further;
         idle = k.idle;
+        room = k.room;
       }))
 
   -- It was the last one.

@@ -98,6 +98,7 @@ module _ (g : given.Over) (c : After-step g) where
         cause = k.cause;
         further = k.further;
         idle = k.idle;
+        room = k.room;
       }))
 
   -- It was the last one.

@@ -14,21 +14,21 @@ beside-requires-clause-is g c = queue_lent c.requires.ready.is c.new-writer.ensu
 
 pub beside-requires-clause-apart : goal.beside-requires-clause-apart
 beside-requires-clause-apart g c = λ z. rw c.new-writer.ensures.begins.held
-    (apart_none (queue_blocks (seen g.D.Device.state c.new-writer.new.rig) c.args.queue.now))
+    (apart_none (queue_blocks (seen g.D.Device.state c.new-writer.new.rig) c.args.queue.now.queue))
 
 -- the queue after the list was read
 module _ (g : given.Over) (c : In_ok-same-in-Ok g) where
-  kept : IsScanQueue (seen g.D.Device.state c.takes.new.rig) c.beside.new.queue
+  kept : IsScanQueue (seen g.D.Device.state c.takes.new.rig) c.beside.new.queue.queue
   kept =
       let s = seen g.D.Device.state c.args.rig.now in
       let t = seen g.D.Device.state c.new-writer.new.rig in
       let u = seen g.D.Device.state c.beside.new.rig in
       let v = seen g.D.Device.state c.finish.new.rig in
-      let q = c.args.queue.now in
+      let q = c.args.queue.now.queue in
       let b = c.in-Ok.ensures in
       queue_read b.queue c.finish.ensures.gives c.in_ok-chain-in-Ok.ensures.finishes
       c.takes.ensures.goes (λ z. b.apart (sym b.touches.told ∙ z))
-      (out_given 1 (counts_of q) (counts_of c.beside.new.queue) s.pool t.pool u.pool v.pool
+      (out_given 1 (counts_of q) (counts_of c.beside.new.queue.queue) s.pool t.pool u.pool v.pool
       (out q s c.requires.ready.is.rest) c.new-writer.ensures.lends.frames b.shares
       c.finish.ensures.gives.frames)
 

@@ -14,7 +14,7 @@ pop_into-requires-clause-is g c = queue_lent c.requires.ready.is c.new-list.ensu
 pub pop_into-requires-clause-holds : goal.pop_into-requires-clause-holds
 pop_into-requires-clause-holds g c = λ told.
     let t = seen g.D.Device.state c.new-list.new.rig in
-    let q = c.args.queue.now in
+    let q = c.args.queue.now.queue in
     holds_none (queue_blocks t q) _ c.new-list.ensures.begins.held
     (holds q t (queue_lent c.requires.ready.is c.new-list.ensures.lends) told)
 
@@ -24,13 +24,13 @@ returns-in_err-chain-in-Ok g c =
     let t = seen g.D.Device.state c.new-list.new.rig in
     let u = seen g.D.Device.state c.pop_into.new.rig in
     let v = seen g.D.Device.state c.finish.new.rig in
-    let p = c.pop_into.new.queue in
+    let p = c.pop_into.new.queue.queue in
     let l = c.pop_into.new.list in
     let lent = c.new-list.ensures.lends.frames in
     let runs = c.in-Ok.ensures.pops.runs in
     let gives = c.finish.ensures.gives in
     let at_end = out_given 1 _ _ s.pool t.pool u.pool v.pool
-    (out c.args.queue.now s c.requires.ready.is.rest) lent
+    (out c.args.queue.now.queue s c.requires.ready.is.rest) lent
     (shares_frames runs.runs.frames runs.calls_on.frames runs.calls_on.areas) gives.frames in
     record {
       kept = record {
@@ -49,14 +49,14 @@ returns-in_ok-chain-in-Ok g c =
     let u = seen g.D.Device.state c.pop_into.new.rig in
     let v = seen g.D.Device.state c.finish.new.rig in
     let x = seen g.D.Device.state c.takes.new.rig in
-    let p = c.pop_into.new.queue in
+    let p = c.pop_into.new.queue.queue in
     let l = c.pop_into.new.list in
     let lent = c.new-list.ensures.lends.frames in
     let runs = c.in-Ok.ensures.pops.runs in
     let gives = c.finish.ensures.gives in
     let goes = c.takes.ensures.goes in
     let at_end = out_given 1 _ _ s.pool t.pool u.pool v.pool
-    (out c.args.queue.now s c.requires.ready.is.rest) lent
+    (out c.args.queue.now.queue s c.requires.ready.is.rest) lent
     (shares_frames runs.runs.frames runs.calls_on.frames runs.calls_on.areas) gives.frames in
     let is = queue_read c.in-Ok.ensures.queue gives c.in_ok-chain-in-Ok.ensures.finishes goes
     (apart_after (queue_blocks u p) (writer_blocks u l) runs) at_end in

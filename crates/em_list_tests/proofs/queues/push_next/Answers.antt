@@ -9,8 +9,8 @@ pub returns-clause-lacks : goal.returns-clause-lacks
 returns-clause-lacks g c =
     let s = seen g.D.Device.state c.args.rig.now in
     let t = seen g.D.Device.state c.push.new.rig in
-    on_ok_weaker c.push.result (λ items. lacks_next c.args.number s t c.args.queue.now
-    c.push.new.self c.item.result c.requires.lacks (ap (λ (x : Record). x.b) c.item.ensures.is)
+    on_ok_weaker c.push.result (λ items. lacks_next c.args.number s t c.args.queue.now.queue
+    c.push.new.self.queue c.item.result c.requires.lacks (ap (λ (x : Record). x.b) c.item.ensures.is)
     c.push.ensures.serves.touches.told items) c.push.ensures.items
 
 pub push-requires-clause-lacks : goal.push-requires-clause-lacks

@@ -9,7 +9,7 @@ abbrev pub invariant-loop-number : goal.invariant-loop-number
 invariant-loop-number g l = record {
   sound : Sound (seen g.D.Device.state l.rig);
   frames : SameFrames (seen g.D.Device.state l.fn.rig).pool (seen g.D.Device.state l.rig).pool;
-  is : IsScanQueue (seen g.D.Device.state l.rig) l.queue;
-  few : l.queue.calls ≤ 2 ^ 10 + l.number;
-  lacks : LacksFrom (l.number + 1) (seen g.D.Device.state l.rig) l.queue;
+  is : IsScanQueue (seen g.D.Device.state l.rig) l.queue.queue;
+  few : l.queue.queue.calls ≤ 2 ^ 10 + l.number;
+  lacks : LacksFrom (l.number + 1) (seen g.D.Device.state l.rig) l.queue.queue;
 }

@@ -1,4 +1,5 @@
 use Rattle.std.proofs.Common.{refl, sym, ◌∙◌}
+use Rattle.em_list_tests.specs.contracts.room_queue.RoomQueueQueue.TheImpl.{ghosts}
 use Rattle.em_list_tests.proofs.Sorted.{can_sort, kept_refused, kept_sorted, kept_stops, queue_kept, three_lack}
 use Rattle.em_list_tests.proofs.sorting.sorts.Goals as goal
 
@@ -14,18 +15,18 @@ sort-requires-clause-is g c = (queue_kept c.requires.ready.is c.write.ensures.go
 pub sort-requires-clause-can : goal.sort-requires-clause-can
 sort-requires-clause-can g c =
     let e = c.in_ok-list.ensures in
-    can_sort c.requires.ready e.goes e.is e.count (λ z. three_lack _
+    can_sort {h = ghosts} {x = c.args.queue.now} refl refl c.requires.ready e.goes e.is e.count (λ z. three_lack _
     (e.items (sym e.goes.touches.told ∙ z) ∙ rw (c.item.ensures.is, c.item-2.ensures.is, c.item-3.ensures.is) refl))
 
 pub returns-in_err-sorted : goal.returns-in_err-sorted
 returns-in_err-sorted g c =
     let r = c.from_residual-in_err-sorted in
     let e = c.in_err-sorted.ensures in record {
-      kept = kept_stops c.args.queue.now r.result r.ensures.0 c.write.ensures.goes e.sorts e.frames;
+      kept = kept_stops c.args.queue.now.queue r.result r.ensures.0 c.write.ensures.goes e.sorts e.frames;
     }
 
 pub returns : goal.returns
 returns g c =
     let e = c.in_ok-sorted.ensures in record {
-      kept = kept_sorted c.takes.result c.write.ensures.goes e.sorts e.queue c.takes.ensures.goes;
+      kept = kept_sorted c.args.queue.now.queue c.in_ok-sorted.sorted c.takes.result c.write.ensures.goes e.sorts.runs e.queue c.takes.ensures.goes;
     }

@@ -60,8 +60,7 @@ returns-clause-full g c = elim c.match-read_job.branch [
       )
       (full_end _ _ _ _ (g.H.Shelf.stand c.args.shelf.now) job
       (names_on job.origin job.task w.name_at.result.now w.name_at-in-Ok.result.now)
-      w.run_job-outcome.result.status
-      w.in-Ok.ensures.is.shape e.runs.ended e.none_moved)
+      w.run_job-outcome.result.status w.in-Ok.ensures.is.blocks_high e.runs.ended e.none_moved)
   | in-Err w ↦ search rules
 ]
 
@@ -81,8 +80,8 @@ returns-clause-complete g c = elim c.match-read_job.branch [
       )
       (complete_end _ _ _ _ (g.H.Shelf.stand c.args.shelf.now) job
       (names_on job.origin job.task w.name_at.result.now w.name_at-in-Ok.result.now)
-      w.run_job-outcome.result.status
-      w.in-Ok.ensures.is.shape e.runs.no_usage e.runs.ended e.runs.caused)
+      w.run_job-outcome.result.status w.in-Ok.ensures.is.blocks_high e.runs.no_usage e.runs.ended
+      e.runs.caused e.none_moved)
   | in-Err w ↦ search rules
 ]
 

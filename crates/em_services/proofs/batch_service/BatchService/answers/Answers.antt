@@ -1,5 +1,5 @@
 use Rattle.em_space.specs.Seen.{seen}
-use Rattle.em_services.proofs.BatchAnswers.{answers_are, answers_gives, answers_items, answers_leaves, answers_moves}
+use Rattle.em_services.proofs.BatchAnswers.{answers_are, answers_gives, answers_items, answers_leaves, answers_moves, answers_full, answers_room_is, unfinished_full, unfinished_room}
 use Rattle.em_services.proofs.batch_service.BatchService.answers.Goals as goal
 
 pub order_answers-requires : goal.order_answers-requires
@@ -32,3 +32,29 @@ returns-in-Ok-clause-moves g c =
     (seen g.D.Device.state c.order_answers.new.rig) c.args.self c.in-Ok.answers
     c.in-Ok.ensures.finishes c.order_answers.result c.order_answers.ensures.orders c.requires.is
     c.in-Ok.ensures.costs
+
+pub returns-in-Ok-clause-room : goal.returns-in-Ok-clause-room
+returns-in-Ok-clause-room g c =
+    answers_room_is (seen g.D.Device.state c.args.rig.now) (seen g.D.Device.state c.finish.new.rig)
+    (seen g.D.Device.state c.order_answers.new.rig) c.args.self c.in-Ok.answers
+    c.in-Ok.ensures.finishes c.requires.is c.requires.sound c.order_answers.result
+    c.order_answers.ensures.orders c.in-Ok.ensures.room
+
+pub returns-in-Ok-clause-full : goal.returns-in-Ok-clause-full
+returns-in-Ok-clause-full g c =
+    answers_full (seen g.D.Device.state c.args.rig.now) (seen g.D.Device.state c.finish.new.rig)
+    (seen g.D.Device.state c.order_answers.new.rig) c.args.self c.in-Ok.answers
+    c.in-Ok.ensures.finishes c.requires.is c.requires.sound c.order_answers.result
+    c.order_answers.ensures.orders
+
+pub returns-in-Err-clause-room : goal.returns-in-Err-clause-room
+returns-in-Err-clause-room g c =
+    unfinished_room (seen g.D.Device.state c.args.rig.now) (seen g.D.Device.state c.finish.new.rig)
+    c.args.self c.in-Err.fault c.in-Err.ensures.finishes c.requires.is c.requires.sound
+    c.in-Err.ensures.room
+
+pub returns-in-Err-clause-full : goal.returns-in-Err-clause-full
+returns-in-Err-clause-full g c =
+    unfinished_full (seen g.D.Device.state c.args.rig.now) (seen g.D.Device.state c.finish.new.rig)
+    c.args.self c.in-Err.fault c.in-Err.ensures.finishes c.requires.is c.requires.sound
+    c.in-Err.ensures.over

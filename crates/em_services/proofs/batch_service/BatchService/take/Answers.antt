@@ -1,8 +1,23 @@
 use Rattle.em_space.specs.Seen.{seen}
-use Rattle.em_services.proofs.Batching.{take_moves}
+use Rattle.em_services.proofs.Batching.{take_moves, take_cause, take_full, take_goes, take_room}
 use Rattle.em_services.proofs.batch_service.BatchService.take.Goals as goal
 
 pub returns-clause-moves : goal.returns-clause-moves
 returns-clause-moves g c =
     take_moves (seen g.D.Device.state c.args.rig.now) (seen g.D.Device.state c.give_batch.new.rig)
     c.args.self.now c.give_batch.new.batch c.give_batch.ensures.counts
+
+pub returns-clause-room : goal.returns-clause-room
+returns-clause-room g c =
+    take_room (seen g.D.Device.state c.args.rig.now) (seen g.D.Device.state c.give_batch.new.rig)
+    c.args.self.now c.requires.is c.requires.sound c.give_batch.ensures.room
+
+pub returns-clause-full : goal.returns-clause-full
+returns-clause-full g c =
+    let s = seen g.D.Device.state c.args.rig.now in
+    let t = seen g.D.Device.state c.give_batch.new.rig in
+    let e = c.give_batch.ensures in
+    take_full s t c.args.self.now c.requires.is c.requires.sound c.give_batch.result e.over
+    (take_cause _ c.args.command s t c.args.self.now c.give_batch.new.batch c.give_batch.result e.takes)
+    (take_goes _ c.args.command s t c.args.self.now c.give_batch.new.batch c.give_batch.result
+    e.takes).touches.blocks

@@ -2,8 +2,9 @@ use Rattle.std.proofs.Common.{refl}
 use Rattle.em_space.specs.Seen.{seen}
 use Rattle.em_pqueue.specs.contracts.queue.ExtQueueQueue.TheImpl.{ghosts as ext}
 use Rattle.em_ready.proofs.Queues.{fails_ext, makes_ext}
-use Rattle.em_services.proofs.StabAnswers.{can_finish, finish_cause, finish_gives, finish_items, finish_leaves, finish_moves, finish_owes, list_is, unmade_cause, unmade_frames, unmade_gives, unmade_moves, unmade_owes}
+use Rattle.em_services.proofs.StabAnswers.{can_finish, finish_cause, finish_gives, finish_items, finish_leaves, finish_moves, finish_owes, list_is, unmade_cause, unmade_frames, unmade_gives, unmade_moves, unmade_owes, finish_full, finish_room_is, unmade_full, unmade_room}
 use Rattle.em_services.proofs.stab_service.StabService.answers.Goals as goal
+use Rattle.em_pqueue.specs.QueueLaws.{frames_of}
 
 pub finish-requires-clause-is : goal.finish-requires-clause-is
 finish-requires-clause-is g c =
@@ -92,3 +93,33 @@ returns-in-Err-clause-cause g c =
     (seen g.D.Device.state c.new.new.rig) c.in-Err.fault c.requires.sound c.requires.is
     (fails_ext c.in-Err.ensures.stops) (seen g.D.Device.state c.abandon.new.rig)
     c.abandon.ensures.leaves
+
+pub returns-in-Ok-clause-room : goal.returns-in-Ok-clause-room
+returns-in-Ok-clause-room g c = λ cs h.
+    finish_room_is ext c.in-Ok.queue c.args.self (seen g.D.Device.state c.args.rig.now)
+    (seen g.D.Device.state c.new.new.rig) c.requires.sound c.requires.is
+    (makes_ext c.in-Ok.ensures.makes) (seen g.D.Device.state c.finish.new.rig) refl
+    (frames_of c.in-Ok.queue (seen g.D.Device.state c.new.new.rig) c.in-Ok.ensures.makes.is).fits cs h
+    c.finish.ensures.costs
+
+pub returns-in-Ok-clause-full : goal.returns-in-Ok-clause-full
+returns-in-Ok-clause-full g c = λ cs h.
+    finish_full ext c.in-Ok.queue c.args.self (seen g.D.Device.state c.args.rig.now)
+    (seen g.D.Device.state c.new.new.rig) c.requires.sound c.requires.is
+    (makes_ext c.in-Ok.ensures.makes) (seen g.D.Device.state c.finish.new.rig) refl
+    (frames_of c.in-Ok.queue (seen g.D.Device.state c.new.new.rig) c.in-Ok.ensures.makes.is).fits cs h
+    c.finish.result c.finish.ensures.full
+
+pub returns-in-Err-clause-room : goal.returns-in-Err-clause-room
+returns-in-Err-clause-room g c = λ cs h.
+    unmade_room c.args.self (seen g.D.Device.state c.args.rig.now)
+    (seen g.D.Device.state c.new.new.rig) c.in-Err.fault c.requires.sound c.requires.is
+    (fails_ext c.in-Err.ensures.stops) (seen g.D.Device.state c.abandon.new.rig)
+    c.abandon.ensures.leaves cs h
+
+pub returns-in-Err-clause-full : goal.returns-in-Err-clause-full
+returns-in-Err-clause-full g c = λ cs h.
+    unmade_full c.args.self (seen g.D.Device.state c.args.rig.now)
+    (seen g.D.Device.state c.new.new.rig) c.in-Err.fault c.requires.sound c.requires.is
+    (fails_ext c.in-Err.ensures.stops) (seen g.D.Device.state c.abandon.new.rig)
+    c.abandon.ensures.leaves cs h
