@@ -8,7 +8,7 @@ use Rattle.aig_defs.proofs.TextRows.{and_gate, toggle, shift}
 -- the gate 3 has the operands 1 and 2, and the output is the gate
 and_gate_edges : graph_edges and_gate
     ≡ record { a = 1; b = 12; c = 0; d = 0 } ∷ record { a = 2; b = 13; c = 0; d = 0 }
-    ∷ record { a = 3; b = 3; c = 0; d = 0 } ∷ []
+    ∷ record { a = 3; b = 17592186044419; c = 0; d = 0 } ∷ []
 and_gate_edges = refl
 
 and_gate_sources : graph_sources and_gate
@@ -26,8 +26,8 @@ and_gate_ordered = refl
 
 -- the input goes to the first latch, this to the second, and this to the output
 shift_edges : graph_edges shift
-    ≡ record { a = 1; b = 2; c = 0; d = 0 } ∷ record { a = 2; b = 6; c = 0; d = 0 }
-    ∷ record { a = 3; b = 3; c = 0; d = 0 } ∷ []
+    ≡ record { a = 1; b = 8796093022210; c = 0; d = 0 } ∷ record { a = 2; b = 8796093022214; c = 0; d = 0 }
+    ∷ record { a = 3; b = 17592186044419; c = 0; d = 0 } ∷ []
 shift_edges = refl
 
 shift_sources : graph_sources shift
@@ -43,8 +43,8 @@ shift_ordered = refl
 
 -- the negation of the latch is what it has next, and the second output
 toggle_edges : graph_edges toggle
-    ≡ record { a = 1; b = 2; c = 1; d = 0 } ∷ record { a = 1; b = 3; c = 0; d = 0 }
-    ∷ record { a = 1; b = 7; c = 1; d = 0 } ∷ []
+    ≡ record { a = 1; b = 8796093022210; c = 1; d = 0 } ∷ record { a = 1; b = 17592186044419; c = 0; d = 0 }
+    ∷ record { a = 1; b = 17592186044423; c = 1; d = 0 } ∷ []
 toggle_edges = refl
 
 toggle_ordered : ordered_edges toggle toggle.gates
@@ -52,8 +52,7 @@ toggle_ordered : ordered_edges toggle toggle.gates
     ∷ record { a = 1; b = 8; c = 1; d = 0 } ∷ []
 toggle_ordered = refl
 
--- A gate and an output both use the input: the output's edge is first in the graph, and last by
--- ranks.
+-- A gate and an output both use the input: the output's edge is last in the graph, as by ranks.
 abbrev pub both_use : Circuit
 both_use = record {
   header = record { max = 2; inputs = 1; latches = 0; outputs = 1; gates = 1; bads = 0; constraints = 0 };
@@ -65,12 +64,12 @@ both_use = record {
 
 both_use_text : edges_in_text both_use
     ≡ record { a = 1; b = 8; c = 0; d = 0 } ∷ record { a = 1; b = 9; c = 1; d = 0 }
-    ∷ record { a = 1; b = 3; c = 0; d = 0 } ∷ []
+    ∷ record { a = 1; b = 17592186044419; c = 0; d = 0 } ∷ []
 both_use_text = refl
 
 both_use_edges : graph_edges both_use
-    ≡ record { a = 1; b = 3; c = 0; d = 0 } ∷ record { a = 1; b = 8; c = 0; d = 0 }
-    ∷ record { a = 1; b = 9; c = 1; d = 0 } ∷ []
+    ≡ record { a = 1; b = 8; c = 0; d = 0 } ∷ record { a = 1; b = 9; c = 1; d = 0 }
+    ∷ record { a = 1; b = 17592186044419; c = 0; d = 0 } ∷ []
 both_use_edges = refl
 
 both_use_ordered : ordered_edges both_use both_use.gates

@@ -201,25 +201,26 @@ class_of low first last literal t class a b d e =
       most = omega (arith, same, d);
     }
 
--- the edges of a section whose elements have one each
-pub section_class : {A : Type 0} (literal : A → ℕ) (class j : ℕ) (section : List A) → class < 4
-    → AllClass j class (class + 1)
-    (numbered (λ k (a : A). graph_edge (literal a) k class) j section)
-section_class literal class j [] l = tt
-section_class literal class j (a ∷ section) l = (
-  class_of j class (class + 1) (literal a) j class (omega arith) (omega arith) (omega arith) l,
-  all_class_lower (j + 1) j class (class + 1) _ (omega arith)
-      (section_class literal class (j + 1) section l),
+-- the edges of a section whose elements have one each, to places from n on
+pub section_class : {A : Type 0} (literal : A → ℕ) (n class j : ℕ) (section : List A) → class < 4
+    → AllClass (n + j) class (class + 1)
+    (numbered (λ k (a : A). graph_edge (literal a) (n + k) class) j section)
+section_class literal n class j [] l = tt
+section_class literal n class j (a ∷ section) l = (
+  class_of (n + j) class (class + 1) (literal a) (n + j) class (omega arith) (omega arith)
+      (omega arith) l,
+  all_class_lower (n + (j + 1)) (n + j) class (class + 1) _ (omega arith)
+      (section_class literal n class (j + 1) section l),
 )
 
-pub section_apart : {A : Type 0} (literal : A → ℕ) (class j : ℕ) (section : List A) → class < 4
-    → AllApart (numbered (λ k (a : A). graph_edge (literal a) k class) j section)
-section_apart literal class j [] l = tt
-section_apart literal class j (a ∷ section) l =
-    let low : 4 * j + class < 4 * (j + 1) = omega (arith, l) in (
-      lacks_later (graph_edge (literal a) j class) (j + 1) class (class + 1) _ low
-          (section_class literal class (j + 1) section l),
-      section_apart literal class (j + 1) section l,
+pub section_apart : {A : Type 0} (literal : A → ℕ) (n class j : ℕ) (section : List A) → class < 4
+    → AllApart (numbered (λ k (a : A). graph_edge (literal a) (n + k) class) j section)
+section_apart literal n class j [] l = tt
+section_apart literal n class j (a ∷ section) l =
+    let low : 4 * (n + j) + class < 4 * (n + (j + 1)) = omega (arith, l) in (
+      lacks_later (graph_edge (literal a) (n + j) class) (n + (j + 1)) class (class + 1) _ low
+          (section_class literal n class (j + 1) section l),
+      section_apart literal n class (j + 1) section l,
     )
 
 -- a record of a greater word a isn't below

@@ -1,6 +1,6 @@
 -- The sorted lists of a circuit: what can be pushed one after another, the sources among the
 -- definitions, and a variable that is defined twice.
-use Rattle.std.proofs.Common.{◌⊎◌, inl, inr, ◌≡◌, ◌≢◌, ◌+◌, ◌*◌, ◌<◌, ◌≤◌, ◌/◌, Bool, true, false, cond, List, [], ◌∷◌, ◌++◌, ℕ, sym, ap, ◌∙◌, refl, subst, arith, length, map, flat_map, filter, append_assoc, append-nil}
+use Rattle.std.proofs.Common.{◌⊎◌, inl, inr, ◌≡◌, ◌≢◌, ◌+◌, ◌^◌, ◌*◌, ◌<◌, ◌≤◌, ◌/◌, Bool, true, false, cond, List, [], ◌∷◌, ◌++◌, ℕ, sym, ap, ◌∙◌, refl, subst, arith, length, map, flat_map, filter, append_assoc, append-nil}
 use Rattle.std.proofs.lemmas.Bool.{cases_Bool, cases_lt}
 use Rattle.std.proofs.lemmas.List.{map-append}
 use Rattle.std.proofs.lemmas.List.Elements.{filter-append}
@@ -17,7 +17,7 @@ use Rattle.aig_defs.specs.Founded.{has}
 use Rattle.aig_defs.specs.Graph.{graph_edge, operand_edges, next_edge, output_edge, edges_in_text, graph_sources, AllLack}
 use Rattle.aig_defs.specs.Sorted.{numbered_def, plain_def, numbered_defs, sorted_defs, is_source, AllAbove, Climbs}
 use Rattle.aig_defs.proofs.Chains.{defs_variables, gates_variables}
-use Rattle.aig_defs.proofs.Graphs.{AllApart, apart_lack, AllClass, all_class_append, wider_class, later_class, each_other, apart_append, class_of, section_class, section_apart, greater_not_below}
+use Rattle.aig_defs.proofs.Graphs.{AllApart, apart_lack, AllClass, all_class_append, all_class_lower, wider_class, later_class, each_other, apart_append, class_of, section_class, section_apart, greater_not_below}
 use Rattle.aig_defs.proofs.Mapped.{map_order}
 use Rattle.aig_defs.proofs.Members.{has_cases, has_first, has_rest}
 use Rattle.aig_defs.proofs.RankWords.{AllFromWord, word_lower, word_lacks}
@@ -373,10 +373,12 @@ once_edges_apart c n =
     let os = numbered output_edge 0 c.columns in
     let next = λ (l : Latch). l.next in
     let own = λ (l : ℕ). l in
-    let latches : AllClass 0 2 3 ns = section_class next 2 0 c.latches (omega arith) in
-    let outputs : AllClass 0 3 4 os = section_class own 3 0 c.columns (omega arith) in
-    let latches_apart : AllApart ns = section_apart next 2 0 c.latches (omega arith) in
-    let outputs_apart : AllApart os = section_apart own 3 0 c.columns (omega arith) in
+    let latches : AllClass 0 2 3 ns = all_class_lower (2 ^ 41 + 0) 0 2 3 ns (omega arith)
+    (section_class next (2 ^ 41) 2 0 c.latches (omega arith)) in
+    let outputs : AllClass 0 3 4 os = all_class_lower (2 ^ 42 + 0) 0 3 4 os (omega arith)
+    (section_class own (2 ^ 42) 3 0 c.columns (omega arith)) in
+    let latches_apart : AllApart ns = section_apart next (2 ^ 41) 2 0 c.latches (omega arith) in
+    let outputs_apart : AllApart os = section_apart own (2 ^ 42) 3 0 c.columns (omega arith) in
     let ends = apart_append ns os latches_apart outputs_apart
     (each_other 2 3 4 ns os latches outputs) in
     let rest = all_class_append 0 2 4 ns os (wider_class 2 3 4 ns (omega arith) latches)

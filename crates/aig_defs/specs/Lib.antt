@@ -10,6 +10,7 @@ pub mod Order
 pub mod Ranks
 pub mod Sorted
 pub mod Stimulus
+pub mod Straight
 pub mod Tail
 pub mod TextFault
 pub mod Value

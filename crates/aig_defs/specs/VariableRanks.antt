@@ -1,5 +1,5 @@
 -- The ranks of variables if the gates have an order, and the edges between ranks by the graph's.
-use Rattle.std.specs.Prelude.{ℕ, ◌+◌, ◌*◌, ◌/◌, ◌%◌, ◌==◌, nat_lt, List, length, filter, find, min, unwrap_or, option_map, if◌then◌else◌}
+use Rattle.std.specs.Prelude.{ℕ, ◌+◌, ◌-◌, ◌*◌, ◌^◌, ◌/◌, ◌%◌, ◌==◌, nat_lt, List, length, filter, find, min, unwrap_or, option_map, if◌then◌else◌}
 use Rattle.em_record.specs.declared.record.Record.{Record}
 use Rattle.aig_defs.specs.declared.circuit.Header.{Header}
 use Rattle.aig_defs.specs.declared.circuit.Gate.{Gate}
@@ -14,8 +14,8 @@ variable_rank c order v = index v (ranked c order)
 -- that of each variable
 abbrev pub target_rank : (ℕ → ℕ) → Header → ℕ → ℕ → ℕ
 target_rank rank h class t =
-    if class == 2 then 1 + h.inputs + h.latches + h.gates + t
-    else if class == 3 then 1 + h.inputs + 2 * h.latches + h.gates + t
+    if class == 2 then 1 + h.inputs + h.latches + h.gates + (t - 2 ^ 41)
+    else if class == 3 then 1 + h.inputs + 2 * h.latches + h.gates + (t - 2 ^ 42)
     else rank t
 
 -- the edge between ranks of an edge of a graph

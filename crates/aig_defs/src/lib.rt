@@ -8,7 +8,9 @@
 mod circuit;
 mod fault;
 mod form;
+mod place;
 
 pub use circuit::{Gate, Header, Latch};
 pub use fault::AigKind;
 pub use form::{Form, Limit};
+pub use place::{COLUMN_PLACES, LATCH_PLACES};

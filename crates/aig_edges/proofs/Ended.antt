@@ -288,6 +288,7 @@ builds_graph q x y p held b e =
     record {
       is = a.stays.is;
       header = b.header;
+      straight_is = b.straight_is;
       blocks = a.session;
       edges = b.edges;
       gates = b.gates;

@@ -1,13 +1,15 @@
 -- A graph over a call that leaves its blocks alone.
 use Rattle.std.proofs.Common.{◌≡◌, ℕ, List, ◌++◌, IsTrue, refl, sym, subst, ◌∙◌}
+use Rattle.em_record.specs.declared.record.Record.{Record}
 use Rattle.em_space.specs.Held.{Apart, Holds}
 use Rattle.em_space.specs.Rig.{RigState, Touches}
 use Rattle.em_space.proofs.Held.{holds_kept}
 use Rattle.em_space.proofs.Lists.{apart_left, apart_right}
-use Rattle.em_chain.specs.Chain.{ChainStays, chain_blocks}
+use Rattle.em_chain.specs.Chain.{ChainStays, chain_blocks, chain_items}
 use Rattle.em_chain.specs.declared.chain.Chain.{Chain}
 use Rattle.em_chain.proofs.Laws.{chain_stays}
 use Rattle.aig_defs.specs.Circuit.{Circuit}
+use Rattle.aig_defs.specs.Straight.{IsStraightGraph}
 use Rattle.aig_text.specs.Draft.{chains_blocks}
 use Rattle.aig_text.proofs.PartsLaws.{compact_stays}
 use Rattle.aig_edges.specs.Graph.{IsGraph, IsGraphOf, graph_blocks}
@@ -83,6 +85,11 @@ graph_stays held s t g h a i =
         stands = λ told.
             let k = i.stands (back told) in
             record { circuit = k.circuit; is = still_of w (back told) k.circuit k.is };
+        straight = λ told said.
+            subst (λ (rs : List Record). IsStraightGraph g.header rs (chain_items t g.gates))
+            (sym (w.third.items (back told)))
+            (subst (λ (rs : List Record). IsStraightGraph g.header (chain_items s g.sources) rs)
+            (sym (w.first.items (back told))) (i.straight (back told) said));
       };
       blocks = four_stayed w;
       of = still_of w;

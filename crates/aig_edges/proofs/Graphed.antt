@@ -1,15 +1,18 @@
 -- The sorted gates, and what comparing definitions and edges wrote, are the circuit's graph.
 use Rattle.std.proofs.Common.{◌≡◌, ℕ, ◌+◌, ◌≤◌, List, ◌++◌, IsTrue, ap, refl, sym, subst, ◌∙◌, arith, append_assoc}
+use Rattle.em_record.specs.declared.record.Record.{Record}
 use Rattle.em_space.specs.Held.{Apart, Holds}
 use Rattle.em_space.specs.Rig.{RigState}
 use Rattle.em_space.specs.declared.queue.Queue.{Ghosts as QueueGhosts}
 use Rattle.em_space.proofs.Lists.{apart_left, apart_sym, distinct_apart}
 use Rattle.em_space.proofs.Runs.{runs_first}
-use Rattle.em_chain.specs.Chain.{ChainStays, chain_blocks}
+use Rattle.em_chain.specs.Chain.{ChainStays, chain_blocks, chain_items}
 use Rattle.em_chain.specs.declared.chain.Chain.{Chain}
 use Rattle.em_queued.specs.Queued.{RunsBeside}
 use Rattle.em_queued.proofs.Queued.{beside_as, beside_holds, beside_then, beside_wider, others_beside}
 use Rattle.em_chain.proofs.Laws.{chain_stays}
+use Rattle.aig_defs.specs.Chains.{defs_of, gates_of}
+use Rattle.aig_defs.specs.Straight.{AreStraight}
 use Rattle.aig_text.specs.Parts.{lists_blocks}
 use Rattle.aig_text.specs.declared.parts.Parts.{Parts}
 use Rattle.aig_text.proofs.PartsLaws.{compact_stays}
@@ -24,6 +27,7 @@ use Rattle.aig_edges.specs.declared.graph.Graph.{Graph}
 use Rattle.aig_edges.proofs.Besides.{apart_between, beside_by, beside_crossed, beside_swapped, holds_last, session_past, stays_beside}
 use Rattle.aig_edges.proofs.Made.{AllStand, AreSizes, Given, MayCompare, NoneTwice, room_at, sorted_of}
 use Rattle.aig_edges.proofs.Stands.{runs_wider}
+use Rattle.aig_edges.proofs.StraightGraph.{graph_is_straight, straight_graph}
 
 -- the graph of these gates
 abbrev pub graph_with : Parts → Chain → Compared → Graph
@@ -34,6 +38,7 @@ graph_with p g r =
       edges = r.edges;
       sources = r.sources;
       resets = p.resets;
+      straight = p.straight;
     }
 
 -- the blocks that comparing may change are none of the queue's
@@ -152,8 +157,18 @@ built q x y {s} {t} {u} {p} {d} {g} {e} r v once size o can i blocks =
             let first = sym runs.runs.session.touches.told ∙ z in
             let some = v.parts.stands first in
             record { circuit = some.circuit; is = (each first).is some.circuit some.are };
+        straight = λ z said.
+            let first = sym runs.runs.session.touches.told ∙ z in
+            let some = v.parts.stands first in
+            let of = (each first).is some.circuit some.are in
+            let is : AreStraight (defs_of some.circuit) (gates_of some.circuit) =
+            subst (λ (rs : List Record). AreStraight rs (gates_of some.circuit)) some.are.defs
+            (subst (λ (rs : List Record). AreStraight (chain_items s p.defs) rs) some.are.gates
+            (v.parts.straight first said)) in
+            graph_is_straight of (straight_graph some.circuit some.are.is is);
       };
       header = refl;
+      straight_is = refl;
       edges = i.edges_blocks ∙ room_at o size.edges_count;
       gates = size.gates_blocks;
       sources = i.sources_blocks ∙ room_at {i = k} o refl;

@@ -5,12 +5,15 @@ pub mod Besides
 pub mod BuiltRoom
 pub mod Compared
 pub mod ComparedLists
+pub mod CopySteps
+pub mod CopiedLists
 pub mod Ended
 pub mod Finishes
 pub mod GraphLaws
 pub mod Graphed
 pub mod Halted
 pub mod Listed
+pub mod Known
 pub mod Looks
 pub mod Made
 pub mod Opened
@@ -24,4 +27,5 @@ pub mod SortedLists
 pub mod Sorts
 pub mod Stands
 pub mod Stepped
+pub mod StraightGraph
 pub mod Words

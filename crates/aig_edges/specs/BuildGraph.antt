@@ -1,5 +1,5 @@
 -- What making the graph of a circuit in any order of lines gives, and what it costs: definitions, gates
--- and edges are sorted by a queue, one after another, and definitions and edges are compared.
+-- and edges are put in order, one after another, by a queue if they aren't known to be so, and definitions and edges are compared.
 use Rattle.std.specs.Prelude.{◌≡◌, ℕ, ◌+◌, ◌*◌, ◌<◌, ◌≤◌, ◌^◌, ◌⊎◌, max, List, IsTrue, IfSome, Result, Ok, Err}
 use Rattle.em_space.specs.Ledger.{Session}
 use Rattle.em_space.specs.Queue.{Ends, ending_most, Leaves, Pays, QueueCounts}
@@ -24,7 +24,7 @@ use Rattle.aig_edges.specs.declared.graph.Graph.{Graph}
 abbrev pub def_count : Header → ℕ
 def_count h = h.inputs + h.latches + h.gates
 
--- the calls of the queue: each definition, gate and edge is pushed and popped once
+-- the most calls of the queue: each definition, gate and edge is pushed and popped once, or not at all
 abbrev pub sort_calls : Header → ℕ
 sort_calls h = 2 * def_count h + 2 * h.gates + 2 * edge_count h
 
@@ -73,6 +73,7 @@ pub record BuildsEach (s t : RigState) (p : Parts) (g : Graph) : Type 0 where
 pub record BuildsGraph (held : List ℕ) (s t : RigState) (p : Parts) (g : Graph) : Type 0 where
   pub is : IsGraph t g
   pub header : g.header ≡ p.header
+  pub straight_is : g.straight ≡ p.straight
   pub blocks : Session held s t (graph_blocks t g)
   pub edges : g.edges.blocks ≡ edge_room s p
   pub gates : g.gates.blocks ≡ gate_room s p

@@ -12,6 +12,7 @@ use Rattle.aig_defs.specs.Chains.{resets_of}
 use Rattle.aig_defs.specs.Circuit.{Circuit, IsCircuit, IsHeader, columns}
 use Rattle.aig_defs.specs.Graph.{graph_edges, graph_gates, graph_sources}
 use Rattle.aig_defs.specs.Ranks.{IsOrder, ordered_edges}
+use Rattle.aig_defs.specs.Straight.{IsStraightGraph}
 use Rattle.aig_text.specs.Draft.{chains_blocks}
 use Rattle.aig_text.specs.Parts.{IsChainOf, IsCompactOf}
 use Rattle.aig_edges.specs.declared.graph.Graph.{Graph}
@@ -47,7 +48,7 @@ pub record OfSomeGraph (s : RigState) (g : Graph) : Type 0 where
   pub is : IsGraphOf s g circuit
 
 -- A graph: four chains, as long as the header says, whose blocks are apart. That of the resets has no
--- spare block. If the device tells, they are those of a circuit.
+-- spare block. If the device tells, they are those of a circuit, which is straight if the graph says so.
 pub record IsGraph (s : RigState) (g : Graph) : Type 0 where
   pub header : IsHeader g.header
   pub gates : IsChainOf s g.header.gates g.gates
@@ -56,6 +57,8 @@ pub record IsGraph (s : RigState) (g : Graph) : Type 0 where
   pub resets : IsCompactOf s g.header.latches g.resets
   pub holds : IsTrue s.device.told → Holds s (graph_blocks s g)
   pub stands : IsTrue s.device.told → OfSomeGraph s g
+  pub straight : IsTrue s.device.told → IsTrue g.straight
+      → IsStraightGraph g.header (chain_items s g.sources) (chain_items s g.gates)
 
 -- the blocks of the edges between ranks and of the resets
 abbrev pub ordered_blocks : RigState → Ordered → List ℕ

@@ -4,6 +4,7 @@ pub mod BuildGraph
 pub mod Compared
 pub mod Comparing
 pub mod Comparison
+pub mod Copies
 pub mod Graph
 pub mod Looks
 pub mod Making

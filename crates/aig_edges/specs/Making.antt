@@ -37,6 +37,7 @@ pub record BuildsBeside {Q : Type 0} (q : QueueGhosts Q) (x y : Q) (s t : RigSta
   pub in_runs : CalledInRuns (sort_calls p.header) (sort_run p.header) (q.counts x) (q.counts y)
   pub is : IsGraph t g
   pub header : g.header ≡ p.header
+  pub straight_is : g.straight ≡ p.straight
   pub edges : g.edges.blocks ≡ edge_room s p
   pub gates : g.gates.blocks ≡ gate_room s p
   pub sources : g.sources.blocks ≡ source_room s p

@@ -1,12 +1,13 @@
-//! Makes the graph of a circuit's edges, whose lists a queue puts in order, one after another:
+//! Makes the graph of a circuit's edges, whose lists are put in order one after another, by a queue if they aren't
+//! known to be so:
 //!
-//!     defs     [5 1 4 2]  are sorted, and read once: no variable may come twice
-//!     gates    [h g]      are sorted
+//!     defs     [5 1 4 2]  in order are read once: no variable may come twice
+//!     gates    [h g]      are put in order
 //!     edges    [e f ..]   of the sorted gates and of the uses are sorted
 //!     sources  [1 2]      and edges are what comparing definitions and edges writes
 //!
 //! Kept here: queue and lists have no block in common, and at each stop the queue is abandoned.
-//! Left to the queue: the order of each list. Left to `comparing`: which faults there are.
+//! Left to the queue, or to who wrote the parts: the order of each list. Left to `comparing`: which faults there are.
 
 ghost use Rattle.std.specs.Prelude.{◌≡◌, ◌+◌, ◌*◌, ◌++◌, IfOk, IsTrue, OnOk};
 ghost use Rattle.em_space.specs.Held.{Holds};
@@ -22,7 +23,7 @@ ghost use Rattle.aig_edges.specs.Room.{BuildsInRoom};
 use crate::comparing::{Compared, compare};
 use crate::graph::Graph;
 use crate::looking::twice;
-use crate::sorting::{Sorted, sort, sort_edges};
+use crate::sorting::{Sorted, sort_edges, sort_known};
 use aig_defs::AigKind;
 use aig_text::{AigStop, Parts};
 use em_frames::Device;
@@ -116,15 +117,17 @@ fn build<D: Device, Q: Queue>(
         gates,
         uses,
         resets,
+        climbs,
+        straight,
     } = parts;
-    let defs = sort(rig, queue, defs, Sorted::Definitions)?;
+    let defs = sort_known(rig, queue, defs, Sorted::Definitions, climbs)?;
     if let Some(place) = twice(rig, &defs)? {
         return Err(AigStop::Fault {
             kind: AigKind::Twice,
             place,
         });
     }
-    let gates = sort(rig, queue, gates, Sorted::Themselves)?;
+    let gates = sort_known(rig, queue, gates, Sorted::Themselves, climbs)?;
     let edges = sort_edges(rig, queue, &gates, uses)?;
     let Compared { sources, edges } = compare(rig, defs, edges, header.inputs + header.latches)?;
     Ok(Graph {
@@ -133,5 +136,6 @@ fn build<D: Device, Q: Queue>(
         edges,
         sources,
         resets,
+        straight,
     })
 }

@@ -15,6 +15,9 @@ pub struct Graph {
     pub sources: Chain,
     /// A record for each latch, with the bit with which it starts.
     pub resets: Chain,
+    /// If true, variables stand in the order of inputs, latches and gates, with no gap, and each gate is above
+    /// its operands. False says nothing.
+    pub straight: bool,
 }
 
 /// A circuit whose variables, next values and columns have ranks, so that each edge leads to a

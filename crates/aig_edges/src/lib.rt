@@ -4,6 +4,7 @@
 
 mod build;
 mod comparing;
+mod copying;
 mod graph;
 mod looking;
 mod pushing;
@@ -11,6 +12,7 @@ mod sorting;
 mod stop;
 
 pub use build::check_and_build;
+pub use copying::{Copied, copy};
 pub use graph::{Graph, Ordered};
 pub use looking::next_record;
 pub use sorting::{Sorted, sort};

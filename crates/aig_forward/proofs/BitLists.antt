@@ -29,7 +29,9 @@ use Rattle.aig_text.proofs.Drafts.{packed_blocks_are}
 use Rattle.aig_text.proofs.Steadies.{advances_then, steady_none}
 use Rattle.aig_edges.specs.declared.stop.StepStop.{StepStop}
 use Rattle.aig_edges.specs.declared.stop.StepStop.TheVariants as stop
-use Rattle.aig_forward.specs.BitList.{ListMoment, Added, AddedFront, AddedSome, CanAdd, FaultIs, ReadsToList, StopsAdding, after_bits, one_bit, read_now}
+use Rattle.aig_forward.specs.BitList.{ListMoment, Added, AddedFront, AddedSome, CanAdd, FaultIs, ReadsToList, StopsAdding, one_bit, read_now}
+use Rattle.aig_sweep.specs.Line.{after_bits}
+use Rattle.aig_sweep.proofs.Lines.{after_after, after_none}
 use Rattle.aig_forward.specs.Line.{MovesAfterByte, bit_blocks, bit_record, step_stop}
 use Rattle.aig_forward.proofs.StimulusLines.{line_splits}
 
@@ -292,16 +294,6 @@ pub bit_number : (bit : Bool)
     → ◌≡◌ {A = Record} (record { a = 0; b = 0; c = bool_byte bit; d = 0 }) (bit_record bit)
 bit_number true = refl
 bit_number false = refl
-
--- bits after bits
-after_after : (xs ys : List Bool) (r : Reading (List Bool))
-    → and_then (and_then r (after_bits ys)) (after_bits xs) ≡ and_then r (after_bits (xs ++ ys))
-after_after xs ys (Reads zs p x) = ap (λ l. Reads l p x) (sym (append_assoc xs ys zs))
-after_after xs ys (Fails kind place) = refl
-
-after_none : (r : Reading (List Bool)) → r ≡ and_then r (after_bits [])
-after_none (Reads bits p x) = refl
-after_none (Fails kind place) = refl
 
 -- Nothing of a line was read yet.
 pub front_none : {tells : Bool} {m : ListMoment} (inputs : ℕ) → CanAdd inputs m

@@ -4,7 +4,8 @@ use Rattle.aig_defs.specs.Items.{Reading, Reads, Fails, Item, and_then, times, â
 use Rattle.aig_defs.specs.Stimulus.{stimulus_bit, stimulus_end, stimulus_line}
 use Rattle.aig_sweep.specs.Bits.{bits_of}
 use Rattle.aig_words.specs.Words.{lane}
-use Rattle.aig_forward.specs.BitList.{after_bits, one_bit}
+use Rattle.aig_sweep.specs.Line.{after_bits}
+use Rattle.aig_forward.specs.BitList.{one_bit}
 use Rattle.aig_forward.specs.Line.{bit_record}
 
 -- the bits that n inputs have, one after another

@@ -15,6 +15,7 @@ use Rattle.aig_text.specs.Reads.{Advances}
 use Rattle.aig_text.specs.Source.{Source, CanRead, left, source}
 use Rattle.aig_edges.specs.declared.stop.StepStop.{StepStop}
 use Rattle.aig_edges.specs.declared.stop.StepStop.TheVariants as stop
+use Rattle.aig_sweep.specs.Line.{after_bits}
 use Rattle.aig_forward.specs.Line.{MovesAfterByte, bit_blocks, bit_record}
 
 -- The text, the rig and the list at one moment.
@@ -98,10 +99,6 @@ pub record ReadsToList (tells : Bool) (n : ℕ) (item : Item (List Bool)) (old n
 -- one bit, as a list
 abbrev pub one_bit : Item (List Bool)
 one_bit = stimulus_bit >>= λ bit. Reads (bit ∷ [])
-
--- bits, with those that are read after them
-abbrev pub after_bits : List Bool → List Bool → Item (List Bool)
-after_bits bits more = Reads (bits ++ more)
 
 -- Of an item the first n bits were read and written, each by a byte of the text; the rest of it is to
 -- be read here. Blocks were moved only if a byte was taken.

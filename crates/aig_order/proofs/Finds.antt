@@ -371,7 +371,7 @@ finds_all q h list n next x y d {s} {t} e f =
     }
 
 -- the next rank is one past that of the last gate: another pass finds none
-nothing_left : (c : Circuit) (n : ℕ) → IsCircuit c → next_after c n ≡ first_gate_rank c + length c.gates
+pub nothing_left : (c : Circuit) (n : ℕ) → IsCircuit c → next_after c n ≡ first_gate_rank c + length c.gates
     → next_after c (suc n) ≡ next_after c n
 nothing_left c n is e =
     let few = no_more (found c (suc n)) c.gates (found_unlike c (suc n))

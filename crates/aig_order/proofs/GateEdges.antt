@@ -1,5 +1,5 @@
 -- The edges of a circuit that lead to one gate: its two operands', if no other gate has its variable.
-use Rattle.std.proofs.Common.{◌≡◌, ◌≢◌, ◌+◌, ◌*◌, ◌<◌, ◌≤◌, ◌/◌, ◌%◌, Bool, true, false, cond, eqb, ltb, ◌&&◌, inl, inr, List, [], ◌∷◌, ◌++◌, ℕ, sym, ap, ap₂, ◌∙◌, refl, subst, arith, flat_map, Contains}
+use Rattle.std.proofs.Common.{◌≡◌, ◌≢◌, ◌+◌, ◌^◌, ◌*◌, ◌<◌, ◌≤◌, ◌/◌, ◌%◌, Bool, true, false, cond, eqb, ltb, ◌&&◌, inl, inr, List, [], ◌∷◌, ◌++◌, ℕ, sym, ap, ap₂, ◌∙◌, refl, subst, arith, flat_map, Contains}
 use Rattle.std.proofs.lemmas.Bool.{lt-ltb, false_from_ne_true, ne_eqb, eq-eqb, ltb-true}
 use Rattle.em_record.specs.declared.record.Record.{Record}
 use Rattle.aig_defs.specs.declared.circuit.Gate.{Gate}
@@ -89,13 +89,13 @@ module _ (tell : Record → Bool) (v : ℕ) where
   latches_off j [] = no_edge
   latches_off j (l ∷ ls) =
       off_edge (next_edge j l) (numbered next_edge (j + 1) ls)
-      (end_off l.next j 2 (omega arith) (omega arith)) (latches_off (j + 1) ls)
+      (end_off l.next (2 ^ 41 + j) 2 (omega arith) (omega arith)) (latches_off (j + 1) ls)
 
   outputs_off : (j : ℕ) (os : List ℕ) → Agrees tell v (numbered output_edge j os) true 0
   outputs_off j [] = no_edge
   outputs_off j (o ∷ os) =
       off_edge (output_edge j o) (numbered output_edge (j + 1) os)
-      (end_off o j 3 (omega arith) (omega arith)) (outputs_off (j + 1) os)
+      (end_off o (2 ^ 42 + j) 3 (omega arith) (omega arith)) (outputs_off (j + 1) os)
 
   gates_off : (gs : List Gate) → (has (variables (left_sides gs)) v ≡ true → ⊥)
       → Agrees tell v (flat_map operand_edges gs) true 0

@@ -41,6 +41,9 @@ pub mod RankSweeps
 pub mod Ranked
 pub mod Reading
 pub mod SameGraph
+pub mod StraightEdges
+pub mod StraightOrder
+pub mod StraightRanks
 pub mod SweepCalls
 pub mod SweepPairs
 pub mod Swept

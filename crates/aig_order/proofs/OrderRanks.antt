@@ -1,6 +1,6 @@
 -- The edges between ranks of a circuit whose gates are in an order: they are those of its graph, each
 -- with the ranks in place of the variables.
-use Rattle.std.proofs.Common.{◌⊎◌, inl, inr, ◌≡◌, ◌+◌, ◌*◌, ◌<◌, ◌/◌, ◌%◌, ◌==◌, if◌then◌else◌, true, cond, List, [], ◌∷◌, ◌++◌, ℕ, sym, ap, ap₂, ◌∙◌, refl, subst, arith, length, map, flat_map, Contains, map-id}
+use Rattle.std.proofs.Common.{◌⊎◌, inl, inr, ◌≡◌, ◌+◌, ◌-◌, ◌^◌, ◌*◌, ◌<◌, ◌/◌, ◌%◌, ◌==◌, if◌then◌else◌, true, cond, List, [], ◌∷◌, ◌++◌, ℕ, sym, ap, ap₂, ◌∙◌, refl, subst, arith, length, map, flat_map, Contains, map-id}
 use Rattle.std.proofs.lemmas.Bool.{eq-eqb, ne_eqb}
 use Rattle.std.proofs.lemmas.List.{length-map, map-append}
 use Rattle.em_record.specs.declared.record.Record.{Record}
@@ -124,31 +124,31 @@ module _ (rank : ℕ → ℕ) (h : Header) (from : List ℕ) where
       ∙ ap (λ e. rank_edge from g.rhs0 (2 * t) ∷ e ∷ others) second
       ∙ ap (λ es. rank_edge from g.rhs0 (2 * t) ∷ rank_edge from g.rhs1 (2 * t + 1) ∷ es) rest
 
-  -- the edges of latches and of outputs, whose ranks begin at t
-  section_ranked : {A : Type 0} (literal : A → ℕ) (class j t : ℕ) (section : List A) → class < 4
-      → ((k : ℕ) (a : A) → by_class (literal a) (j + k) class
+  -- the edges of latches and of outputs, whose places begin at n and whose ranks at t
+  section_ranked : {A : Type 0} (literal : A → ℕ) (n class j t : ℕ) (section : List A) → class < 4
+      → ((k : ℕ) (a : A) → by_class (literal a) (n + (j + k)) class
       ≡ record { a = rank (literal a / 2); b = 2 * (t + k); c = literal a % 2; d = 0 })
       → ((a : A) → Contains section a → rank (literal a / 2) ≡ index (literal a / 2) from)
       → map (ranked_edge rank h)
-      (numbered (λ k (a : A). graph_edge (literal a) k class) j section)
+      (numbered (λ k (a : A). graph_edge (literal a) (n + k) class) j section)
       ≡ end_rank_edges from t (map literal section)
-  section_ranked literal class j t [] low f g = refl
-  section_ranked {A} literal class j t (a ∷ section) low f g =
+  section_ranked literal n class j t [] low f g = refl
+  section_ranked {A} literal n class j t (a ∷ section) low f g =
       let start : j ≡ j + 0 = omega arith in
       let place : 2 * (t + 0) ≡ 2 * t = omega arith in
-      let first = ranked_by (literal a) j class low
-      ∙ ap (λ k. by_class (literal a) k class) start ∙ f 0 a
+      let first = ranked_by (literal a) (n + j) class low
+      ∙ ap (λ k. by_class (literal a) (n + k) class) start ∙ f 0 a
       ∙ ap (λ (b : ℕ). record { a = rank (literal a / 2); b = b; c = literal a % 2; d = 0 }) place
       ∙ edge_at (literal a) (2 * t) (g a (contains_first a a section refl)) in
       let next = λ (k : ℕ) (b : A).
       let later : j + 1 + k ≡ j + (k + 1) = omega arith in
       let late : 2 * (t + (k + 1)) ≡ 2 * (t + 1 + k) = omega arith in
-      ap (λ p. by_class (literal b) p class) later ∙ f (k + 1) b
+      ap (λ p. by_class (literal b) (n + p) class) later ∙ f (k + 1) b
       ∙ ap (λ (w : ℕ). record { a = rank (literal b / 2); b = w; c = literal b % 2; d = 0 }) late in
-      let rest = section_ranked literal class (j + 1) (t + 1) section low next
+      let rest = section_ranked literal n class (j + 1) (t + 1) section low next
       (λ b i. g b (contains_rest a b section i)) in
       let others = map (ranked_edge rank h)
-      (numbered (λ k (a : A). graph_edge (literal a) k class) (j + 1) section) in
+      (numbered (λ k (a : A). graph_edge (literal a) (n + k) class) (j + 1) section) in
       ap (λ e. e ∷ others) first ∙ ap (λ es. rank_edge from (literal a) (2 * t) ∷ es) rest
 
 next_of : (ls : List Latch) (l : Latch) → Contains ls l → Contains (nexts ls) l.next
@@ -186,8 +186,9 @@ edges_ranked c order rank o u r =
     let end_rank = λ (l : ℕ) (i : Contains (ends c) l).
     r (l / 2) (used_defined c (l / 2) n (end_used c l i)) in
     let latches : map f ns ≡ end_rank_edges from t (nexts c.latches) =
-    section_ranked rank h from next 2 0 t c.latches (omega arith) (λ k l.
-    let place : 2 * (1 + h.inputs + h.latches + h.gates + (0 + k)) + 0 ≡ 2 * (t + k) =
+    section_ranked rank h from next (2 ^ 41) 2 0 t c.latches (omega arith) (λ k l.
+    let place : 2 * (1 + h.inputs + h.latches + h.gates + (2 ^ 41 + (0 + k) - 2 ^ 41)) + 0
+    ≡ 2 * (t + k) =
     omega (arith, numbers.first_end) in
     ap (λ (b : ℕ). record { a = rank (l.next / 2); b = b; c = l.next % 2; d = 0 }) place)
     (λ l i. end_rank l.next
@@ -195,8 +196,9 @@ edges_ranked c order rank o u r =
     let late = t + length (nexts c.latches) in
     let count = length-map c.latches next ∙ o.is.lengths.latches in
     let outputs : map f os ≡ end_rank_edges from late (map own c.columns) =
-    section_ranked rank h from own 3 0 late c.columns (omega arith) (λ k l.
-    let place : 2 * (1 + h.inputs + 2 * h.latches + h.gates + (0 + k)) + 0 ≡ 2 * (late + k) =
+    section_ranked rank h from own (2 ^ 42) 3 0 late c.columns (omega arith) (λ k l.
+    let place : 2 * (1 + h.inputs + 2 * h.latches + h.gates + (2 ^ 42 + (0 + k) - 2 ^ 42)) + 0
+    ≡ 2 * (late + k) =
     omega (arith, numbers.first_end, count) in
     ap (λ (b : ℕ). record { a = rank (l / 2); b = b; c = l % 2; d = 0 }) place)
     (λ l i. end_rank l (contains_right (nexts c.latches) c.columns l i)) in

@@ -40,7 +40,7 @@ use Rattle.aig_order.proofs.OrderMade.{ListBeside, Within, WithinOf, each_define
 use Rattle.aig_order.proofs.Ranked.{still_serves}
 
 -- before any call of the queue
-none_called : (calls run : ℕ) (c : QueueCounts) → CalledInRuns calls run c c
+pub none_called : (calls run : ℕ) (c : QueueCounts) → CalledInRuns calls run c c
 none_called calls run c = record { n = omega arith; k = omega arith; more = omega arith }
 
 -- calls in runs, and others after them

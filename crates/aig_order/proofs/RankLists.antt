@@ -90,10 +90,11 @@ gate_ranked h rank k e t bit low =
     let port : (2 * (e.b % 4) + e.c % 2) / 2 ≡ e.b % 4 = omega (arith, bit) in
     let bit_is : (2 * (e.b % 4) + e.c % 2) % 2 ≡ e.c = omega (arith, bit) in
     let target : target_rank rank h (e.b % 4) (e.b / 4) ≡ rank (e.b / 4) =
-    ap (λ b. cond b (1 + h.inputs + h.latches + h.gates + e.b / 4)
-    (cond (eqb (e.b % 4) 3) (1 + h.inputs + 2 * h.latches + h.gates + e.b / 4) (rank (e.b / 4))))
-    other2
-    ∙ ap (λ b. cond b (1 + h.inputs + 2 * h.latches + h.gates + e.b / 4) (rank (e.b / 4))) other3 in
+    ap (λ b. cond b (1 + h.inputs + h.latches + h.gates + (e.b / 4 - 2 ^ 41))
+    (cond (eqb (e.b % 4) 3) (1 + h.inputs + 2 * h.latches + h.gates + (e.b / 4 - 2 ^ 42))
+    (rank (e.b / 4)))) other2
+    ∙ ap (λ b. cond b (1 + h.inputs + 2 * h.latches + h.gates + (e.b / 4 - 2 ^ 42)) (rank (e.b / 4)))
+    other3 in
     let one : (if e.b % 4 == 1 then 1 else 0) ≡ e.b % 4 = one_by (e.b % 4) class in
     let word : min (2 * rank (e.b / 4) + (2 * (e.b % 4) + e.c % 2) / 2) (2 ^ 64 - 1)
     ≡ 2 * target_rank rank h (e.b % 4) (e.b / 4) + (if e.b % 4 == 1 then 1 else 0) =
@@ -111,29 +112,27 @@ end_ranked : (h : Header) (rank : ℕ → ℕ) (e : Record) → leads_to_gate e 
     → end_edge h (rank e.a) e ≡ ranked_edge rank h e
 end_ranked h rank e f =
     let class = ltb-false (e.b % 4) 2 f in
-    let first = 1 + h.inputs + h.latches + h.gates in
-    let second = 1 + h.inputs + 2 * h.latches + h.gates in
+    let latch = 1 + h.inputs + h.latches + h.gates + (e.b / 4 - 2 ^ 41) in
+    let column = 1 + h.inputs + 2 * h.latches + h.gates + (e.b / 4 - 2 ^ 42) in
     let port : cond {A = ℕ} (eqb (e.b % 4) 1) 1 0 ≡ 0 =
     ap (λ b. cond {A = ℕ} b 1 0) (ne_eqb (e.b % 4) 1 (omega (arith, class))) in
     elim (cases_Bool (eqb (e.b % 4) 2)) [
       | inl t ↦
-          let target : target_rank rank h (e.b % 4) (e.b / 4) ≡ first + e.b / 4 =
-          ap (λ b. cond b (first + e.b / 4)
-          (cond (eqb (e.b % 4) 3) (second + e.b / 4) (rank (e.b / 4)))) t in
-          let own : end_rank h e ≡ first + e.b / 4 =
-          ap (λ b. cond b first second + e.b / 4) t in
+          let target : target_rank rank h (e.b % 4) (e.b / 4) ≡ latch =
+          ap (λ b. cond b latch (cond (eqb (e.b % 4) 3) column (rank (e.b / 4)))) t in
+          let own : end_rank h e ≡ latch =
+          ap (λ b. cond b latch column) t in
           let word : 2 * end_rank h e ≡ 2 * target_rank rank h (e.b % 4) (e.b / 4)
           + (if e.b % 4 == 1 then 1 else 0) = omega (arith, target, own, port) in
           ap (λ (x : ℕ). record { a = rank e.a; b = x; c = e.c; d = 0 }) word
       | inr n ↦
           let last : e.b % 4 ≡ 3 = (let other = eqb-false (e.b % 4) 2 n in
           omega (arith, class, other)) in
-          let target : target_rank rank h (e.b % 4) (e.b / 4) ≡ second + e.b / 4 =
-          ap (λ b. cond b (first + e.b / 4)
-          (cond (eqb (e.b % 4) 3) (second + e.b / 4) (rank (e.b / 4)))) n
-          ∙ ap (λ b. cond b (second + e.b / 4) (rank (e.b / 4))) (eq-eqb (e.b % 4) 3 last) in
-          let own : end_rank h e ≡ second + e.b / 4 =
-          ap (λ b. cond b first second + e.b / 4) n in
+          let target : target_rank rank h (e.b % 4) (e.b / 4) ≡ column =
+          ap (λ b. cond b latch (cond (eqb (e.b % 4) 3) column (rank (e.b / 4)))) n
+          ∙ ap (λ b. cond b column (rank (e.b / 4))) (eq-eqb (e.b % 4) 3 last) in
+          let own : end_rank h e ≡ column =
+          ap (λ b. cond b latch column) n in
           let word : 2 * end_rank h e ≡ 2 * target_rank rank h (e.b % 4) (e.b / 4)
           + (if e.b % 4 == 1 then 1 else 0) = omega (arith, target, own, port) in
           ap (λ (x : ℕ). record { a = rank e.a; b = x; c = e.c; d = 0 }) word

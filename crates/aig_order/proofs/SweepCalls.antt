@@ -1,6 +1,6 @@
 -- How often sweeps over the adjacency list of a circuit call the queue: each edge to a gate has one note
 -- in both sweeps of a pass, and each gate takes two.
-use Rattle.std.proofs.Common.{sym, ◌≡◌, ◌+◌, ◌*◌, ◌<◌, ◌≤◌, ◌/◌, ◌%◌, Bool, true, false, cond, eqb, ◌&&◌, not, if◌then◌else◌, List, [], ◌∷◌, ◌++◌, ℕ, ap, ap₂, ◌∙◌, refl, arith, length, flat_map}
+use Rattle.std.proofs.Common.{sym, ◌≡◌, ◌+◌, ◌^◌, ◌*◌, ◌<◌, ◌≤◌, ◌/◌, ◌%◌, Bool, true, false, cond, eqb, ◌&&◌, not, if◌then◌else◌, List, [], ◌∷◌, ◌++◌, ℕ, ap, ap₂, ◌∙◌, refl, arith, length, flat_map}
 use Rattle.std.proofs.lemmas.Bool.{lt-ltb, ltb-true, false_from_ne_true}
 use Rattle.std.proofs.lemmas.List.{length-map}
 use Rattle.em_record.specs.declared.record.Record.{Record}
@@ -128,13 +128,13 @@ operands_two (g ∷ gs) =
 nexts_none : (j : ℕ) (ls : List Latch) → gate_edges (numbered next_edge j ls) ≡ 0
 nexts_none j [] = refl
 nexts_none j (l ∷ ls) =
-    let here = ap (λ b. cond {A = ℕ} b 1 0) (to_end l.next j 2 (omega arith) (omega arith)) in
+    let here = ap (λ b. cond {A = ℕ} b 1 0) (to_end l.next (2 ^ 41 + j) 2 (omega arith) (omega arith)) in
     omega (arith, here, nexts_none (j + 1) ls)
 
 outputs_none : (j : ℕ) (os : List ℕ) → gate_edges (numbered output_edge j os) ≡ 0
 outputs_none j [] = refl
 outputs_none j (o ∷ os) =
-    let here = ap (λ b. cond {A = ℕ} b 1 0) (to_end o j 3 (omega arith) (omega arith)) in
+    let here = ap (λ b. cond {A = ℕ} b 1 0) (to_end o (2 ^ 42 + j) 3 (omega arith) (omega arith)) in
     omega (arith, here, outputs_none (j + 1) os)
 
 graph_edges_two : (c : Circuit) → gate_edges (graph_edges c) ≡ 2 * length c.gates

@@ -8,6 +8,7 @@ pub mod OrderGraph
 pub mod PassLists
 pub mod Passes
 pub mod Room
+pub mod Straight
 pub mod SweepCalls
 pub mod SweepLists
 pub mod SweepPairs

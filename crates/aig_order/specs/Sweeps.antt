@@ -69,11 +69,11 @@ abbrev pub operand_edge : Record → ℕ → Record
 operand_edge m rank =
     record { a = m.c; b = min (2 * rank + m.d / 2) (2 ^ 64 - 1); c = m.d % 2; d = 0 }
 
--- the rank of a latch's next value or of a column that an edge leads to
+-- the rank of a latch's next value or of a column that an edge leads to, by its place
 abbrev pub end_rank : Header → Record → ℕ
 end_rank h e =
-    (if e.b % 4 == 2 then 1 + h.inputs + h.latches + h.gates
-    else 1 + h.inputs + 2 * h.latches + h.gates) + e.b / 4
+    if e.b % 4 == 2 then 1 + h.inputs + h.latches + h.gates + (e.b / 4 - 2 ^ 41)
+    else 1 + h.inputs + 2 * h.latches + h.gates + (e.b / 4 - 2 ^ 42)
 
 -- the edge between ranks of such an edge, from this rank
 abbrev pub end_edge : Header → ℕ → Record → Record

@@ -1,5 +1,5 @@
 //! Orders the gates of a circuit in any order of lines, so that operands come before their gates, and
-//! finds cycles: passes over the gates upwards by their variables, each by a queue.
+//! finds cycles: passes over the gates upwards by their variables, each by a queue, if the order isn't known.
 #![tactic(auto)]
 
 mod adjacency;

@@ -136,6 +136,7 @@ pub(crate) fn merge_graph<D: Device>(
         edges,
         sources,
         resets,
+        straight: _,
     } = graph;
     let definitions = merge_lists(rig, sources, gates, &header, Merge::Definitions)?;
     let list = merge_lists(rig, definitions, edges, &header, Merge::Adjacency)?;

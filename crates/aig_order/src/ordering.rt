@@ -4,8 +4,10 @@
 //!     passes                 give each gate that they find the next rank
 //!     a gate without a rank  is on a cycle, or uses one
 //!     ranks                  are sent along edges, and these are sorted
+//!
+//! If the circuit is straight, each variable is its own rank, and the graph's edges are read once.
 
-ghost use Rattle.std.specs.Prelude.{◌++◌, IfOk, IsTrue, OnOk};
+ghost use Rattle.std.specs.Prelude.{◌≡◌, ◌≤◌, ◌++◌, IfOk, IsTrue, OnOk};
 ghost use Rattle.em_space.specs.Held.{Holds};
 ghost use Rattle.em_space.specs.Rig.{Cause, Sound};
 ghost use Rattle.em_space.specs.Seen.{seen};
@@ -15,19 +17,22 @@ ghost use Rattle.aig_edges.specs.Graph.{IsGraph, graph_blocks};
 ghost use Rattle.aig_order.specs.FindsOrder.{OrdersTo};
 ghost use Rattle.aig_order.specs.OrderGraph.{BeginsOrdering, OfDefinedCircuit, OrderCosts, OrdersGraph, StopsOrdering};
 ghost use Rattle.aig_order.specs.Room.{OrdersBlocks};
+ghost use Rattle.aig_order.specs.Straight as straight_order;
+ghost use Rattle.aig_order.specs.Straight.{OrdersStraight};
 
 use crate::merging::merge_graph;
 use crate::passing::find_all;
 use crate::ranking::{left_below, rank_edges};
-use aig_defs::AigKind;
+use aig_defs::{AigKind, Header};
 use aig_edges::{Graph, Ordered};
+use aig_straight::straight_edges;
 use aig_text::AigStop;
 use em_frames::Device;
 use em_space::{Queue, Rig};
 
-/// The edges between ranks of a graph. A stop is a cycle, or the fault of a call of the queue or of one
+/// The edges between ranks of a graph by passes. A stop is a cycle, or the fault of a call of the queue or of one
 /// on a list; after it the queue may only be abandoned.
-fn find_order<D: Device, Q: Queue>(
+fn find_by_passes<D: Device, Q: Queue>(
     rig: &mut Rig<'_, D>,
     graph: Graph,
     queue: &mut Q,
@@ -63,6 +68,58 @@ fn find_order<D: Device, Q: Queue>(
         edges,
         resets,
     })
+}
+
+/// How many passes find the gates of a straight circuit.
+fn straight_passes(header: &Header) -> u64
+    ensures { result ≡ straight_order.straight_passes header.now }
+{
+    if header.gates == 0 { 0 } else { 1 }
+}
+
+/// The edges between ranks of a straight graph, whose gates are all found by one pass: no queue is called. A
+/// stop is the fault of a call on a list.
+fn find_straight<D: Device>(rig: &mut Rig<'_, D>, graph: Graph) -> Result<Ordered, AigStop>
+    requires sound { Sound (seen D.state rig.old) }
+    requires graph { IsGraph (seen D.state rig.old) graph }
+    requires free { 3 ≤ (seen D.state rig.old).pool.free }
+    ensures finds { OrdersStraight (seen D.state rig.old) (seen D.state rig.new) graph result }
+{
+    let header = graph.header;
+    let (edges, resets) = straight_edges(rig, graph)?;
+    Ok(Ordered {
+        header,
+        passes: straight_passes(&header),
+        edges,
+        resets,
+    })
+}
+
+/// The edges between ranks of a graph: of a straight one by the variables themselves, else by passes. A stop is a
+/// cycle, or the fault of a call of the queue or of one on a list; after it the queue may only be abandoned.
+fn find_order<D: Device, Q: Queue>(
+    rig: &mut Rig<'_, D>,
+    graph: Graph,
+    queue: &mut Q,
+) -> Result<Ordered, AigStop>
+    requires sound { Sound (seen D.state rig.old) }
+    requires graph { IsGraph (seen D.state rig.old) graph }
+    requires defined { IsTrue (seen D.state rig.old).device.told
+        → OfDefinedCircuit (seen D.state rig.old) graph }
+    requires queue { Q.IsQueue queue.old (seen D.state rig.old) }
+    requires begins { BeginsOrdering graph.header (Q.counts queue.old) (seen D.state rig.old) }
+    requires holds { IsTrue (seen D.state rig.old).device.told → Holds (seen D.state rig.old)
+        (Q.blocks queue.old (seen D.state rig.old) ++ graph_blocks (seen D.state rig.old) graph) }
+    ensures frames { Q.HasItsFrames queue.new (seen D.state rig.new) }
+    ensures queue { OnOk result (Q.IsQueue queue.new (seen D.state rig.new)) }
+    ensures finds { OrdersTo Q.Queue queue.old queue.new (seen D.state rig.old)
+        (seen D.state rig.new) graph result }
+{
+    let straight = graph.straight;
+    if straight {
+        return find_straight(rig, graph);
+    }
+    find_by_passes(rig, graph, queue)
 }
 
 /// Orders the gates of a circuit by the passes that find them, and makes its edges between ranks. The

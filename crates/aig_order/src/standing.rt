@@ -6,7 +6,7 @@ ghost use Rattle.aig_order.specs.SweepCalls as calls;
 ghost use Rattle.aig_order.specs.Sweeps as sweeps;
 
 use crate::adjacency::{is_edge, is_gate, leads_to_gate, rises, with_rank};
-use aig_defs::Header;
+use aig_defs::{COLUMN_PLACES, Header, LATCH_PLACES};
 use em_record::Record;
 
 /// What a sweep over an adjacency list is for. A pass has two, and so have the edges between ranks.
@@ -138,10 +138,11 @@ pub(crate) fn end_edge(header: &Header, standing: Standing, edge: Record) -> Rec
     ensures { result ≡ sweeps.end_edge header.now standing.rank edge }
 {
     let first = 1 + header.inputs + header.latches + header.gates;
+    let place = edge.b / 4;
     let target = if edge.b % 4 == 2 {
-        first + edge.b / 4
+        first + place.saturating_sub(LATCH_PLACES)
     } else {
-        first + header.latches + edge.b / 4
+        first + header.latches + place.saturating_sub(COLUMN_PLACES)
     };
     Record {
         a: standing.rank,

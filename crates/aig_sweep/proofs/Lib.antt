@@ -6,6 +6,7 @@ pub mod Bits
 pub mod Circuits
 pub mod Heard
 pub mod Lent
+pub mod Lines
 pub mod Nexts
 pub mod Passes
 pub mod Sends

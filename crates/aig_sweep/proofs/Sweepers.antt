@@ -4,8 +4,8 @@ use Rattle.em_record.specs.Shape.{ShapeNumbers}
 use Rattle.em_record.specs.declared.record.Record.{Record}
 use Rattle.em_space.specs.Held.{Holds}
 use Rattle.em_space.specs.Ledger.{Runs, Stops}
-use Rattle.em_space.specs.Queue.{AreOut, Ended, Ends, ending_most, Leaves, Pays, QueueCounts}
-use Rattle.em_space.specs.Rig.{RigState, Sound, Cause}
+use Rattle.em_space.specs.Queue.{AreOut, Ended, Ends, ending_most, LacksBlocks, Leaves, Pays, QueueCounts}
+use Rattle.em_space.specs.Rig.{RigState, Sound, Cause, IfFull}
 use Rattle.em_space.specs.declared.fault.EmFault.{EmFault}
 use Rattle.em_space.specs.declared.queue.Queue.{Ghosts}
 use Rattle.em_space.proofs.Apart.{off_right}
@@ -19,9 +19,9 @@ use Rattle.em_chain.specs.Effects.{Unmoved}
 use Rattle.em_chain.specs.declared.chain.Chain.{Chain}
 use Rattle.em_chain.proofs.Keeps.{payload_kept}
 use Rattle.em_chain.proofs.Writings.{cause_still}
-use Rattle.em_queued.specs.Room.{FitsRoom}
+use Rattle.em_queued.specs.Room.{FitsRoom, FullBeside}
 use Rattle.em_queued.proofs.Queued.{beside_as, others_beside, unstored_frames}
-use Rattle.em_queued.proofs.Room.{full_others}
+use Rattle.em_queued.proofs.Room.{full_from, full_others, full_queue}
 use Rattle.aig_defs.specs.Chains.{bit, numbered, reset_record}
 use Rattle.aig_defs.specs.Circuit.{Circuit, resets}
 use Rattle.aig_defs.specs.declared.circuit.Latch.{Latch}
@@ -245,7 +245,22 @@ module _ {Q : Type 0} (queue : Ghosts Q) {s t : RigState} (e : Sweeper Q) (sound
         cause_after (lists_blocks s e) s t u f runs.session.touches d,
       )
 
--- Its lists weren't discarded, and its queue was abandoned.
+-- Its lists were discarded, and the end of its queue may have been refused;
+pub end_full : {Q : Type 0} (queue : Ghosts Q) {s t : RigState} (e : Sweeper Q)
+    → Runs (lists_size e) (lists_blocks s e) [] (lists_account (lists_size e) (2 * lists_size e))
+    (lists_account 0 0) s t
+    → (r : Result (Unit {0}) EmFault)
+    → IfErr r (λ fault. IfFull fault (LacksBlocks queue.enough queue.room (queue.counts e.queue)
+    (queue.counts e.queue).k t))
+    → IfErr r (FullBeside queue.room (lists_size e) (lists_size e) (queue.counts e.queue)
+    (queue.counts e.queue).k s)
+end_full queue e k (Ok x) h = tt
+end_full queue e k (Err fault) h =
+    let used = k.spends.used in
+    full_from k.frames.shape k.session.touches.told (omega (arith, used))
+    (full_queue queue.enough 0 fault h)
+
+-- or the lists weren't released.
 pub end_refused : {Q : Type 0} (queue : Ghosts Q) {s t u : RigState} {f : EmFault}
     (e : Sweeper Q) → Sound s
     → Stops (lists_size e) 0 0 (lists_blocks s e) (lists_account (lists_size e) (2 * lists_size

@@ -1,11 +1,16 @@
--- The end of a line of the stimulus.
-use Rattle.std.specs.Prelude.{ℕ, Bool, Result}
+-- The bits and the end of a line of the stimulus.
+use Rattle.std.specs.Prelude.{ℕ, Bool, List, ◌++◌, Result}
 use Rattle.em_io.specs.Feed.{Fed}
 use Rattle.em_io.specs.Shelf.{Stand}
+use Rattle.aig_defs.specs.Items.{Item, Reads}
 use Rattle.aig_defs.specs.Stimulus.{stimulus_end}
 use Rattle.aig_text.specs.Reads.{ReadsItem}
 use Rattle.aig_text.specs.Source.{Source}
 use Rattle.aig_text.specs.declared.stop.AigStop.{AigStop}
+
+-- bits, with those that are read after them
+abbrev pub after_bits : List Bool → List Bool → Item (List Bool)
+after_bits bits more = Reads (bits ++ more)
 
 -- the text that a feed of this state reads from a shelf of this one
 abbrev pub text_of : Fed → Stand → ℕ → Source

@@ -7,7 +7,7 @@
 //! Kept here: the chains are as long as the header says, and all blocks are apart. Left to the rig
 //! and the queue: that blocks stay as they were stored.
 
-ghost use Rattle.std.specs.Prelude.{◌≡◌, ◌++◌, IfOk, IsTrue};
+ghost use Rattle.std.specs.Prelude.{◌≡◌, ◌++◌, IfErr, IfOk, IsTrue};
 ghost use Rattle.em_space.specs.Held.{Holds};
 ghost use Rattle.em_space.specs.Queue.{CanServe, Leaves};
 ghost use Rattle.em_space.specs.Rig.{Sound};
@@ -35,7 +35,8 @@ pub struct Sweeper<Q> {
 
 impl<Q: Queue> Sweeper<Q> {
     ghost use Rattle.aig_sweep.specs.Room.{BeginsInRoom};
-    ghost use Rattle.aig_sweep.specs.Sweeper.{BeginsFor, BeginsTo, EndsSweeper, EndsTo, HasSweeperFrames, IsSweeper};
+    ghost use Rattle.em_queued.specs.Room.{FullBeside};
+    ghost use Rattle.aig_sweep.specs.Sweeper.{BeginsFor, BeginsTo, EndsSweeper, EndsTo, HasSweeperFrames, IsSweeper, lists_size};
 
     /// A sweeper along these edges, by a queue with no item. Each latch starts at its reset, in lane 0.
     ///
@@ -85,13 +86,16 @@ impl<Q: Queue> Sweeper<Q> {
 
     /// Releases all blocks, and gives the queue's frames back. After a fault the frames are back too, and
     /// blocks may stay in use. Over a device that tells it makes at most two moves for each block of the
-    /// chains, beside what is left of the queue's allowance, if it has one.
+    /// chains, beside what is left of the queue's allowance, if it has one; and `Full` comes only if the queue's
+    /// room, if it states one, is more than all blocks that were free or the queue's.
     pub fn end<D: Device>(self, rig: &mut Rig<'_, D>) -> Result<(), EmFault>
         requires sound { Sound (seen D.state rig.old) }
         requires is { IsSweeper Q.Queue (seen D.state rig.old) self }
         requires free { CanServe (seen D.state rig.old).pool }
         ensures ends { EndsSweeper Q.Queue (seen D.state rig.old) (seen D.state rig.new) self }
         ensures done { EndsTo Q.Queue (seen D.state rig.old) (seen D.state rig.new) self result }
+        ensures full { IfErr result (FullBeside Q.room (lists_size self) (lists_size self)
+            (Q.counts self.queue) (Q.counts self.queue).k (seen D.state rig.old)) }
     {
         let Sweeper {
             header: _,

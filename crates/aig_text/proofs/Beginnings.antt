@@ -1,11 +1,12 @@
 -- A draft is made of four writers.
-use Rattle.std.proofs.Common.{◌≡◌, length, refl, sym, ◌∙◌, arith}
+use Rattle.std.proofs.Common.{◌≡◌, true, length, refl, sym, ◌∙◌, arith}
 use Rattle.em_frames.specs.Pool.{HasFrames}
 use Rattle.em_space.specs.Rig.{RigState}
 use Rattle.em_chain.specs.Effects.{LendsFrame}
 use Rattle.em_chain.specs.Writes.{Begins}
 use Rattle.em_chain.specs.declared.writer.Writer.{Writer}
 use Rattle.em_chain.proofs.Writings.{writer_lent}
+use Rattle.aig_text.specs.Climbing.{at_foot}
 use Rattle.aig_text.specs.Draft.{BeginsDraft, IsPackedWriter}
 use Rattle.aig_text.specs.declared.draft.Draft.{Draft}
 
@@ -49,8 +50,8 @@ four_out {s} {t = t} w x y z l k =
 
 pub begins_four : {s a b m t : RigState} (d : Draft) → LendsFrame s a → LendsFrame a b
     → LendsFrame b m → LendsFrame m t → Begins a d.defs → Begins b d.gates → Begins m d.uses
-    → Begins t d.resets → BeginsDraft t d
-begins_four d x y z l i j k n =
+    → Begins t d.resets → d.climb ≡ at_foot → d.rises ≡ true → BeginsDraft t d
+begins_four d x y z l i j k n foot up =
     let f = begins_lent (begins_lent (begins_lent i y) z) l in
     let g = begins_lent (begins_lent j z) l in
     let u = begins_lent k l in
@@ -73,4 +74,6 @@ begins_four d x y z l i j k n =
       gates = g;
       uses = u;
       resets = n;
+      climb_is = foot;
+      rises_is = up;
     }

@@ -21,7 +21,7 @@ use Rattle.aig_defs.specs.Items.{Reading, Reads, Fails, and_then}
 use Rattle.aig_defs.specs.Order.{after_magic, header_line, sections}
 use Rattle.aig_defs.proofs.Begun.{sections_all, size_most}
 use Rattle.aig_defs.proofs.Order.{sections_end, sections_read}
-use Rattle.aig_text.specs.Ascii.{CompletesReading, FullOnlyIf, GivesCircuit, GivesParts, IfEm, IfEmStop, IsPackedOf, OwesAfter, TakesAtMost, enough_for, size_given}
+use Rattle.aig_text.specs.Ascii.{ClimbIfSaid, CompletesReading, FullOnlyIf, GivesCircuit, GivesParts, IfEm, IfEmStop, IsPackedOf, OwesAfter, StraightIfSaid, TakesAtMost, enough_for, size_given}
 use Rattle.aig_text.specs.Draft.{IsPackedChain, LeavesDraft, WritesFour, draft_room}
 use Rattle.aig_text.specs.Listing.{Listing, listing_of, record_count}
 use Rattle.aig_text.specs.Reads.{Advances, OnShelfFault, OnShelfStop, ReadCause, ReadsItem, StopsAs}
@@ -298,11 +298,12 @@ written_takes s t f g k r a size few w =
 module _ (form : Form) {tells : Bool} {old mid new : Source} {h : Header} {s t : RigState}
     (header : ReadsItem tells (header_line form) old mid (Ok h)) (is : IsHeader h) where
   -- All was read.
-  pub circuit_read : (f g k r : Chain) → Advances tells mid new
-      → WritesListing tells form h mid new s t f g k r
+  pub circuit_read : (f g k r : Chain) (up on_up : Bool) → Advances tells mid new
+      → WritesListing tells form h mid new s t f g k r → ClimbIfSaid up t f
+      → StraightIfSaid on_up t f g
       → ReadsCircuit form tells old new s t
-      (Ok (record { header = h; defs = f; gates = g; uses = k; resets = r }))
-  circuit_read f g k r on w =
+      (Ok (record { header = h; defs = f; gates = g; uses = k; resets = r; climbs = up; straight = on_up }))
+  circuit_read f g k r up on_up on w climb straight =
       let a = w.lists in
       let at : IsTrue tells → ListedCircuit (sections form h mid.feed.place (left mid)) a
       new.feed.place (left new) =
@@ -335,6 +336,8 @@ module _ (form : Form) {tells : Bool} {old mid new : Source} {h : Header} {s t :
                       ∙ ap (λ (l : Listing). l.resets) (sym c.lists);
                 };
               };
+          climb = climb;
+          straight = straight;
         };
         gives = λ z.
             let c = at z in

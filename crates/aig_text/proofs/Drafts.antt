@@ -1,5 +1,5 @@
 -- The lists of a circuit that is being read, over calls one after another.
-use Rattle.std.proofs.Common.{◌≡◌, ℕ, ◌+◌, ◌*◌, ◌^◌, ◌≤◌, min, List, [], ◌∷◌, ◌++◌, length, refl, sym, ap, ◌∙◌, arith, IsTrue, Ok, Err, Result, OnOk, IfErr}
+use Rattle.std.proofs.Common.{◌≡◌, ℕ, ◌+◌, ◌*◌, ◌^◌, ◌≤◌, min, Bool, List, [], ◌∷◌, ◌++◌, length, refl, sym, ap, ◌∙◌, arith, IsTrue, Ok, Err, Result, OnOk, IfErr}
 use Rattle.em_record.specs.Shape.{ShapeNumbers}
 use Rattle.em_record.specs.declared.record.Record.{Record}
 use Rattle.em_frames.specs.Pool.{HasFrames, SameFrames}
@@ -22,9 +22,12 @@ use Rattle.em_chain.proofs.Laws.{writer_stays}
 use Rattle.em_chain.proofs.Pairs.{blocks_least}
 use Rattle.em_chain.proofs.Sessions.{more_low, wrote_none, wrote_one, wrote_stays, wrote_then}
 use Rattle.em_chain.proofs.Withins.{within_grows}
+use Rattle.aig_text.specs.Climbing.{after_record, after_records, above_operands, all_above_operands}
 use Rattle.aig_text.specs.Draft.{Drafted, DraftsTo, HasDraftFrames, IsDraft, IsPackedWriter, StopsDraft, draft_account, draft_blocks, draft_len, draft_room}
+use Rattle.aig_text.specs.declared.climb.Climb.{Climb}
 use Rattle.aig_text.specs.declared.draft.Draft.{Draft}
 use Rattle.aig_text.proofs.Ceilings.{room_by}
+use Rattle.aig_text.proofs.Climbed.{past_append, rises_append}
 
 -- The blocks of a packed list follow from its records.
 pub packed_blocks_are : {s : RigState} {w : Writer} → 128 ≤ s.pool.shape.block
@@ -158,15 +161,16 @@ extends {s} {t} {w} {v} h i g a k =
     }
 
 -- One record more in the first list,
-drafted_def : {s t : RigState} {d : Draft} {v : Writer} {x : Record} → IsDraft s d
-    → Extends s t d.defs v x → Drafted s t d (record d { defs = v }) (x ∷ []) [] [] []
-drafted_def {s} {t} {d} {v} i h =
+drafted_def : {s t : RigState} {d : Draft} {v : Writer} {k : Climb} {x : Record} → IsDraft s d
+    → k ≡ after_record d.climb x → Extends s t d.defs v x
+    → Drafted s t d (record d { defs = v; climb = k }) (x ∷ []) [] [] []
+drafted_def {s} {t} {d} {v} {k} i up h =
     let g = runs_goes h.runs in
     let y = beside (writer_blocks s d.defs) g (λ k. (draft_apart i k).three.yx) i.gates in
     let z = beside (writer_blocks s d.defs) g (λ k. (draft_apart i k).three.zx) i.uses in
     let w = beside (writer_blocks s d.defs) g (λ k. (draft_apart i k).wx) i.resets in
     record {
-      runs = runs_as (draft_blocks t (record d { defs = v }))
+      runs = runs_as (draft_blocks t (record d { defs = v; climb = k }))
           (runs_second (writer_blocks s d.resets) (writer_account d.resets) i.holds
           (runs_first (writer_blocks s d.gates ++ writer_blocks s d.uses)
           (both (writer_account d.gates) (writer_account d.uses)) (holds_lists i) h.runs))
@@ -175,13 +179,16 @@ drafted_def {s} {t} {d} {v} i h =
       gates = wrote_stays g.touches.told y;
       uses = wrote_stays g.touches.told z;
       resets = wrote_stays g.touches.told w;
+      climb_is = up;
+      rises_is = refl;
       grows = omega (arith, h.grows);
     }
 
 -- in the second,
-drafted_gate : {s t : RigState} {d : Draft} {v : Writer} {x : Record} → IsDraft s d
-    → Extends s t d.gates v x → Drafted s t d (record d { gates = v }) [] (x ∷ []) [] []
-drafted_gate {s} {t} {d} {v} i h =
+drafted_gate : {s t : RigState} {d : Draft} {v : Writer} {b : Bool} {x : Record} → IsDraft s d
+    → b ≡ above_operands d.rises x → Extends s t d.gates v x
+    → Drafted s t d (record d { gates = v; rises = b }) [] (x ∷ []) [] []
+drafted_gate {s} {t} {d} {v} {b} i up h =
     let g = runs_goes h.runs in
     let xs = writer_blocks s d.defs in
     let zs = writer_blocks s d.uses in
@@ -189,7 +196,7 @@ drafted_gate {s} {t} {d} {v} i h =
     let z = beside (writer_blocks s d.gates) g (λ k. (draft_apart i k).three.zy) i.uses in
     let w = beside (writer_blocks s d.gates) g (λ k. (draft_apart i k).wy) i.resets in
     record {
-      runs = runs_as (draft_blocks t (record d { gates = v }))
+      runs = runs_as (draft_blocks t (record d { gates = v; rises = b }))
           (runs_second (writer_blocks s d.resets) (writer_account d.resets) i.holds
           (runs_second xs (writer_account d.defs) (holds_lists i)
           (runs_first zs (writer_account d.uses)
@@ -199,6 +206,8 @@ drafted_gate {s} {t} {d} {v} i h =
       gates = h.wrote;
       uses = wrote_stays g.touches.told z;
       resets = wrote_stays g.touches.told w;
+      climb_is = refl;
+      rises_is = up;
       grows = omega (arith, h.grows);
     }
 
@@ -223,6 +232,8 @@ drafted_use {s} {t} {d} {v} i h =
       gates = wrote_stays g.touches.told z;
       uses = h.wrote;
       resets = wrote_stays g.touches.told w;
+      climb_is = refl;
+      rises_is = refl;
       grows = omega (arith, h.grows);
     }
 
@@ -244,6 +255,8 @@ drafted_reset {s} {t} {d} {v} i h =
       gates = wrote_stays g.touches.told z;
       uses = wrote_stays g.touches.told w;
       resets = h.wrote;
+      climb_is = refl;
+      rises_is = refl;
       grows = omega (arith, h.grows);
     }
 
@@ -316,25 +329,25 @@ stops_reset {s} {t} {d} h i k =
     }
 
 -- What an append to one list does to all: to the first,
-pub adds_def : {T : Type 0} (s t : RigState) (d : Draft) (v : Writer) (x : Record)
-    (result : Result T EmFault) → Sound s → IsDraft s d → Goes (writer_blocks s d.defs) s t
+pub adds_def : {T : Type 0} (s t : RigState) (d : Draft) (v : Writer) (k : Climb) (x : Record)
+    (result : Result T EmFault) → k ≡ after_record d.climb x → Sound s → IsDraft s d → Goes (writer_blocks s d.defs) s t
     → OnOk result (Appends s t d.defs v x)
     → Costs (one_more s d.defs) (2 * one_more s d.defs) (min d.defs.blocks 1)
     (writer_account d.defs) (writer_account v) s t result → IfErr result (Cause s t)
-    → DraftsTo s t d (record d { defs = v }) (x ∷ []) [] [] [] result
-adds_def s t d v x (Ok y) h i g a k c = drafted_def i (extends h i.defs.is g a k)
-adds_def s t d v x (Err e) h i g a k c =
-    stops_def h i (record { goes = g; halts = k; cause = c })
+    → DraftsTo s t d (record d { defs = v; climb = k }) (x ∷ []) [] [] [] result
+adds_def s t d v k x (Ok y) up h i g a m c = drafted_def i up (extends h i.defs.is g a m)
+adds_def s t d v k x (Err e) up h i g a m c =
+    stops_def h i (record { goes = g; halts = m; cause = c })
 
 -- to the second,
-pub adds_gate : {T : Type 0} (s t : RigState) (d : Draft) (v : Writer) (x : Record)
-    (result : Result T EmFault) → Sound s → IsDraft s d → Goes (writer_blocks s d.gates) s t
+pub adds_gate : {T : Type 0} (s t : RigState) (d : Draft) (v : Writer) (b : Bool) (x : Record)
+    (result : Result T EmFault) → b ≡ above_operands d.rises x → Sound s → IsDraft s d → Goes (writer_blocks s d.gates) s t
     → OnOk result (Appends s t d.gates v x)
     → Costs (one_more s d.gates) (2 * one_more s d.gates) (min d.gates.blocks 1)
     (writer_account d.gates) (writer_account v) s t result → IfErr result (Cause s t)
-    → DraftsTo s t d (record d { gates = v }) [] (x ∷ []) [] [] result
-adds_gate s t d v x (Ok y) h i g a k c = drafted_gate i (extends h i.gates.is g a k)
-adds_gate s t d v x (Err e) h i g a k c =
+    → DraftsTo s t d (record d { gates = v; rises = b }) [] (x ∷ []) [] [] result
+adds_gate s t d v b x (Ok y) up h i g a k c = drafted_gate i up (extends h i.gates.is g a k)
+adds_gate s t d v b x (Err e) up h i g a k c =
     stops_gate h i (record { goes = g; halts = k; cause = c })
 
 -- to the third,
@@ -385,6 +398,8 @@ drafted_none {s} {d} h i = record {
   gates = wrote_none i.gates.is;
   uses = wrote_none i.uses.is;
   resets = wrote_none i.resets.is;
+  climb_is = refl;
+  rises_is = refl;
   grows = omega arith;
 }
 
@@ -401,6 +416,10 @@ drafted_then {s} {t} {u} {d} {e} {k} xs ys zs ws xs2 ys2 zs2 ws2 h g =
       gates = wrote_then ys ys2 h.gates g.gates;
       uses = wrote_then zs zs2 h.uses g.uses;
       resets = wrote_then ws ws2 h.resets g.resets;
+      climb_is = g.climb_is ∙ ap (λ (c : Climb). after_records c xs2) h.climb_is
+          ∙ sym (past_append d.climb xs xs2);
+      rises_is = g.rises_is ∙ ap (λ (b : Bool). all_above_operands b ys2) h.rises_is
+          ∙ sym (rises_append d.rises ys ys2);
       grows = omega arith;
     }
 

@@ -176,12 +176,12 @@ finishes_packed {s} {t} {w} {c} held h k i f = record {
 }
 
 -- The blocks of all lists are stored.
-finish_pays_all : {s m a b t : RigState} {d : Draft} {f g h k : Chain}
+finish_pays_all : {s m a b t : RigState} (d : Draft) {f g h k : Chain}
     → FinishCosts s m d.resets (Ok k) → FinishCosts m a d.defs (Ok f)
     → FinishCosts a b d.gates (Ok g) → FinishCosts b t d.uses (Ok h)
     → s.moves ≤ m.moves → m.moves ≤ a.moves → a.moves ≤ b.moves → b.moves ≤ t.moves
     → Pays (draft_account d).unstored 0 s t
-finish_pays_all {s} {m} {a} {b} {t} {d} {f} {g} {h} {k} r x y z o l p n =
+finish_pays_all {s} {m} {a} {b} {t} d {f} {g} {h} {k} r x y z o l p n =
     let last = min d.gates.blocks 1 + min d.uses.blocks 1 in
     let later = min d.defs.blocks 1 + last in
     let zeroth : Pays (draft_account d).unstored later s m =
@@ -248,7 +248,7 @@ finishes_draft {s} {m} {a} {b} {t} {d} {f} {g} {h} {k} so i r x y w rf df gf uf 
               distinct = λ v. rw (e z) ((i.holds z).distinct z);
             };
       };
-      pays = finish_pays_all rc dc gc uc r.touches.moves x.touches.moves y.touches.moves
+      pays = finish_pays_all d rc dc gc uc r.touches.moves x.touches.moves y.touches.moves
           w.touches.moves;
     }
   where

@@ -2,6 +2,7 @@ pub mod AllSections
 pub mod Beginnings
 pub mod Ceilings
 pub mod Circuits
+pub mod Climbed
 pub mod Drafts
 pub mod Endings
 pub mod Fillings

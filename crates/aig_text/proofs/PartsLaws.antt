@@ -1,15 +1,18 @@
 -- A circuit's parts: as they were read, and over a call that leaves their blocks alone.
 use Rattle.std.proofs.Common.{◌≡◌, ℕ, List, ◌++◌, IsTrue, sym, refl, ap, subst, ◌∙◌}
 use Rattle.em_record.specs.Shape.{ShapeNumbers, payload_of}
+use Rattle.em_record.specs.declared.record.Record.{Record}
 use Rattle.em_space.specs.Held.{Apart, Holds}
 use Rattle.em_space.specs.Rig.{RigState, Touches}
 use Rattle.em_space.proofs.Held.{holds_kept}
 use Rattle.em_space.proofs.Lists.{apart_left, apart_right}
-use Rattle.em_chain.specs.Chain.{ChainStays, chain_blocks}
+use Rattle.em_chain.specs.Chain.{ChainStays, chain_blocks, chain_items}
 use Rattle.em_chain.specs.Counts.{ceiling}
 use Rattle.em_chain.specs.declared.chain.Chain.{Chain}
 use Rattle.em_chain.proofs.Laws.{chain_stays}
 use Rattle.aig_defs.specs.Circuit.{Circuit}
+use Rattle.aig_defs.specs.Sorted.{Climbs}
+use Rattle.aig_defs.specs.Straight.{AreStraight}
 use Rattle.aig_text.specs.Ascii.{ArePartsOf, GivesParts, IsPackedOf, OfSomeCircuit}
 use Rattle.aig_text.specs.Draft.{four_blocks}
 use Rattle.aig_text.specs.Parts.{IsChainOf, IsCompactOf, IsParts, PartsStay, parts_blocks}
@@ -41,6 +44,8 @@ parts_of h = record {
   resets = compact_of h.resets;
   blocks = λ told. h.blocks.holds (sym h.blocks.touches.told ∙ told);
   stands = h.stands;
+  climb = h.climb;
+  straight = h.straight;
 }
 
 -- four chains over a call that leaves their blocks alone
@@ -109,6 +114,13 @@ parts_stay held s t p h a i =
         blocks = λ told. held_still t (four_stayed w (back told))
             (holds_kept held s t (parts_blocks s p) h a (i.blocks (back told)));
         stands = λ told. of_some w (back told) (i.stands (back told));
+        climb = λ told said. subst Climbs (sym (w.first.items (back told)))
+            (i.climb (back told) said);
+        straight = λ told said.
+            subst (λ (rs : List Record). AreStraight rs (chain_items t p.gates))
+            (sym (w.first.items (back told)))
+            (subst (λ (rs : List Record). AreStraight (chain_items s p.defs) rs)
+            (sym (w.second.items (back told))) (i.straight (back told) said));
       };
       blocks = four_stayed w;
       are = still_are w;

@@ -1,5 +1,5 @@
 -- What the reader of a circuit gives, and what it takes.
-use Rattle.std.specs.Prelude.{◌≡◌, ◌≤◌, ◌<◌, ◌+◌, ◌*◌, ℕ, max, [], Result, Ok, Err, IsTrue, IsOk}
+use Rattle.std.specs.Prelude.{◌≡◌, ◌≤◌, ◌<◌, ◌+◌, ◌*◌, ℕ, Bool, max, [], Result, Ok, Err, IsTrue, IsOk}
 use Rattle.em_record.specs.Count.{Rose}
 use Rattle.em_space.specs.Ledger.{Session}
 use Rattle.em_space.specs.Rig.{RigState, IfFull, Owes}
@@ -13,6 +13,8 @@ use Rattle.aig_defs.specs.Chains.{defs_of, gates_of, uses_of, resets_of}
 use Rattle.aig_defs.specs.Circuit.{Circuit, IsCircuit, IsHeader, columns}
 use Rattle.aig_defs.specs.Items.{Reads}
 use Rattle.aig_defs.specs.Order.{after_magic}
+use Rattle.aig_defs.specs.Sorted.{Climbs}
+use Rattle.aig_defs.specs.Straight.{AreStraight}
 use Rattle.aig_text.specs.Draft.{four_blocks}
 use Rattle.aig_text.specs.Reads.{StopsAs}
 use Rattle.aig_text.specs.Source.{Source, left}
@@ -51,8 +53,18 @@ pub record OfSomeCircuit (s : RigState) (p : Parts) : Type 0 where
   pub circuit : Circuit
   pub are : ArePartsOf s p circuit
 
+-- if the device tells, and this bit says so, the variable of each record is above the one before it
+abbrev pub ClimbIfSaid : Bool → RigState → Chain → Type 0
+ClimbIfSaid said s c = IsTrue s.device.told → IsTrue said → Climbs (chain_items s c)
+
+-- likewise the definitions are 1, 2, 3 and so on, and each gate is above its operands
+abbrev pub StraightIfSaid : Bool → RigState → Chain → Chain → Type 0
+StraightIfSaid said s defs gates = IsTrue s.device.told → IsTrue said
+    → AreStraight (chain_items s defs) (chain_items s gates)
+
 -- Four packed chains, as long as the header says, whose blocks weren't in use and are apart. If
--- the device tells, they are those of a circuit, even if the shelf doesn't tell.
+-- the device tells, they are those of a circuit, even if the shelf doesn't tell, whose definitions climb or which
+-- is straight if the parts say so.
 pub record GivesParts (old new : RigState) (p : Parts) : Type 0 where
   pub header : IsHeader p.header
   pub defs : IsPackedOf new (p.header.inputs + p.header.latches + p.header.gates) p.defs
@@ -63,6 +75,8 @@ pub record GivesParts (old new : RigState) (p : Parts) : Type 0 where
   pub used : new.used
       ≡ old.used + (p.defs.blocks + p.gates.blocks + p.uses.blocks + p.resets.blocks)
   pub stands : IsTrue new.device.told → OfSomeCircuit new p
+  pub climb : ClimbIfSaid p.climbs new p.defs
+  pub straight : StraightIfSaid p.straight new p.defs p.gates
 
 -- the size of what was read after the magic, if `given` bytes of the text were given
 abbrev pub size_given : Form → Source → ℕ → ℕ

@@ -1,5 +1,5 @@
 -- The four lists of a circuit that is being read, and what calls on them do.
-use Rattle.std.specs.Prelude.{◌≡◌, ◌↔◌, ℕ, ◌+◌, ◌*◌, ◌<◌, ◌≤◌, max, List, [], ◌++◌, length, IsTrue, Result, Ok, Err}
+use Rattle.std.specs.Prelude.{◌≡◌, ◌↔◌, ℕ, ◌+◌, ◌*◌, ◌<◌, ◌≤◌, max, true, List, [], ◌++◌, length, IsTrue, Result, Ok, Err}
 use Rattle.em_record.specs.declared.record.Record.{Record}
 use Rattle.em_frames.specs.Pool.{LentFrames, GivenFrames, HasFrames}
 use Rattle.em_space.specs.Held.{Holds}
@@ -15,6 +15,7 @@ use Rattle.em_chain.specs.Writer.{IsWriter, IsPackedSoFar, NeedsBlock, filled, w
 use Rattle.em_chain.specs.Writes.{Begins, Finishes}
 use Rattle.em_chain.specs.declared.chain.Chain.{Chain}
 use Rattle.em_chain.specs.declared.writer.Writer.{Writer}
+use Rattle.aig_text.specs.Climbing.{at_foot, after_records, all_above_operands}
 use Rattle.aig_text.specs.declared.draft.Draft.{Draft}
 
 -- This many frames were lent, and no block was changed.
@@ -85,6 +86,8 @@ pub record BeginsDraft (s : RigState) (d : Draft) : Type 0 where
   pub gates : Begins s d.gates
   pub uses : Begins s d.uses
   pub resets : Begins s d.resets
+  pub climb_is : d.climb ≡ at_foot
+  pub rises_is : d.rises ≡ true
 
 -- These records were written to the four lists, by calls one after another.
 pub record Drafted (s t : RigState) (d e : Draft) (xs ys zs ws : List Record) : Type 0 where
@@ -94,6 +97,8 @@ pub record Drafted (s t : RigState) (d e : Draft) (xs ys zs ws : List Record) : 
   pub gates : Wrote s t d.gates e.gates ys
   pub uses : Wrote s t d.uses e.uses zs
   pub resets : Wrote s t d.resets e.resets ws
+  pub climb_is : e.climb ≡ after_records d.climb xs
+  pub rises_is : e.rises ≡ all_above_operands d.rises ys
   pub grows : (draft_account d).blocks ≤ (draft_account e).blocks
 
 -- Calls gave up that were to write at most n records. No more blocks came into use than all records

@@ -1,4 +1,5 @@
 pub mod Ascii
+pub mod Climbing
 pub mod Draft
 pub mod Limits
 pub mod Listed

@@ -6,7 +6,7 @@ use Rattle.em_chain.specs.Chain.{IsChain, payload_in}
 use Rattle.em_chain.specs.Counts.{ceiling}
 use Rattle.em_chain.specs.declared.chain.Chain.{Chain}
 use Rattle.aig_defs.specs.Circuit.{Circuit, IsHeader, columns}
-use Rattle.aig_text.specs.Ascii.{ArePartsOf, OfSomeCircuit}
+use Rattle.aig_text.specs.Ascii.{ArePartsOf, ClimbIfSaid, OfSomeCircuit, StraightIfSaid}
 use Rattle.aig_text.specs.Draft.{chains_blocks, four_blocks}
 use Rattle.aig_text.specs.declared.parts.Parts.{Parts}
 
@@ -29,7 +29,8 @@ abbrev pub parts_blocks : RigState → Parts → List ℕ
 parts_blocks s p = four_blocks s p.defs p.gates p.uses p.resets
 
 -- The header is in its limits. The chains are as long as it says, that of the resets has no spare block,
--- and their blocks are apart. If the device tells, they are those of some circuit.
+-- and their blocks are apart. If the device tells, they are those of some circuit, whose definitions climb or
+-- which is straight if the parts say so.
 pub record IsParts (s : RigState) (p : Parts) : Type 0 where
   pub header : IsHeader p.header
   pub defs : IsChainOf s (p.header.inputs + p.header.latches + p.header.gates) p.defs
@@ -38,6 +39,8 @@ pub record IsParts (s : RigState) (p : Parts) : Type 0 where
   pub resets : IsCompactOf s p.header.latches p.resets
   pub blocks : IsTrue s.device.told → Holds s (parts_blocks s p)
   pub stands : IsTrue s.device.told → OfSomeCircuit s p
+  pub climb : ClimbIfSaid p.climbs s p.defs
+  pub straight : StraightIfSaid p.straight s p.defs p.gates
 
 -- A circuit's parts after a call that left their blocks alone: they are those of the same circuits.
 pub record PartsStay (s t : RigState) (p : Parts) : Type 0 where

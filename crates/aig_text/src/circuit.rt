@@ -4,7 +4,7 @@ ghost use Rattle.em_record.specs.Count.{Rose};
 ghost use Rattle.em_space.specs.Rig.{Cause, Goes, Sound};
 ghost use Rattle.em_space.specs.Seen.{seen};
 ghost use Rattle.aig_defs.specs.Circuit.{IsHeader};
-ghost use Rattle.aig_text.specs.Ascii.{CompletesReading, FullOnlyIf, GivesCircuit, GivesParts, IfEm, OwesAfter, TakesAtMost, size_given};
+ghost use Rattle.aig_text.specs.Ascii.{ClimbIfSaid, CompletesReading, FullOnlyIf, GivesCircuit, GivesParts, IfEm, OwesAfter, StraightIfSaid, TakesAtMost, size_given};
 ghost use Rattle.aig_text.specs.Reads.{Advances, OnShelfFault};
 ghost use Rattle.aig_text.specs.Source.{CanRead, left, source};
 ghost use Rattle.aig_text.specs.Listed.{ReadsListing};
@@ -21,24 +21,35 @@ use em_frames::Device;
 use em_io::{Feed, Shelf};
 use em_space::Rig;
 
-/// Reads all sections into four chains: definitions, gates, uses of literals, and resets.
+/// Reads all sections into four chains: definitions, gates, uses of literals, and resets. It tells whether the
+/// variable of each definition is above the one before it, and whether the circuit is straight.
 fn read_lists<R: Rows, D: Device, H: Shelf>(
     rows: &R,
     header: &Header,
     rig: &mut Rig<'_, D>,
     feed: &mut Feed,
     shelf: &mut H,
+    climbs: &mut bool,
+    straight: &mut bool,
 ) -> Result<(Chain, Chain, Chain, Chain), AigStop>
     requires header { IsHeader header.now }
     requires text { CanRead (source H.Shelf feed.old shelf.old) }
     requires sound { Sound (seen D.state rig.old) }
     requires free { 4 < (seen D.state rig.old).pool.free }
-    ensures { ReadsListing H.tells (R.form rows.now) header.now (source H.Shelf feed.old shelf.old)
-        (source H.Shelf feed.new shelf.new) (seen D.state rig.old) (seen D.state rig.new) result }
+    ensures lists { ReadsListing H.tells (R.form rows.now) header.now
+        (source H.Shelf feed.old shelf.old) (source H.Shelf feed.new shelf.new)
+        (seen D.state rig.old) (seen D.state rig.new) result }
+    ensures climbs { IfOk result (λ c. ClimbIfSaid climbs.new (seen D.state rig.new) c.0) }
+    ensures straight { IfOk result (λ c.
+        StraightIfSaid straight.new (seen D.state rig.new) c.0 c.1) }
 {
     let mut draft = Draft::new(rig);
     match read_sections(rows, header, rig, feed, shelf, &mut draft) {
-        Ok(()) => Ok(draft.finish(rig)?),
+        Ok(()) => {
+            *climbs = draft.climbs();
+            *straight = draft.is_straight();
+            Ok(draft.finish(rig)?)
+        }
         Err(stop) => {
             draft.abandon(rig);
             Err(stop)
@@ -78,12 +89,24 @@ pub fn read_circuit<R: Rows, D: Device, H: Shelf>(
     ensures owes { OwesAfter (seen D.state rig.old) (seen D.state rig.new) result }
 {
     let header = header_line(feed, shelf, rows.which())?;
-    let (defs, gates, uses, resets) = read_lists(rows, &header, rig, feed, shelf)?;
+    let mut climbs = false;
+    let mut straight = false;
+    let (defs, gates, uses, resets) = read_lists(
+        rows,
+        &header,
+        rig,
+        feed,
+        shelf,
+        &mut climbs,
+        &mut straight,
+    )?;
     Ok(Parts {
         header,
         defs,
         gates,
         uses,
         resets,
+        climbs,
+        straight,
     })
 }

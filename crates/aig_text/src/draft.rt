@@ -7,15 +7,17 @@
 //!     resets   (h r - -)                              how latches start
 //!
 //! Kept here: each list is packed from its begin, so that n records take ceil(n/P) blocks; no
-//! block is of two lists; and four frames of the pool are out, at a fault too. Left to the
+//! block is of two lists; four frames of the pool are out, at a fault too; and whether the
+//! definitions climb and gates are above their operands is known at each moment. Left to the
 //! writers: how a list lies in its blocks.
 
-ghost use Rattle.std.specs.Prelude.{◌≡◌, ◌<◌, [], ◌∷◌, ◌+◌, min, IfOk, IfErr};
+ghost use Rattle.std.specs.Prelude.{◌≡◌, ◌<◌, ◌&&◌, [], ◌∷◌, ◌+◌, min, IfOk, IfErr};
 ghost use Rattle.em_space.specs.Rig.{Sound, DeviceCause};
 ghost use Rattle.em_space.specs.Seen.{seen};
 ghost use Rattle.em_chain.specs.Effects.{Completes, OnlyMoves, Unmoved};
 ghost use Rattle.em_chain.specs.Writer.{CanGrow};
 
+use crate::climb::{Climb, above_operands, after_record, at_foot};
 use em_chain::{Chain, Writer};
 use em_frames::Device;
 use em_record::Record;
@@ -29,6 +31,10 @@ pub(crate) struct Draft {
     gates: Writer,
     uses: Writer,
     resets: Writer,
+    /// How the variables of the definitions stand.
+    climb: Climb,
+    /// Whether all gates are above their operands.
+    rises: bool,
 }
 
 impl Draft {
@@ -47,7 +53,23 @@ impl Draft {
             gates: Writer::new(rig),
             uses: Writer::new(rig),
             resets: Writer::new(rig),
+            climb: at_foot(),
+            rises: true,
         }
+    }
+
+    /// Whether the variable of each definition is above the one before it.
+    pub(crate) fn climbs(&self) -> bool
+        ensures { result ≡ self.now.climb.climbs }
+    {
+        self.climb.climbs
+    }
+
+    /// Whether the variables of the definitions are 1, 2, 3 and so on, and each gate is above its operands.
+    pub(crate) fn is_straight(&self) -> bool
+        ensures { result ≡ (self.now.climb.counts && self.now.rises) }
+    {
+        self.climb.counts && self.rises
     }
 
     /// Adds one record to the list of definitions. `Full` comes exactly if that list needs a block
@@ -68,6 +90,7 @@ impl Draft {
         ensures complete { (seen D.state rig.old).used < (seen D.state rig.old).blocks
             → Completes (seen D.state rig.old) (seen D.state rig.new) result }
     {
+        self.climb = after_record(self.climb, item);
         self.defs.append(rig, item)
     }
 
@@ -88,6 +111,7 @@ impl Draft {
         ensures complete { (seen D.state rig.old).used < (seen D.state rig.old).blocks
             → Completes (seen D.state rig.old) (seen D.state rig.new) result }
     {
+        self.rises = above_operands(self.rises, item);
         self.gates.append(rig, item)
     }
 
@@ -155,6 +179,8 @@ impl Draft {
             gates,
             uses,
             resets,
+            climb: _,
+            rises: _,
         } = self;
         let resets = resets.finish(rig);
         let defs = defs.finish(rig);
@@ -175,6 +201,8 @@ impl Draft {
             gates,
             uses,
             resets,
+            climb: _,
+            rises: _,
         } = self;
         resets.abandon(rig);
         defs.abandon(rig);

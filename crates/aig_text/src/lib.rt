@@ -5,6 +5,7 @@
 
 mod ascii;
 mod circuit;
+mod climb;
 mod draft;
 mod item;
 mod line;

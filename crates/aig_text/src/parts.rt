@@ -15,4 +15,10 @@ pub struct Parts {
     pub uses: Chain,
     /// A record for each latch, with the bit with which it starts.
     pub resets: Chain,
+    /// If true, the variable of each definition is above the one before it, so that definitions and gates are
+    /// in order. False says nothing.
+    pub climbs: bool,
+    /// If true, the variables of the definitions are 1, 2, 3 and so on, and each gate is above its operands.
+    /// False says nothing.
+    pub straight: bool,
 }

@@ -9,6 +9,7 @@ use Rattle.aig_text.specs.Reads.{Advances, ReadCause, StopsAs}
 use Rattle.aig_text.specs.Source.{Source, left}
 use Rattle.aig_text.specs.declared.stop.AigStop.{AigStop}
 use Rattle.aig_text.specs.declared.stop.AigStop.TheVariants as aig
+use Rattle.aig_sweep.specs.Line.{after_bits}
 use Rattle.aig_sweep.specs.QueueState.{QueueState}
 use Rattle.aig_words.specs.Lines.{AllLong, line_words, put_line, rows_records, tiles}
 use Rattle.aig_words.specs.Words.{word_of}
@@ -21,10 +22,6 @@ bits_item n = times n 0 (λ j. stimulus_bit)
 -- an item, read at this moment
 abbrev pub read_at : {A : Type 0} → Item A → Source → Reading A
 read_at item s = item s.feed.place (left s)
-
--- bits, with those that are read after them
-abbrev pub after_bits : List Bool → List Bool → Item (List Bool)
-after_bits bits more = Reads (bits ++ more)
 
 -- These bits were read, and this is their word.
 pub record ReadsBits (n : ℕ) (old new : Source) (word : ℕ) : Type 0 where

@@ -31,7 +31,8 @@ pub struct WideEvaluator<Q> {
 impl<Q: Queue> WideEvaluator<Q> {
     ghost use Rattle.aig_sweep.specs.Room.{BeginsInRoom};
     ghost use Rattle.aig_sweep.specs.Scene.{ActsAfterByte, Keeps, StepCause, scene};
-    ghost use Rattle.aig_sweep.specs.Sweeper.{BeginsFor, EndsSweeper, EndsTo, Evaluates, HasSweeperFrames, IsSweeper};
+    ghost use Rattle.em_queued.specs.Room.{FullBeside};
+    ghost use Rattle.aig_sweep.specs.Sweeper.{BeginsFor, EndsSweeper, EndsTo, Evaluates, HasSweeperFrames, IsSweeper, lists_size};
     ghost use Rattle.aig_wide.specs.Begins.{BeginsWideTo};
     ghost use Rattle.aig_wide.specs.Group.{AnswersGroup, CanGroup, FollowsGroup, GroupCosts, HasNoLine, IfPrintedGroup, IsGroupSize, LeavesOutput};
     ghost use Rattle.aig_wide.specs.Room.{GroupsInRoom};
@@ -149,7 +150,8 @@ impl<Q: Queue> WideEvaluator<Q> {
 
     /// Releases all blocks, and gives the queue's frames back. After a fault the frames are back too, and
     /// blocks may stay in use. Over a device that tells it makes at most two moves for each block of the
-    /// chains, beside what is left of the queue's allowance, if it has one.
+    /// chains, beside what is left of the queue's allowance, if it has one; and `Full` comes only if the queue's
+    /// room, if it states one, is more than all blocks that were free or the queue's.
     pub fn end<D: Device>(self, rig: &mut Rig<'_, D>) -> Result<(), EmFault>
         requires sound { Sound (seen D.state rig.old) }
         requires is { IsSweeper Q.Queue (seen D.state rig.old) self.sweeper }
@@ -158,6 +160,8 @@ impl<Q: Queue> WideEvaluator<Q> {
             self.sweeper }
         ensures done { EndsTo Q.Queue (seen D.state rig.old) (seen D.state rig.new) self.sweeper
             result }
+        ensures full { IfErr result (FullBeside Q.room (lists_size self.sweeper) (lists_size self.sweeper)
+            (Q.counts self.sweeper.queue) (Q.counts self.sweeper.queue).k (seen D.state rig.old)) }
     {
         let WideEvaluator { sweeper } = self;
         sweeper.end(rig)

@@ -265,15 +265,20 @@ fn add_popped<W: Sink>(
     }
 }
 
-/// Prints the line of an answer of a queue.
-pub fn print_popped<W: Sink>(out: &mut W, item: Option<Record>) -> Result<(), Failed>
+/// Prints the line of an answer of a queue, by a printer with nothing pending.
+pub fn print_popped<W: Sink>(
+    printer: &mut Printer,
+    out: &mut W,
+    item: Option<Record>,
+) -> Result<(), Failed>
+    requires none { printer.old ≡ [] }
     ensures all { OnOk result
         (W.state out.new ≡ W.took (W.state out.old) (popped_line (popped_in item))) }
+    ensures none { OnOk result (printer.new ≡ []) }
     ensures part { SentPart W.took (W.state out.old) (popped_line (popped_in item))
         (W.state out.new) }
     ensures cause { HasCause (W.faults out.old) (W.faults out.new) result }
 {
-    let mut printer = Printer::new();
-    add_popped(&mut printer, out, item)?;
+    add_popped(printer, out, item)?;
     printer.end_line(out)
 }

@@ -1,5 +1,5 @@
 // A queue file is answered pop by pop.
-ghost use Rattle.std.specs.Prelude.{◌≡◌, ◌+◌, ◌<◌, ◌≤◌, ◌^◌, true, IfErr, IfOk, IsTrue, OnOk};
+ghost use Rattle.std.specs.Prelude.{◌≡◌, ◌+◌, ◌<◌, ◌≤◌, ◌^◌, [], true, IfErr, IfOk, IsTrue, OnOk};
 ghost use Rattle.em_io.specs.Feed.{rest};
 ghost use Rattle.em_model.specs.Queue.{queue_answer_of, queue_step};
 ghost use Rattle.em_space.specs.Held.{Within};
@@ -19,18 +19,20 @@ ghost use Rattle.em_answers.specs.Reading.{ReadsAll, StopCause};
 use crate::print::print_popped;
 use em_ends::Stop;
 use em_frames::Device;
-use em_io::{Feed, Shelf, Sink};
+use em_io::{Feed, Printer, Shelf, Sink};
 use em_lines::{FileKind, LineStop, take_line};
 use em_model::Command;
 use em_record::Record;
 use em_space::{Queue, Rig};
 
-/// Answers one command of a queue file. Pushes are numbered from 1; `pushes` came before.
+/// Answers one command of a queue file, by a printer with nothing pending. Pushes are numbered from 1; `pushes` came
+/// before.
 fn serve_one<D: Device, W: Sink, Q: Queue>(
     rig: &mut Rig<'_, D>,
     queue: &mut Q,
     command: Command,
     pushes: u64,
+    printer: &mut Printer,
     out: &mut W,
 ) -> Result<u64, Stop>
     requires sound { Sound (seen D.state rig.old) }
@@ -40,6 +42,7 @@ fn serve_one<D: Device, W: Sink, Q: Queue>(
     requires limit { (Q.counts queue.old).len ≤ (Q.counts queue.old).n }
     requires pushes { pushes ≤ (Q.counts queue.old).n }
     requires kind { IsOfKind FileKind.Queue command }
+    requires none { printer.old ≡ [] }
     requires numbers { IsTrue (seen D.state rig.old).device.told
         → NumberedTo pushes (Q.items queue.old (seen D.state rig.old)) }
     ensures serves { Serves (Q.blocks queue.old (seen D.state rig.old))
@@ -63,6 +66,7 @@ fn serve_one<D: Device, W: Sink, Q: Queue>(
         → Follows (Q.items queue.old (seen D.state rig.old)) pushes q
         → Prints W.took (queue_text (queue_answer_of q command))
         (W.state out.old) (W.state out.new) result }
+    ensures none { OnOk result (printer.new ≡ []) }
     ensures later { W.faults out.old ≤ W.faults out.new }
     ensures owes { IfErr result (λ stop. IfStopsFull stop (λ _. Pays (Q.counts queue.old).unstored
         (seen D.state rig.old).pool.shape.frames (seen D.state rig.old) (seen D.state rig.new))) }
@@ -84,7 +88,7 @@ fn serve_one<D: Device, W: Sink, Q: Queue>(
         }
         Command::Pop => {
             let item = queue.pop(rig)?;
-            print_popped(out, item)?;
+            print_popped(printer, out, item)?;
             Ok(pushes)
         }
         _ => Ok(pushes),
@@ -132,6 +136,7 @@ pub fn serve<D: Device, H: Shelf, W: Sink, Q: Queue>(
 {
     let mut number: u64 = 1;
     let mut pushes: u64 = 0;
+    let mut printer = Printer::new();
     loop {
         let next = match take_line(FileKind::Queue, feed, shelf, number) {
             Ok(next) => next,
@@ -141,7 +146,7 @@ pub fn serve<D: Device, H: Shelf, W: Sink, Q: Queue>(
         let Some(command) = next else {
             return Ok(());
         };
-        pushes = serve_one(rig, queue, command, pushes, out)?;
+        pushes = serve_one(rig, queue, command, pushes, &mut printer, out)?;
         number += 1;
     }
 }

@@ -1,8 +1,8 @@
 -- What emptying did, beside the frame that was lent for the node.
-use Rattle.std.proofs.Common.{◌≡◌, ℕ, ◌<◌, [], refl, sym, subst, IsTrue, Result, Ok, Err, IfOk, Option}
+use Rattle.std.proofs.Common.{◌≡◌, ℕ, ◌+◌, ◌<◌, [], refl, sym, subst, IsTrue, Result, Ok, Err, IfOk, IfErr, Option}
 use Rattle.em_record.specs.declared.record.Record.{Record}
 use Rattle.em_frames.specs.Pool.{given, lent}
-use Rattle.em_space.specs.Rig.{RigState, Sound, Touches, Goes}
+use Rattle.em_space.specs.Rig.{RigState, Sound, Touches, Goes, IfFull}
 use Rattle.em_space.specs.declared.fault.EmFault.{EmFault}
 use Rattle.em_space.proofs.Held.{apart_none, holds_kept, in_use_kept}
 use Rattle.em_space.proofs.Steps.{goes_with_frame, touches_pool}
@@ -11,7 +11,7 @@ use Rattle.em_chain.proofs.Laws.{chain_stays}
 use Rattle.em_chain.specs.declared.chain.Chain.{Chain}
 use Rattle.em_tree_blocks.specs.Reading.{entries_at}
 use Rattle.em_empty.specs.Node.{CanEmpty, buffer_blocks, given_blocks, node_blocks}
-use Rattle.em_empty.specs.Effects.{Emptied, EmptiedAt, EmptiesNode, LeavesNode, StopsEmptying}
+use Rattle.em_empty.specs.Effects.{Emptied, EmptiedAt, EmptiesNode, LeavesNode, StopsEmptying, reached}
 use Rattle.em_empty.proofs.Grouped.{buffers_stay, forms_around}
 
 emptied_framed : {key : Record → Record} {s t : RigState} {node : ℕ} {c : Chain} {least : Option ℕ}
@@ -112,6 +112,12 @@ pub says_leaves : (key : Record → Record) (s t : RigState) (node : ℕ) (c : C
     → LeavesNode s t node c result
 says_leaves key s t node c (Ok least) x = (x.session, x.frames)
 says_leaves key s t node c (Err fault) x = x.goes
+
+pub says_full : (key : Record → Record) (s t : RigState) (node : ℕ) (c : Chain)
+    (result : Result (Option ℕ) EmFault) → EmptiesNode key s t node c result
+    → IfErr result (λ fault. IfFull fault (λ _. s.blocks < s.used + reached s node c + 1))
+says_full key s t node c (Ok least) x = tt
+says_full key s t node c (Err fault) x = x.room
 
 -- The node and the chain after the frame was lent.
 pub can_lent : {s a : RigState} {node : ℕ} {c : Chain} → Touches [] s a

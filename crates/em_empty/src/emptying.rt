@@ -10,7 +10,7 @@
 
 ghost use Rattle.std.specs.Prelude.{◌≡◌, ◌+◌, ◌*◌, ◌<◌, ◌≤◌, false, length, IsTrue, IfOk, IfErr, OnOk};
 ghost use Rattle.em_record.specs.Shape.{fan_of};
-ghost use Rattle.em_space.specs.Rig.{Sound, Cause};
+ghost use Rattle.em_space.specs.Rig.{Sound, Cause, IfFull};
 ghost use Rattle.em_space.specs.Seen.{seen};
 ghost use Rattle.em_frames.specs.Pool.{places_in};
 ghost use Rattle.em_space.specs.Held.{Apart};
@@ -39,8 +39,8 @@ use em_space::{EmFault, Rig};
 /// an entry; over a device that doesn't tell, another block is `Damaged`. Answers the least place
 /// of a buffer that now has f·B records or more, and None exactly if there is none.
 ///
-/// `DeviceFault` comes only if the device's count of faults rose, and `Full` only if a block was needed and
-/// all are in use: never if one block for each buffer that gets a record is free, and one more.
+/// `DeviceFault` comes only if the device's count of faults rose, and `Full` only if all blocks are in use, and
+/// fewer than one for each buffer that gets a record, and one more, were free.
 /// After a fault the node and the chain may hold anything, and their blocks stay in use. All
 /// frames are back on each way out.
 pub fn empty_node<D: Device, S: Settle>(
@@ -62,6 +62,8 @@ pub fn empty_node<D: Device, S: Settle>(
     ensures frees { OnOk result
         (FreesChain (seen D.state rig.old) (seen D.state rig.new) node buffer) }
     ensures cause { IfErr result (Cause (seen D.state rig.old) (seen D.state rig.new)) }
+    ensures full { IfErr result (λ fault. IfFull fault (λ _. (seen D.state rig.old).blocks
+        < (seen D.state rig.old).used + reached (seen D.state rig.old) node buffer + 1)) }
     ensures complete { (seen D.state rig.old).used + reached (seen D.state rig.old) node buffer + 1
         ≤ (seen D.state rig.old).blocks
         → Completes (seen D.state rig.old) (seen D.state rig.new) result }

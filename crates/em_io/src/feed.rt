@@ -54,6 +54,7 @@ impl Feed {
 
     /// The next byte, without taking it; none exactly at the text's end. The slot was opened with
     /// Ok. After a failure the feed is not used again.
+    #[inline]
     pub fn peek<H: Shelf>(&mut self, shelf: &mut H) -> Result<Option<u8>, Failed>
         requires { ((H.stand shelf.old).slot self.old.slot).ready ≡ true }
         ensures takes { Takes H.tells [] self.old (H.stand shelf.old) self.new (H.stand shelf.new) }
@@ -65,6 +66,21 @@ impl Feed {
         if self.at < self.end {
             return Ok(Some(self.buffer[self.at]));
         }
+        self.fill(shelf)
+    }
+
+    /// Reads the next piece of the text into the buffer, of which all bytes were taken, and gives its first
+    /// byte.
+    #[cold]
+    fn fill<H: Shelf>(&mut self, shelf: &mut H) -> Result<Option<u8>, Failed>
+        requires ready { ((H.stand shelf.old).slot self.old.slot).ready ≡ true }
+        requires empty { self.old.ahead ≡ [] }
+        ensures takes { Takes H.tells [] self.old (H.stand shelf.old) self.new (H.stand shelf.new) }
+        ensures ahead { IfOk result (λ next. next ≡ slice_get self.new.ahead 0) }
+        ensures first { IsTrue H.tells → IfOk result
+            (λ next. next ≡ slice_get (rest self.old (H.stand shelf.old)) 0) }
+        ensures cause { HasCause (H.faults shelf.old) (H.faults shelf.new) result }
+    {
         let count = shelf.read(self.slot, &mut self.buffer)?;
         self.at = 0;
         self.end = count;

@@ -104,6 +104,16 @@ is_new {s = s} {t = t} b e n =
       };
     }
 
+-- Over a device that tells, no more operations came between two resets than in all.
+books_most : {s : RigState} {b : Batch} → IsBatch s b → IsTrue s.device.told
+    → (trunk_of b).longest ≤ (trunk_of b).pushed
+books_most is told =
+    let books = is.is.books told in
+    let most = books.paid.fits.k_most in
+    let n = books.n in
+    let k = books.k in
+    omega (arith, most, n, k)
+
 -- what a push leaves of a tree's numbers
 module _ {s t : RigState} (b d : Batch) (is : IsBatch s b)
     (c : CountsCall (count_push 0) s t (trunk_of b) (trunk_of d)) where
@@ -116,12 +126,12 @@ module _ {s t : RigState} (b d : Batch) (is : IsBatch s b)
   none_reset : (trunk_of d).resets ≡ 0
   none_reset = ap (λ (z : TreeCounts). z.z) c.counts ∙ is.unreset
 
-  longest_more : (trunk_of d).longest ≤ (trunk_of b).pushed + 1
-  longest_more =
+  longest_more : IsTrue s.device.told → (trunk_of d).longest ≤ (trunk_of b).pushed + 1
+  longest_more told =
       let e : (trunk_of d).longest ≡ max (trunk_of b).longest ((trunk_of b).since + 1) =
       ap (λ (z : TreeCounts). z.k) c.counts in
-      let n = is.is.running.numbers in
-      omega (arith, e, n.longest_most, n.since_most)
+      let most = books_most is told in
+      omega (arith, e, most, is.is.running.numbers.since_most)
 
   -- The numbers of a call that gives a command.
   pub counts_command : Sound s → d.calls ≡ b.calls + 1 → CountsCommand s t b d
@@ -132,7 +142,7 @@ module _ {s t : RigState} (b d : Batch) (is : IsBatch s b)
         share = λ told. subst (λ n. (trunk_of d).spent ≤ batch_share s.pool.shape n) now
             (within_batch s.pool.shape (trunk_of d).pushed (trunk_of d).longest (trunk_of d).resets
             (trunk_of d).settled (trunk_of d).spent sound.shape
-            (omega (arith, longest_more, pushed_more)) none_reset (omega (arith, none_settled))
+            (omega (arith, longest_more told, pushed_more)) none_reset (omega (arith, none_settled))
             (c.share told).within);
       }
 
@@ -195,12 +205,11 @@ finishes_batch s t b (Err fault) f = f
 pub batch_costs : {s t : RigState} (b : Batch) → Sound s → IsBatch s b
     → FinishCosts s t (trunk_of b) → BatchCosts s t b
 batch_costs {s = s} {t = t} b sound is f =
-    let n = is.is.running.numbers in
     record {
       later = f.later;
       share = λ told. subst (λ k. (trunk_of b).spent + (t.moves - s.moves) ≤ batch_share s.pool.shape k)
           is.pushed
           (within_batch s.pool.shape (trunk_of b).pushed (trunk_of b).longest (trunk_of b).resets
           ((trunk_of b).settled + 1) ((trunk_of b).spent + (t.moves - s.moves)) sound.shape
-          n.longest_most is.unreset (omega (arith, is.unsettled)) (f.share told).within);
+          (books_most is told) is.unreset (omega (arith, is.unsettled)) (f.share told).within);
     }

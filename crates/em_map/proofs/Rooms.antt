@@ -39,12 +39,13 @@ within_more {s} j k h r =
     record { most = omega (arith, m, rises) }
 
 -- also for one that was full.
-pub over_more : {T : Type 0} (s : RigState) (v : Trunk) (r : Result T EmFault) (j k : ℕ) → j ≤ k
+pub over_more : {T : Type 0} (s : RigState) (v : Trunk) (r : Result T EmFault) (j k : ℕ)
+    → (IsTrue s.device.told → j ≤ k)
     → IfErr r (λ fault. IsTrue s.device.told → FullOverRoom j s v fault)
     → IfErr r (λ fault. IsTrue s.device.told → FullOverRoom k s v fault)
 over_more s v (Ok x) j k h r = tt
 over_more s v (Err fault) j k h r = λ told.
-    let rises = tree_room_rises s.pool.shape j k h in
+    let rises = tree_room_rises s.pool.shape j k (h told) in
     let held = length (trunk_blocks s v) in
     record {
       full = full_by fault (s.blocks + held < s.used + (tree_room s.pool.shape j + v.answers.blocks))
@@ -53,19 +54,22 @@ over_more s v (Err fault) j k h r = λ told.
     }
 
 -- The tree's number is at most that of the commands.
-pub longest_few : (s : RigState) (b : Batch) → IsBatch s b → (trunk_of b).longest ≤ b.calls
-longest_few s b i =
-    let n = i.is.running.numbers.longest_most in
+pub longest_few : (s : RigState) (b : Batch) → IsBatch s b → IsTrue s.device.told
+    → (trunk_of b).longest ≤ b.calls
+longest_few s b i told =
+    let books = i.is.books told in
+    let most = books.paid.fits.k_most in
+    let n = books.n in
+    let k = books.k in
     let p = i.pushed in
-    omega (arith, n, p)
+    omega (arith, most, n, k, p)
 
-pub push_few : (s : RigState) (b : Batch) → IsBatch s b
+pub push_few : (s : RigState) (b : Batch) → IsBatch s b → IsTrue s.device.told
     → max (trunk_of b).longest ((trunk_of b).since + 1) ≤ b.calls + 1
-push_few s b i =
-    let n = i.is.running.numbers.longest_most in
+push_few s b i told =
+    let n = longest_few s b i told in
     let k = i.is.running.numbers.since_most in
-    let p = i.pushed in
-    omega (arith, n, k, p)
+    omega (arith, n, k)
 
 -- no more answers are due than commands came
 answers_few : (n : ℕ) (cs : List Command) (m : Map) → length (answers_of n m cs) ≤ length cs

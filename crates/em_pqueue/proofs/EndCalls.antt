@@ -28,7 +28,7 @@ pub record EndLeaves (s u : RigState) (q : ExtQueue) (r : Result (Unit {0}) EmFa
   pub owes : OnErr r (Pays (counts_of q).unstored s.pool.shape.frames s u)
   pub full : IfErr r (λ fault. IfFull fault
       (LacksBlocks any_blocks (Some tree_room) (counts_of q) (counts_of q).k s))
-  pub unused : IsTrue s.device.told → q.tree.trunk.pushed ≡ 0 → u.moves ≤ s.moves + 4
+  pub unused : IsTrue s.device.told → q.tree.trunk.longest ≡ 0 → u.moves ≤ s.moves + 4
   pub cause : IfErr r (Cause s u)
   pub room : IsTrue s.device.told → QueueHolds q.longest (queue_blocks s q) s u
   pub over : IfErr r (λ fault. IsTrue s.device.told → QueueOver q.longest (queue_blocks s q) s fault)
@@ -37,7 +37,7 @@ pub record EndLeaves (s u : RigState) (q : ExtQueue) (r : Result (Unit {0}) EmFa
 end_stops : (s u : RigState) (q : ExtQueue) (f : EmFault)
     → Ends (Some queue_share) (Some tree_room) (queue_blocks s q) (counts_of q) s u
     → Pays (counts_of q).unstored s.pool.shape.frames s u
-    → (IsTrue s.device.told → q.tree.trunk.pushed ≡ 0 → u.moves ≤ s.moves + 4) → Cause s u f
+    → (IsTrue s.device.told → q.tree.trunk.longest ≡ 0 → u.moves ≤ s.moves + 4) → Cause s u f
     → (IsTrue s.device.told → q.blocks ≡ length (queue_blocks s q))
     → (IsTrue s.device.told → QueueHolds q.longest (queue_blocks s q) s u)
     → (IsTrue s.device.told → QueueOver q.longest (queue_blocks s q) s f) → EndLeaves s u q (Err f)

@@ -249,7 +249,7 @@ module _ (s a : RigState) (q : ExtQueue) (i : IsExtQueue s q) (g : GaveArea s a)
         (omega (arith, moves_is))) (subst P shape h.pays) c.later
 
     -- If no item went into the tree, few moves were made.
-    pub unfinished_unused : IsTrue s.device.told → q.tree.trunk.pushed ≡ 0 → t.moves ≤ s.moves + 4
+    pub unfinished_unused : IsTrue s.device.told → q.tree.trunk.longest ≡ 0 → t.moves ≤ s.moves + 4
     unfinished_unused told none =
         let z = c.unused (g.touches.told ∙ told) none in omega (arith, z, moves_is)
 
@@ -306,7 +306,7 @@ module _ (s a : RigState) (q : ExtQueue) (i : IsExtQueue s q) (g : GaveArea s a)
         let z = none_answered told in
         omega (arith, l, b, k, n, z, e, used_is)
 
-    pub ended_unused : IsTrue s.device.told → q.tree.trunk.pushed ≡ 0 → u.moves ≤ s.moves + 4
+    pub ended_unused : IsTrue s.device.told → q.tree.trunk.longest ≡ 0 → u.moves ≤ s.moves + 4
     ended_unused told none =
         let z = costs.unused (g.touches.told ∙ told) none in
         let n = none_answered told in

@@ -12,7 +12,7 @@ use Rattle.em_space.specs.Rig.{RigState, Touches}
 use Rattle.em_tree_cost.specs.ExtQueue.{ExtQueueCounts, ExtQueueFits}
 use Rattle.em_tree_cost.specs.Shares.{queue_share, tree_room, tree_share}
 use Rattle.em_tree_cost.proofs.Books.{books_share}
-use Rattle.em_tree_cost.proofs.ExtQueue.{pushes_most, queue_within}
+use Rattle.em_tree_cost.proofs.ExtQueue.{queue_within}
 use Rattle.em_tree_cost.proofs.Rising.{queue_share_rises, tree_room_rises}
 use Rattle.em_tree_model.specs.Tree.{Tree}
 use Rattle.em_trunk.specs.Trunk.{TrunkHasFrames, given_by, model_of}
@@ -154,13 +154,12 @@ stays q held s t i h a o =
 
 -- no item went into the tree of a queue of which no call came
 pub none_pushed : (q : ExtQueue) (s : RigState) → IsExtQueue s q → q.calls ≡ 0
-    → q.tree.trunk.pushed ≡ 0
+    → q.tree.trunk.longest ≡ 0
 none_pushed q s i none =
     let st = i.stands in
     let n = st.shown in
-    let p = pushes_most (load_of s.pool.shape) st.numbers.heap st.numbers.tree_n st.numbers.n
-    st.fits.all in
-    omega (arith, p, n.pushed, n.calls, none)
+    let f = st.fits in
+    omega (arith, f.tree_k_most, f.k_most, n.tree_longest, n.calls, none)
 
 pub out : (q : ExtQueue) (s : RigState) → HoldsFrames s q → AreOut (counts_of q) s.pool
 out q s f = record { singles = f.has.tree.out; areas = f.has.out }

@@ -512,8 +512,8 @@ impl Queue for ExtQueue {
             (seen D.state rig.old) (seen D.state rig.new)) }
         ensures full { IfErr result (λ fault. IfFull fault (LacksBlocks any_blocks (Some tree_room)
             (counts_of self) (counts_of self).k (seen D.state rig.old))) }
-        ensures needs { IfErr result (λ fault. IfFull fault (λ _. self.tree.trunk.pushed ≡ 0 → ⊥)) }
-        ensures unused { IsTrue (seen D.state rig.old).device.told → self.tree.trunk.pushed ≡ 0
+        ensures needs { IfErr result (λ fault. IfFull fault (λ _. self.tree.trunk.longest ≡ 0 → ⊥)) }
+        ensures unused { IsTrue (seen D.state rig.old).device.told → self.tree.trunk.longest ≡ 0
             → (seen D.state rig.new).moves ≤ (seen D.state rig.old).moves + 4 }
         ensures cause { IfErr result (Cause (seen D.state rig.old) (seen D.state rig.new)) }
         ensures room { IsTrue (seen D.state rig.old).device.told → QueueHolds (counts_of self).k

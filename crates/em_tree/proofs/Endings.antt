@@ -28,15 +28,15 @@ if_err (Err fault) P p = p
 
 -- Settling gave up, of a tree that was used,
 pub settling_full : {T : Type 0} (v : Trunk) (r : Result T EmFault) (fault : EmFault)
-    → IsErrAnd r (λ f. f ≡ fault) → (v.pushed ≡ 0 → ⊥) → FullIfUsed v r
+    → IsErrAnd r (λ f. f ≡ fault) → (v.longest ≡ 0 → ⊥) → FullIfUsed v r
 settling_full v (Ok x) fault e h = tt
-settling_full v (Err f) fault e h = if_full f (v.pushed ≡ 0 → ⊥) h
+settling_full v (Err f) fault e h = if_full f (v.longest ≡ 0 → ⊥) h
 
 -- or the release did, which needs no block.
 pub release_full : {T : Type 0} (s t : RigState) (level root : ℕ) (v : Trunk) (r : Result T EmFault)
     → ReleasesTree s t level root r → FullIfUsed v r
 release_full s t level root v (Ok x) h = tt
-release_full s t level root v (Err fault) h = full_never s t fault (v.pushed ≡ 0 → ⊥) h.cause
+release_full s t level root v (Err fault) h = full_never s t fault (v.longest ≡ 0 → ⊥) h.cause
 
 -- the moves of a release, at each exit
 release_moves : {T : Type 0} (m t : RigState) (level root : ℕ) (r : Result T EmFault)
@@ -59,7 +59,7 @@ module _ (key : Record → Record) (step : Option Record → Record → Step) (I
   where
     -- Before the first push there is nothing to empty.
     pub unused_settled : {s : RigState} {v : Trunk} → CanWork key IsOp IsKept s v → CanFinish s v
-        → v.pushed ≡ 0 → SettledAll key step IsOp IsKept (owing_all s v) s s v v
+        → v.longest ≡ 0 → SettledAll key step IsOp IsKept (owing_all s v) s s v v
     unused_settled {s = s} {v = v} can h e =
         let W : ℕ → Type 0 = λ d. Works key step IsOp IsKept 0 0 d 0 s s v v in
         let none : 0 ≡ s.pool.shape.block * 0 = omega arith in

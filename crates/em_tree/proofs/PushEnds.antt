@@ -158,14 +158,14 @@ module _ (key : Record → Record) (step : Option Record → Record → Step) (I
         let K : ShapeNumbers → Type 0 = λ g. KeepsBooks g (counts_of (ended s t w)) 0 (sums_in t w) in
         let n = numbers in
         let spent = n.spent in
-        let pushed = n.pushed in
+        let longest = n.longest in
         let old = i.running.numbers.spent_most in
         let moves = later in
         record {
           running = running_moves (t.moves - s.moves) (omega (arith, spent, old, moves)) h.works.running;
           few = h.few;
-          unused = λ e. absurd (omega (arith, e, pushed));
-          silent = λ z e. absurd (omega (arith, e, pushed));
+          unused = λ e. absurd (omega (arith, e, longest));
+          silent = λ z e. absurd (omega (arith, e, longest));
           blocks = h.blocks;
           thin = λ z. h.thin (back z);
           books = λ z. subst K (sym shape) (ended_books (back z));

@@ -151,7 +151,7 @@ module _ (key : Record → Record) (step : Option Record → Record → Step)
         few = omega (arith, h.drained.empty, some);
         blocks = omega (arith, h.drained.unwritten);
         unused = λ z. h.drained.unwritten;
-        silent = λ z e. silent_all key step IsOp IsKept is (back z) (sym n.pushed ∙ e) (given_by t w)
+        silent = λ z e. silent_all key step IsOp IsKept is (back z) (sym n.longest ∙ e) (given_by t w)
             (trunk_settled (running_counted settled is.running) h.works h.none_waits h.drained (back z)).answers;
         thin = λ z. none_thin (full_limit t.pool.shape) some t w (h.none_waits (back z));
         books = λ z.

@@ -63,7 +63,7 @@ module _ (key : Record → Record) (step : Option Record → Record → Step) (I
     rack = free.rack;
   }
 
-  begun_few : v.longest ≤ 2 ^ 100
+  begun_few : v.longest ≤ 2 ^ 101
   begun_few = (let n = is.running.numbers in omega (arith, n.longest_most, n.pushed_most))
 
   -- and has its steps.
@@ -122,8 +122,8 @@ module _ (key : Record → Record) (step : Option Record → Record → Step) (I
       ascends_as told =
           rising_ascends key (take x.count area) laws.in_order (taken_as told).out.rises
 
-      silent_as : IsTrue t.device.told → w.pushed ≡ 0 → given_by t w ≡ []
-      silent_as z e = silent_on key step IsOp IsKept is (back z) (sym on.numbers.pushed ∙ e) (given_by t w)
+      silent_as : IsTrue t.device.told → w.longest ≡ 0 → given_by t w ≡ []
+      silent_as z e = silent_on key step IsOp IsKept is (back z) (sym on.numbers.longest ∙ e) (given_by t w)
           (owed key step (model_of t w)) (taken_as (back z)).answers
 
       thin_as : IsTrue t.device.told → EachRead (IsThin (full_limit t.pool.shape)) t w

@@ -152,7 +152,7 @@ none_written s w i told e =
 
 module _ (key : Record → Record) (step : Option Record → Record → Step) (IsOp IsKept : Record → Type 0)
     {s : RigState} {v : Trunk} (is : IsTrunk key IsOp IsKept s v) (told : IsTrue s.device.told)
-    (unused : v.pushed ≡ 0) where
+    (unused : v.longest ≡ 0) where
   -- Before the first push nothing waits,
   pub none_waits : waiting_in (model_of s v) ≡ []
   none_waits =
@@ -191,6 +191,6 @@ module _ (key : Record → Record) (step : Option Record → Record → Step) (I
   pub unused_blocks : IsShape s.pool.shape → length (tree_blocks v.level s v.root) ≤ 2
   unused_blocks shape =
       let n = is.running.numbers in
-      let one = one_leaf shape (is.books told) (omega (arith, n.since_most, n.longest_most, unused)) in
+      let one = one_leaf shape (is.books told) (omega (arith, n.since_most, unused)) in
       let few = few_blocks key IsOp IsKept s v is.running shape told (none_unused is unused told) one.level in
       omega (arith, few, one.leaves, one.stored)

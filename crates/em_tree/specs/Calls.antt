@@ -122,13 +122,13 @@ abbrev pub FinishesTrunk : (Record → Record) → (Option Record → Record →
 FinishesTrunk key step s t v (Ok c) = FinishedTrunk key step s t v c
 FinishesTrunk key step s t v (Err fault) = StopsFinishing s t v fault
 
--- The moves of a tree that was finished are within its share, at each exit. If nothing was ever pushed, four are
+-- The moves of a tree that was finished are within its share, at each exit. If it counts no operation, four are
 -- made at most.
 pub record FinishCosts (s t : RigState) (v : Trunk) : Type 0 where
   pub later : s.moves ≤ t.moves
   pub share : IsTrue s.device.told
       → KeepsShare s.pool.shape (count_settle (t.moves - s.moves) (counts_of v))
-  pub unused : IsTrue s.device.told → v.pushed ≡ 0 → t.moves ≤ s.moves + 4
+  pub unused : IsTrue s.device.told → v.longest ≡ 0 → t.moves ≤ s.moves + 4
 
 -- The tree has at most two levels more than `lev` of the blocks of k operations.
 pub record IsLow (shape : ShapeNumbers) (v : Trunk) : Type 0 where

@@ -43,21 +43,21 @@ pub record StopsRelease (s t : RigState) (v : Trunk) (fault : EmFault) : Type 0 
   pub cause : Cause s t fault
   pub full : IfFull fault (λ _. ⊥)
 
--- A tree to which nothing was pushed stayed as it was until its nodes and leaves were released.
+-- A tree that counts no operation stayed as it was until its nodes and leaves were released.
 pub record ReleasesUnused (s t : RigState) (v w : Trunk) : Type 0 where
   pub same : w ≡ v
   pub moves : IsTrue s.device.told
       → t.moves ≤ s.moves + 2 * length (tree_blocks v.level s v.root)
 
--- a tree to which nothing was pushed needs no block while it is finished
+-- a tree that counts no operation (`longest` is 0) needs no block while it is finished
 abbrev pub FullIfUsed : {T : Type 0} → Trunk → Result T EmFault → Type 0
-FullIfUsed v result = IfErr result (λ fault. IfFull fault (λ _. v.pushed ≡ 0 → ⊥))
+FullIfUsed v result = IfErr result (λ fault. IfFull fault (λ _. v.longest ≡ 0 → ⊥))
 
--- A tree can be finished: all its buffers can be emptied. Before the first push nothing waits in it.
+-- A tree can be finished: all its buffers can be emptied. If it counts no operation, nothing waits in it.
 pub record CanFinish (s : RigState) (v : Trunk) : Type 0 where
   pub settle : CanSettleTree s v
-  pub unused : v.pushed ≡ 0 → IsDrained v
-  pub none : IsTrue s.device.told → v.pushed ≡ 0 → EachRead (NoneFrom 0) s v
+  pub unused : v.longest ≡ 0 → IsDrained v
+  pub none : IsTrue s.device.told → v.longest ≡ 0 → EachRead (NoneFrom 0) s v
 
 -- All its buffers were emptied, and then its nodes and leaves were released.
 pub record FinishedBlocks (key : Record → Record) (step : Option Record → Record → Step)

@@ -14,7 +14,7 @@ use em_space::{EmFault, Rig};
 use em_tree_load::release_tree;
 use em_trunk::Trunk;
 
-/// Settles a tree, if anything was pushed, and releases its nodes and leaves.
+/// Settles a tree, if it counts an operation, and releases its nodes and leaves.
 pub fn finish_blocks<D: Device, S: Settle>(
     rig: &mut Rig<'_, D>,
     settle: &S,
@@ -28,14 +28,14 @@ pub fn finish_blocks<D: Device, S: Settle>(
     ensures finishes { FinishesBlocks (S.key_of settle.now) (S.step_of settle.now) (S.IsOp settle.now)
         (S.IsKept settle.now) (seen D.state rig.old) (seen D.state rig.new) trunk.old trunk.new
         result }
-    ensures unused { trunk.old.pushed ≡ 0 → ReleasesUnused (seen D.state rig.old)
+    ensures unused { trunk.old.longest ≡ 0 → ReleasesUnused (seen D.state rig.old)
         (seen D.state rig.new) trunk.old trunk.new }
 {
     settle_used(rig, settle, trunk)?;
     release_tree(rig, trunk.root, trunk.level)
 }
 
-/// Settles a tree, if anything was pushed. Else nothing is moved.
+/// Settles a tree, if it counts an operation. Else nothing is moved.
 fn settle_used<D: Device, S: Settle>(
     rig: &mut Rig<'_, D>,
     settle: &S,
@@ -45,14 +45,14 @@ fn settle_used<D: Device, S: Settle>(
         (seen D.state rig.old) trunk.old }
     requires ready { S.IsReady settle.now }
     requires finish { CanFinish (seen D.state rig.old) trunk.old }
-    ensures used { IfErr result (λ _. trunk.old.pushed ≡ 0 → ⊥) }
-    ensures still { trunk.old.pushed ≡ 0 → (seen D.state rig.new ≡ seen D.state rig.old)
+    ensures used { IfErr result (λ _. trunk.old.longest ≡ 0 → ⊥) }
+    ensures still { trunk.old.longest ≡ 0 → (seen D.state rig.new ≡ seen D.state rig.old)
         × (trunk.new ≡ trunk.old) }
     ensures settles { SettlesAllTo (S.key_of settle.now) (S.step_of settle.now) (S.IsOp settle.now)
         (S.IsKept settle.now) (owing_all (seen D.state rig.old) trunk.old) (seen D.state rig.old)
         (seen D.state rig.new) trunk.old trunk.new result }
 {
-    if trunk.pushed == 0 {
+    if trunk.longest == 0 {
         return Ok(());
     }
     settle_tree(rig, settle, trunk)

@@ -166,7 +166,7 @@ impl<S: Settle> Tree<S> {
     }
 
     /// Empties all buffers, releases the tree's blocks, and gives the answers in any order. `Full` comes only if
-    /// all blocks are in use then, and an operation was pushed.
+    /// all blocks are in use then, and the tree counts an operation.
     pub fn finish<D: Device>(self, rig: &mut Rig<'_, D>) -> Result<Chain, EmFault>
         requires sound { Sound (seen D.state rig.old) }
         requires ready { S.IsReady self.settle }

@@ -36,7 +36,7 @@ thin_first limit at from until l k top b own h e x = h e (⊎_elim
 
 -- A root has fewer than 24 levels after so many operations.
 pub level_last : {shape : ShapeNumbers} {c : TreeCounts} {more : ℕ} {t : Sums} → IsShape shape
-    → c.k ≤ 2 ^ 100 → KeepsBooks shape c more t → t.level < 24
+    → c.k ≤ 2 ^ 101 → KeepsBooks shape c more t → t.level < 24
 level_last {shape = shape} {t = t} is few b = ⊎_elim
     (λ (e : t.level ≡ 1). omega (arith, e))
     (λ (h : shape.block * (2 * wide_of shape) ^ t.level ≤ b.counters.k). ⊎_elim

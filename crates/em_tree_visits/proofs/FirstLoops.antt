@@ -46,7 +46,7 @@ abbrev pub stop_load_debt : ℕ → ℕ → ℕ
 stop_load_debt w L = 20 * w + 35 + 3 * L
 
 -- What may be owed before the load, and a load that gives up, are within a path.
-pub loads_within : (shape : ShapeNumbers) (k at : ℕ) → IsShape shape → k ≤ 2 ^ 100 → at ≤ levels_of shape k
+pub loads_within : (shape : ShapeNumbers) (k at : ℕ) → IsShape shape → k ≤ 2 ^ 101 → at ≤ levels_of shape k
     → (let L = levels_of shape k in let w = wide_of shape in
     root_debt shape L + way_debt w L at + stop_load_debt w L + 1 ≤ path_most shape k)
 loads_within shape k at is few down =
@@ -108,7 +108,7 @@ module _ (key : Record → Record) (step : Option Record → Record → Step) (I
     drained = ready.drained;
   }
 
-  few_pushed : v.longest ≤ 2 ^ 100
+  few_pushed : v.longest ≤ 2 ^ 101
   few_pushed = (let n = can.running.numbers in let a = n.longest_most in let b = n.pushed_most in
       omega (arith, a, b))
 

@@ -34,7 +34,7 @@ pub record TakesSteps (s : RigState) (v : Trunk) : Type 0 where
   pub handed : ℕ
   pub split : ℕ
   pub longest : counts.k ≡ v.longest
-  pub few : counts.k ≤ 2 ^ 100
+  pub few : counts.k ≤ 2 ^ 101
   pub none_taken : counts.z ≡ 0
   pub none_settled : counts.y ≡ 0
   pub books : InCall s.pool.shape counts owed handed split (sums_in s v)

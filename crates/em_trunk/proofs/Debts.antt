@@ -193,7 +193,7 @@ may_begin {s = s} {v = v} sound is told =
     let b = is.books told in
     let f = b.paid.fits in
     let w = counted_settling shape v in
-    let few : v.longest ≤ 2 ^ 100 = (let x = n.longest_most in let y = n.pushed_most in omega (arith, x, y)) in
+    let few : v.longest ≤ 2 ^ 101 = (let x = n.longest_most in let y = n.pushed_most in omega (arith, x, y)) in
     let levels = levels_within shape v.longest sound.shape (omega (arith, few)) in
     let low : v.level ≤ deepest s v = level_most sound.shape b in
     let held : (sums_in s v).stored + (sums_in s v).waiting ≤ blocks_of shape v.longest * shape.block =

@@ -105,16 +105,17 @@ none_from (entry low b c r) m lo hi e =
 
 -- Before the first push nothing waits.
 pub none_unused : {key : Record → Record} {IsOp IsKept : Record → Type 0} {s : RigState} {v : Trunk}
-    → IsTrunk key IsOp IsKept s v → v.pushed ≡ 0 → IsTrue s.device.told → EachRead (NoneFrom 0) s v
+    → IsTrunk key IsOp IsKept s v → v.longest ≡ 0 → IsTrue s.device.told → EachRead (NoneFrom 0) s v
 none_unused {s = s} {v = v} i unused told =
     let b = i.books told in
-    let few = b.paid.fits.all_pushed in
-    let n = b.n in
-    none_from (root_of s v) v.level _ _ (omega (arith, few, n, unused))
+    let few = b.paid.fits.since_pushed in
+    let most = b.paid.fits.since_most in
+    let k = b.k in
+    none_from (root_of s v) v.level _ _ (omega (arith, few, most, k, unused))
 
 -- nor is a block in the root's buffer
 pub drained_unused : {key : Record → Record} {IsOp IsKept : Record → Type 0} {s : RigState} {v : Trunk}
-    → IsTrunk key IsOp IsKept s v → v.pushed ≡ 0 → IsDrained v
+    → IsTrunk key IsOp IsKept s v → v.longest ≡ 0 → IsDrained v
 drained_unused i unused =
     let none = i.unused unused in
     record { empty = i.running.buffer.last.none_count none; unwritten = none }

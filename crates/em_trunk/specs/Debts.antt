@@ -53,7 +53,7 @@ pub record MayOwe (p more : ℕ) (s : RigState) (v : Trunk) : Type 0 where
   pub counts : TreeCounts
   pub debt : ℕ
   pub longest : counts.k ≡ v.longest
-  pub few : counts.k ≤ 2 ^ 100
+  pub few : counts.k ≤ 2 ^ 101
   pub none_taken : counts.z ≡ 0
   pub none_settled : counts.y ≡ 0
   pub books : KeepsBooks s.pool.shape (count_moves p counts) (s.pool.shape.block * debt) (sums_in s v)

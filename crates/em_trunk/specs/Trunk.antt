@@ -70,12 +70,13 @@ pub record TrunkHasFrames (s : RigState) (v : Trunk) : Type 0 where
   pub answers : length v.answers.frame ≡ s.pool.shape.block
   pub out : s.pool.free + 2 ≤ singles_of s.pool.shape
 
--- Its numbers are in their ranges, over any device.
+-- Its numbers are in their ranges, over any device. `longest` is at most 2 ^ 100 above `pushed`; over a device that
+-- tells the books say that it is at most `pushed`.
 pub record AreTrunkNumbers (s : RigState) (v : Trunk) : Type 0 where
   pub level_some : 1 ≤ v.level
   pub level_most : v.level ≤ 24
   pub since_most : v.since ≤ v.longest
-  pub longest_most : v.longest ≤ v.pushed
+  pub longest_most : v.longest ≤ v.pushed + 2 ^ 100
   pub pushed_most : v.pushed ≤ 2 ^ 100
   pub settled_most : v.settled ≤ 2 ^ 100
   pub resets_most : v.resets ≤ 2 ^ 100
@@ -108,14 +109,14 @@ pub record IsRunning (key : Record → Record) (IsOp IsKept : Record → Type 0)
   pub stands : IsTrue s.device.told → IsStanding key IsOp IsKept s v
 
 -- What ties a tree to its rig at each exit that is Ok: no buffer is full, and its moves are paid for. The
--- root's buffer holds no block before the first push, and never more blocks than operations. Before the first
--- push no answer was given.
+-- root's buffer never holds more blocks than operations. A tree that counts no operation (`longest` is 0) has no
+-- block in it, and no answer was given.
 pub record IsTrunk (key : Record → Record) (IsOp IsKept : Record → Type 0) (s : RigState)
     (v : Trunk) : Type 0 where
   pub running : IsRunning key IsOp IsKept s v
   pub few : v.buffer.count < full_limit s.pool.shape
-  pub unused : v.pushed ≡ 0 → v.buffer.blocks ≡ 0
-  pub silent : IsTrue s.device.told → v.pushed ≡ 0 → given_by s v ≡ []
+  pub unused : v.longest ≡ 0 → v.buffer.blocks ≡ 0
+  pub silent : IsTrue s.device.told → v.longest ≡ 0 → given_by s v ≡ []
   pub blocks : v.buffer.blocks ≤ v.buffer.count
   pub thin : IsTrue s.device.told
       → EachEntry (IsThin (full_limit s.pool.shape)) v.level least_record None (root_of s v)

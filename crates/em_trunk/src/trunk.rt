@@ -124,7 +124,7 @@ impl Trunk {
     pub fn count_push(&mut self, shape: &Shape)
         requires shape { IsShape shape.now }
         requires since { self.old.since ≤ self.old.longest }
-        requires longest { self.old.longest ≤ self.old.pushed }
+        requires longest { self.old.longest ≤ self.old.pushed + 2 ^ 100 }
         requires few { self.old.pushed < 2 ^ 100 }
         ensures { self.new ≡ counted_push shape.now self.old }
     {
@@ -137,7 +137,7 @@ impl Trunk {
     /// Counts a call that empties all buffers, and gives it its steps.
     pub fn count_settling(&mut self, shape: &Shape)
         requires shape { IsShape shape.now }
-        requires longest { self.old.longest ≤ self.old.pushed }
+        requires longest { self.old.longest ≤ self.old.pushed + 2 ^ 100 }
         requires few { self.old.pushed ≤ 2 ^ 100 }
         requires room { self.old.settled < 2 ^ 100 }
         ensures { self.new ≡ counted_settling shape.now self.old }
@@ -169,7 +169,7 @@ impl Trunk {
     pub fn allow_steps(&mut self, shape: &Shape)
         requires shape { IsShape shape.now }
         requires pushed { self.old.pushed ≤ 2 ^ 100 }
-        requires longest { self.old.longest ≤ 2 ^ 100 }
+        requires longest { self.old.longest ≤ 2 ^ 101 }
         ensures { self.new ≡ with_steps shape.now self.old }
     {
         let block = shape.block() as u128;

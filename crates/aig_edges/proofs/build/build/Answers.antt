@@ -9,11 +9,12 @@ use Rattle.aig_edges.specs.Making.{BuildsTo}
 use Rattle.aig_edges.specs.declared.graph.Graph.{Graph}
 use Rattle.aig_edges.proofs.Graphed.{built, queue_apart}
 use Rattle.aig_edges.proofs.Halted.{compare_goes, compare_none}
+use Rattle.aig_edges.proofs.Known.{defs_known, gates_known}
 use Rattle.aig_edges.proofs.Made.{all_stand, can_compare, can_sort_defs, can_sort_edges, can_sort_gates, defs_none, defs_room, defs_stand, defs_twice, defs_unseen, edges_none, edges_stand, gates_none, gates_room, gates_stand, given, may_compare, none_twice, sizes, some_free, sorted_of}
 use Rattle.aig_edges.proofs.build.build.Goals as goal
 
-pub sort-requires-clause-can : goal.sort-requires-clause-can
-sort-requires-clause-can g c =
+pub sort_known-requires-clause-can : goal.sort_known-requires-clause-can
+sort_known-requires-clause-can g c =
     let laws = g.met.Q.Queue in
     let q = g.Q.Queue in
     let p = c.args.parts in
@@ -22,6 +23,17 @@ sort-requires-clause-can g c =
     let v = given q x p r.sound r.parts r.queue r.begins
     (laws.blocks_most x _ r.queue) r.holds in
     can_sort_defs q x v
+
+pub sort_known-requires-clause-known : goal.sort_known-requires-clause-known
+sort_known-requires-clause-known g c =
+    let laws = g.met.Q.Queue in
+    let q = g.Q.Queue in
+    let p = c.args.parts in
+    let x = c.args.queue.now in
+    let r = c.requires in
+    let v = given q x p r.sound r.parts r.queue r.begins
+    (laws.blocks_most x _ r.queue) r.holds in
+    defs_known q x v
 
 pub returns-in_err-defs-clause-builds : goal.returns-in_err-defs-clause-builds
 returns-in_err-defs-clause-builds g c =
@@ -32,9 +44,9 @@ returns-in_err-defs-clause-builds g c =
     let r = c.requires in
     let v = given q x p r.sound r.parts r.queue r.begins
     (laws.blocks_most x _ r.queue) r.holds in
-    of_error (λ (z : Result Graph AigStop). BuildsTo q x c.sort.new.queue (seen g.D.Device.state c.args.rig.now) (seen g.D.Device.state c.sort.new.rig) p z) _ _
+    of_error (λ (z : Result Graph AigStop). BuildsTo q x c.sort_known.new.queue (seen g.D.Device.state c.args.rig.now) (seen g.D.Device.state c.sort_known.new.rig) p z) _ _
     c.from_residual.ensures.1
-    (defs_none q x c.sort.new.queue v c.in_err-defs.ensures.sorts)
+    (defs_none q x c.sort_known.new.queue v c.in_err-defs.ensures.sorts)
 
 pub twice-requires-clause-is : goal.twice-requires-clause-is
 twice-requires-clause-is g c =
@@ -45,7 +57,7 @@ twice-requires-clause-is g c =
     let r = c.requires in
     let v = given q x p r.sound r.parts r.queue r.begins
     (laws.blocks_most x _ r.queue) r.holds in
-    let y = c.sort.new.queue in
+    let y = c.sort_known.new.queue in
     let d = c.in_ok-defs.defs in
     let i = c.in_ok-defs.ensures in
     let a = defs_stand q x y d v i.sorts i.queue in
@@ -60,7 +72,7 @@ twice-requires-clause-free g c =
     let r = c.requires in
     let v = given q x p r.sound r.parts r.queue r.begins
     (laws.blocks_most x _ r.queue) r.holds in
-    let y = c.sort.new.queue in
+    let y = c.sort_known.new.queue in
     let d = c.in_ok-defs.defs in
     let i = c.in_ok-defs.ensures in
     let a = defs_stand q x y d v i.sorts i.queue in
@@ -69,7 +81,7 @@ twice-requires-clause-free g c =
 pub returns-in_err-place-clause-frames : goal.returns-in_err-place-clause-frames
 returns-in_err-place-clause-frames g c =
     let laws = g.met.Q.Queue in
-    let y = c.sort.new.queue in
+    let y = c.sort_known.new.queue in
     let has = c.in_ok-defs.ensures.frames in
     let look = c.in_err-place.ensures.done.looks.goes in
     laws.frames_stay y _ _ _ has look.touches (out_same _ _ _ (laws.out y _ has) look.frames)
@@ -83,7 +95,7 @@ returns-in_err-place-clause-builds g c =
     let r = c.requires in
     let v = given q x p r.sound r.parts r.queue r.begins
     (laws.blocks_most x _ r.queue) r.holds in
-    let y = c.sort.new.queue in
+    let y = c.sort_known.new.queue in
     let d = c.in_ok-defs.defs in
     let i = c.in_ok-defs.ensures in
     let a = defs_stand q x y d v i.sorts i.queue in
@@ -97,7 +109,7 @@ returns-in_err-place-clause-builds g c =
 pub returns-in-Some-clause-frames : goal.returns-in-Some-clause-frames
 returns-in-Some-clause-frames g c =
     let laws = g.met.Q.Queue in
-    let y = c.sort.new.queue in
+    let y = c.sort_known.new.queue in
     let has = c.in_ok-defs.ensures.frames in
     let look = c.in_ok-place.ensures.done.0.goes in
     laws.frames_stay y _ _ _ has look.touches (out_same _ _ _ (laws.out y _ has) look.frames)
@@ -111,7 +123,7 @@ returns-in-Some-clause-builds g c =
     let r = c.requires in
     let v = given q x p r.sound r.parts r.queue r.begins
     (laws.blocks_most x _ r.queue) r.holds in
-    let y = c.sort.new.queue in
+    let y = c.sort_known.new.queue in
     let d = c.in_ok-defs.defs in
     let i = c.in_ok-defs.ensures in
     let a = defs_stand q x y d v i.sorts i.queue in
@@ -127,10 +139,10 @@ returns-in-Some-clause-builds g c =
     c.in-Some.is
     c.in_ok-place.ensures.done.1
 
-pub sort-requires-2-clause-is : goal.sort-requires-2-clause-is
-sort-requires-2-clause-is g c =
+pub sort_known-requires-2-clause-is : goal.sort_known-requires-2-clause-is
+sort_known-requires-2-clause-is g c =
     let laws = g.met.Q.Queue in
-    let y = c.sort.new.queue in
+    let y = c.sort_known.new.queue in
     let i = c.in_ok-defs.ensures in
     let t = seen g.D.Device.state c.twice.new.rig in
     let look = c.in_ok-place.ensures.done.0 in
@@ -138,8 +150,8 @@ sort-requires-2-clause-is g c =
     (λ z. apart_none _) (out_same _ _ _ (laws.out y _ i.frames) look.goes.frames) in
     kept.0
 
-pub sort-requires-2-clause-can : goal.sort-requires-2-clause-can
-sort-requires-2-clause-can g c =
+pub sort_known-requires-2-clause-can : goal.sort_known-requires-2-clause-can
+sort_known-requires-2-clause-can g c =
     let laws = g.met.Q.Queue in
     let q = g.Q.Queue in
     let p = c.args.parts in
@@ -147,7 +159,7 @@ sort-requires-2-clause-can g c =
     let r = c.requires in
     let v = given q x p r.sound r.parts r.queue r.begins
     (laws.blocks_most x _ r.queue) r.holds in
-    let y = c.sort.new.queue in
+    let y = c.sort_known.new.queue in
     let d = c.in_ok-defs.defs in
     let i = c.in_ok-defs.ensures in
     let a = defs_stand q x y d v i.sorts i.queue in
@@ -160,8 +172,8 @@ sort-requires-2-clause-can g c =
     let once = none_twice a c.in_default.is c.in_ok-place.ensures.done.1 in
     can_sort_gates q x y v once b
 
-pub returns-in_err-gates-clause-builds : goal.returns-in_err-gates-clause-builds
-returns-in_err-gates-clause-builds g c =
+pub sort_known-requires-2-clause-known : goal.sort_known-requires-2-clause-known
+sort_known-requires-2-clause-known g c =
     let laws = g.met.Q.Queue in
     let q = g.Q.Queue in
     let p = c.args.parts in
@@ -169,7 +181,7 @@ returns-in_err-gates-clause-builds g c =
     let r = c.requires in
     let v = given q x p r.sound r.parts r.queue r.begins
     (laws.blocks_most x _ r.queue) r.holds in
-    let y = c.sort.new.queue in
+    let y = c.sort_known.new.queue in
     let d = c.in_ok-defs.defs in
     let i = c.in_ok-defs.ensures in
     let a = defs_stand q x y d v i.sorts i.queue in
@@ -179,9 +191,30 @@ returns-in_err-gates-clause-builds g c =
     let kept = laws.stays y _ _ t i.queue look.goes.touches
     (λ z. apart_none _) (out_same _ _ _ (laws.out y _ i.frames) look.goes.frames) in
     let b = gates_stand q x y a room look kept.0 kept.2 in
-    of_error (λ (z : Result Graph AigStop). BuildsTo q x c.sort-2.new.queue (seen g.D.Device.state c.args.rig.now) (seen g.D.Device.state c.sort-2.new.rig) p z) _ _
+    gates_known q x y v b
+
+pub returns-in_err-gates-clause-builds : goal.returns-in_err-gates-clause-builds
+returns-in_err-gates-clause-builds g c =
+    let laws = g.met.Q.Queue in
+    let q = g.Q.Queue in
+    let p = c.args.parts in
+    let x = c.args.queue.now in
+    let r = c.requires in
+    let v = given q x p r.sound r.parts r.queue r.begins
+    (laws.blocks_most x _ r.queue) r.holds in
+    let y = c.sort_known.new.queue in
+    let d = c.in_ok-defs.defs in
+    let i = c.in_ok-defs.ensures in
+    let a = defs_stand q x y d v i.sorts i.queue in
+    let room = defs_room v i.sorts in
+    let t = seen g.D.Device.state c.twice.new.rig in
+    let look = c.in_ok-place.ensures.done.0 in
+    let kept = laws.stays y _ _ t i.queue look.goes.touches
+    (λ z. apart_none _) (out_same _ _ _ (laws.out y _ i.frames) look.goes.frames) in
+    let b = gates_stand q x y a room look kept.0 kept.2 in
+    of_error (λ (z : Result Graph AigStop). BuildsTo q x c.sort_known-2.new.queue (seen g.D.Device.state c.args.rig.now) (seen g.D.Device.state c.sort_known-2.new.rig) p z) _ _
     c.from_residual-in_err-gates.ensures.1
-    (gates_none q x y c.sort-2.new.queue v room b c.in_err-gates.ensures.sorts)
+    (gates_none q x y c.sort_known-2.new.queue v room b c.in_err-gates.ensures.sorts)
 
 pub sort_edges-requires-clause-can : goal.sort_edges-requires-clause-can
 sort_edges-requires-clause-can g c =
@@ -192,7 +225,7 @@ sort_edges-requires-clause-can g c =
     let r = c.requires in
     let v = given q x p r.sound r.parts r.queue r.begins
     (laws.blocks_most x _ r.queue) r.holds in
-    let y = c.sort.new.queue in
+    let y = c.sort_known.new.queue in
     let d = c.in_ok-defs.defs in
     let i = c.in_ok-defs.ensures in
     let a = defs_stand q x y d v i.sorts i.queue in
@@ -203,7 +236,7 @@ sort_edges-requires-clause-can g c =
     (λ z. apart_none _) (out_same _ _ _ (laws.out y _ i.frames) look.goes.frames) in
     let b = gates_stand q x y a room look kept.0 kept.2 in
     let once = none_twice a c.in_default.is c.in_ok-place.ensures.done.1 in
-    let w = c.sort-2.new.queue in
+    let w = c.sort_known-2.new.queue in
     let j = c.in_ok-gates.ensures in
     let e = edges_stand q x y w c.in_ok-gates.gates v room b j.sorts j.queue in
     can_sort_edges q x w v once j.sorts.count_is e
@@ -217,7 +250,7 @@ returns-in_err-edges-clause-builds g c =
     let r = c.requires in
     let v = given q x p r.sound r.parts r.queue r.begins
     (laws.blocks_most x _ r.queue) r.holds in
-    let y = c.sort.new.queue in
+    let y = c.sort_known.new.queue in
     let d = c.in_ok-defs.defs in
     let i = c.in_ok-defs.ensures in
     let a = defs_stand q x y d v i.sorts i.queue in
@@ -227,7 +260,7 @@ returns-in_err-edges-clause-builds g c =
     let kept = laws.stays y _ _ t i.queue look.goes.touches
     (λ z. apart_none _) (out_same _ _ _ (laws.out y _ i.frames) look.goes.frames) in
     let b = gates_stand q x y a room look kept.0 kept.2 in
-    let w = c.sort-2.new.queue in
+    let w = c.sort_known-2.new.queue in
     let j = c.in_ok-gates.ensures in
     let e = edges_stand q x y w c.in_ok-gates.gates v room b j.sorts j.queue in
     let size = gates_room v b j.sorts in
@@ -244,7 +277,7 @@ compare-requires g c =
     let r = c.requires in
     let v = given q x p r.sound r.parts r.queue r.begins
     (laws.blocks_most x _ r.queue) r.holds in
-    let y = c.sort.new.queue in
+    let y = c.sort_known.new.queue in
     let d = c.in_ok-defs.defs in
     let i = c.in_ok-defs.ensures in
     let a = defs_stand q x y d v i.sorts i.queue in
@@ -255,7 +288,7 @@ compare-requires g c =
     (λ z. apart_none _) (out_same _ _ _ (laws.out y _ i.frames) look.goes.frames) in
     let b = gates_stand q x y a room look kept.0 kept.2 in
     let once = none_twice a c.in_default.is c.in_ok-place.ensures.done.1 in
-    let w = c.sort-2.new.queue in
+    let w = c.sort_known-2.new.queue in
     let j = c.in_ok-gates.ensures in
     let e = edges_stand q x y w c.in_ok-gates.gates v room b j.sorts j.queue in
     let size = gates_room v b j.sorts in
@@ -283,7 +316,7 @@ returns-in_err-sources-clause-builds g c =
     let r = c.requires in
     let v = given q x p r.sound r.parts r.queue r.begins
     (laws.blocks_most x _ r.queue) r.holds in
-    let y = c.sort.new.queue in
+    let y = c.sort_known.new.queue in
     let d = c.in_ok-defs.defs in
     let i = c.in_ok-defs.ensures in
     let a = defs_stand q x y d v i.sorts i.queue in
@@ -294,7 +327,7 @@ returns-in_err-sources-clause-builds g c =
     (λ z. apart_none _) (out_same _ _ _ (laws.out y _ i.frames) look.goes.frames) in
     let b = gates_stand q x y a room look kept.0 kept.2 in
     let once = none_twice a c.in_default.is c.in_ok-place.ensures.done.1 in
-    let w = c.sort-2.new.queue in
+    let w = c.sort_known-2.new.queue in
     let j = c.in_ok-gates.ensures in
     let e = edges_stand q x y w c.in_ok-gates.gates v room b j.sorts j.queue in
     let size = gates_room v b j.sorts in
@@ -327,7 +360,7 @@ returns-clause-queue g c =
     let r = c.requires in
     let v = given q x p r.sound r.parts r.queue r.begins
     (laws.blocks_most x _ r.queue) r.holds in
-    let y = c.sort.new.queue in
+    let y = c.sort_known.new.queue in
     let d = c.in_ok-defs.defs in
     let i = c.in_ok-defs.ensures in
     let a = defs_stand q x y d v i.sorts i.queue in
@@ -338,7 +371,7 @@ returns-clause-queue g c =
     (λ z. apart_none _) (out_same _ _ _ (laws.out y _ i.frames) look.goes.frames) in
     let b = gates_stand q x y a room look kept.0 kept.2 in
     let once = none_twice a c.in_default.is c.in_ok-place.ensures.done.1 in
-    let w = c.sort-2.new.queue in
+    let w = c.sort_known-2.new.queue in
     let j = c.in_ok-gates.ensures in
     let e = edges_stand q x y w c.in_ok-gates.gates v room b j.sorts j.queue in
     let size = gates_room v b j.sorts in
@@ -361,7 +394,7 @@ returns-clause-builds g c =
     let r = c.requires in
     let v = given q x p r.sound r.parts r.queue r.begins
     (laws.blocks_most x _ r.queue) r.holds in
-    let y = c.sort.new.queue in
+    let y = c.sort_known.new.queue in
     let d = c.in_ok-defs.defs in
     let i = c.in_ok-defs.ensures in
     let a = defs_stand q x y d v i.sorts i.queue in
@@ -372,7 +405,7 @@ returns-clause-builds g c =
     (λ z. apart_none _) (out_same _ _ _ (laws.out y _ i.frames) look.goes.frames) in
     let b = gates_stand q x y a room look kept.0 kept.2 in
     let once = none_twice a c.in_default.is c.in_ok-place.ensures.done.1 in
-    let w = c.sort-2.new.queue in
+    let w = c.sort_known-2.new.queue in
     let j = c.in_ok-gates.ensures in
     let e = edges_stand q x y w c.in_ok-gates.gates v room b j.sorts j.queue in
     let size = gates_room v b j.sorts in

@@ -23,7 +23,7 @@ pub returns-in_err-defs : goal.returns-in_err-defs
 returns-in_err-defs g c =
     let r = sections_unread (g.R.Rows.form c.args.rows.now)
     (as_form c.which.ensures c.in_ok-header.ensures.reads) _ _ c.from_residual-in_err-defs.ensures.1
-    c.in_err-defs.ensures in
+    c.in_err-defs.ensures.lists in
     record {
       goes = r.goes;
       parts = r.parts;
@@ -42,7 +42,8 @@ pub returns : goal.returns
 returns g c =
     let r = circuit_read (g.R.Rows.form c.args.rows.now)
     (as_form c.which.ensures c.in_ok-header.ensures.reads) c.in_ok-header.ensures.is _ _ _ _
-    c.in_ok-defs.ensures.advances c.in_ok-defs.ensures.by in
+    c.read_lists.new.climbs c.read_lists.new.straight c.in_ok-defs.ensures.lists.advances c.in_ok-defs.ensures.lists.by
+    c.in_ok-defs.ensures.climbs c.in_ok-defs.ensures.straight in
     record {
       goes = r.goes;
       parts = r.parts;

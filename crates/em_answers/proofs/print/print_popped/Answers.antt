@@ -8,4 +8,4 @@ returns-in_err-add_popped-clause-part g c = search (rules, word_part)
 
 pub returns-clause-part : goal.returns-clause-part
 returns-clause-part g c = part-add g.met.W.Sink.rule (g.met.W.Sink.is_state c.args.out.now) _ (10 ∷ [])
-    (rw c.new-printer.ensures at c.in_ok-add_popped.ensures.sent) c.end_line.ensures.part
+    (rw c.requires.none at c.in_ok-add_popped.ensures.sent) c.end_line.ensures.part

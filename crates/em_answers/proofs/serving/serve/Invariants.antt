@@ -1,4 +1,4 @@
-use Rattle.std.proofs.Common.{◌≡◌, ◌+◌, ◌-◌, ◌*◌, ◌≤◌, ◌^◌, IsTrue}
+use Rattle.std.proofs.Common.{◌≡◌, [], ◌+◌, ◌-◌, ◌*◌, ◌≤◌, ◌^◌, IsTrue}
 use Rattle.em_io.specs.Feed.{rest}
 use Rattle.em_space.specs.Held.{Within}
 use Rattle.em_space.specs.Numbered.{NumberedTo}
@@ -37,6 +37,7 @@ invariant-loop-next g l =
       limit : c.len ≤ c.n;
       pushes : l.pushes ≤ c.n;
       numbers : IsTrue now.device.told → NumberedTo l.pushes (g.Q.Queue.items l.queue now);
+      none : l.printer ≡ [];
       place : l.feed.place ≤ 48 * c.n;
       reads : Reads g.H.Shelf.tells l.fn.feed (g.H.Shelf.stand l.fn.shelf)
           l.feed (g.H.Shelf.stand l.shelf);

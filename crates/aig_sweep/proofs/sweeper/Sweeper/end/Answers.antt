@@ -1,8 +1,9 @@
 use Rattle.em_space.specs.Seen.{seen}
 use Rattle.em_space.proofs.Queues.{out_same}
 use Rattle.em_queued.proofs.Queued.{beside_apart, beside_out, unstored_frames}
+use Rattle.em_queued.proofs.Room.{full_others}
 use Rattle.aig_sweep.specs.Sweeper.{lists_blocks}
-use Rattle.aig_sweep.proofs.Sweepers.{end_refused, ended, ended_to, lists_of}
+use Rattle.aig_sweep.proofs.Sweepers.{end_full, end_refused, ended, ended_to, lists_of}
 use Rattle.aig_sweep.proofs.sweeper.Sweeper.end.Goals as goal
 
 pub discard_lists-requires-clause-are : goal.discard_lists-requires-clause-are
@@ -80,3 +81,16 @@ returns-in-Err-clause-done g c =
     c.abandon.ensures.leaves
     (unstored_frames (laws.unstored_most q s c.requires.is.is) (laws.out q s f) c.requires.sound)
     (laws.spends q s f)).1
+
+pub returns-in-Ok-clause-full : goal.returns-in-Ok-clause-full
+returns-in-Ok-clause-full g c =
+    end_full g.Q.Queue c.args.self c.in-Ok.ensures.done c.end.result c.end.ensures.full
+
+pub returns-in-Err-clause-full : goal.returns-in-Err-clause-full
+returns-in-Err-clause-full g c =
+    let laws = g.met.Q.Queue in
+    let s = seen g.D.Device.state c.args.rig.now in
+    let q = c.args.self.queue in
+    let k = c.in-Err.ensures.done in
+    full_others (g.Q.Queue.counts q) _ (laws.blocks_most q s c.requires.is.is)
+    (laws.fits q s (laws.frames_of q s c.requires.is.is)) k.halts k.cause

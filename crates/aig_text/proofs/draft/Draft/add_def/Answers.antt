@@ -6,5 +6,6 @@ pub returns-clause-drafts : goal.returns-clause-drafts
 returns-clause-drafts g c =
     let e = c.append.ensures in
     adds_def (seen g.D.Device.state c.args.rig.now) (seen g.D.Device.state c.append.new.rig)
-    c.args.self.now c.append.new.self c.args.item c.append.result c.requires.sound
+    c.args.self.now c.append.new.self c.after_record-self.result c.args.item c.append.result c.after_record-self.ensures
+    c.requires.sound
     c.requires.is e.goes e.appends e.spends e.cause

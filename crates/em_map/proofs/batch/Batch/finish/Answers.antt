@@ -17,7 +17,7 @@ pub returns-clause-room : goal.returns-clause-room
 returns-clause-room g c = λ told.
     let b = c.args.self in
     within_more b.tree.trunk.longest b.calls
-    (longest_few (seen g.D.Device.state c.args.rig.now) b c.requires.is) (c.finish.ensures.room told)
+    (longest_few (seen g.D.Device.state c.args.rig.now) b c.requires.is told) (c.finish.ensures.room told)
 
 pub returns-clause-over : goal.returns-clause-over
 returns-clause-over g c =

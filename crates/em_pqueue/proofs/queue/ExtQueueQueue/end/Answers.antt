@@ -153,16 +153,16 @@ returns-clause-ended g c =
 
 pub returns-in_err-answers-clause-needs : goal.returns-in_err-answers-clause-needs
 returns-in_err-answers-clause-needs g c =
-    full_by_err (c.args.self.tree.trunk.pushed ≡ 0 → ⊥) c.from_residual.result
+    full_by_err (c.args.self.tree.trunk.longest ≡ 0 → ⊥) c.from_residual.result
     c.in_err-answers.field-0.0 c.from_residual.ensures.1 c.in_err-answers.ensures.full
 
 pub returns-in_err-discard-clause-needs : goal.returns-in_err-discard-clause-needs
 returns-in_err-discard-clause-needs g c =
     let t = seen g.D.Device.state c.finish.new.rig in
     let u = seen g.D.Device.state c.discard.new.rig in
-    full_by_err (c.args.self.tree.trunk.pushed ≡ 0 → ⊥) c.from_residual-in_err-discard.result
+    full_by_err (c.args.self.tree.trunk.longest ≡ 0 → ⊥) c.from_residual-in_err-discard.result
     c.in_err-discard.field-0.0 c.from_residual-in_err-discard.ensures.1
-    (block_full (c.args.self.tree.trunk.pushed ≡ 0 → ⊥) t u c.in_err-discard.field-0.0
+    (block_full (c.args.self.tree.trunk.longest ≡ 0 → ⊥) t u c.in_err-discard.field-0.0
     c.in_err-discard.ensures.cause)
 
 pub returns-in_err-answers-clause-unused : goal.returns-in_err-answers-clause-unused
