@@ -16,6 +16,7 @@ with --latches=0 is evaluated 64 lines at once too, by the program with --wide a
 The program is the one that `rt ci` or `./emtool` built, or the one that EMTOOL names.
 """
 import filecmp
+import math
 import os
 import random
 import subprocess
@@ -29,6 +30,8 @@ TOP = os.path.dirname(os.path.dirname(HERE))
 sys.path.insert(0, HERE)
 import aiger
 import made
+import networks
+import wide
 
 # the baselines of each kind, programs of bench/
 BASELINES = {
@@ -85,6 +88,64 @@ def circuit_lines(gates, inputs=64, latches=LATCHES, outputs=64):
     yield from (f"{2 * (1 + inputs + i)} {literal(2 * most + 2)}\n" for i in range(latches))
     yield from (f"{literal(2 * most + 2)}\n" for _ in range(outputs))
     yield from (f"{2 * v} {literal(2 * v)} {literal(2 * v)}\n" for v in range(first, first + gates))
+
+
+def renumbered_lines(gates):
+    """The same circuit, its gates with other variables, drawn from those that they had: several passes find them."""
+    lines = list(circuit_lines(gates))
+    most, inputs, latches = (int(it) for it in lines[0].split()[1:4])
+    variables = list(range(1 + inputs + latches, most + 1))
+    random.Random(1).shuffle(variables)
+    variables = [*range(1 + inputs + latches), *variables]
+    for line in lines[:1]:
+        yield line
+    for line in lines[1:]:
+        yield " ".join(str(2 * variables[it // 2] + it % 2) for it in map(int, line.split())) + "\n"
+
+
+def network_lines(network, word):
+    """The lines of a network without latches whose outputs are the literals of a word."""
+    inputs = len(network.input_names)
+    yield f"aag {inputs + len(network.gates)} {inputs} 0 {len(word)} {len(network.gates)}\n"
+    yield from (f"{2 * it}\n" for it in range(1, inputs + 1))
+    yield from (f"{it}\n" for it in word)
+    yield from ("{} {} {}\n".format(*it) for it in network.gates)
+
+
+def adder_lines(gates):
+    """An adder of which a carry goes from bit to bit: nine gates a bit."""
+    bits = gates // 9
+    network = networks.Network(networks.names("a", bits) + networks.names("b", bits), [])
+    total, carry = network.sum([2 * it for it in range(1, bits + 1)], [2 * it for it in range(bits + 1, 2 * bits + 1)])
+    return network_lines(network, [*total, carry])
+
+
+def multiplier_lines(gates):
+    """A multiplier that adds a row for each bit: ten gates for each pair of bits."""
+    bits = math.isqrt(gates // 10)
+    network = networks.Network(networks.names("a", bits) + networks.names("b", bits), [])
+    return network_lines(network, networks.product(network, network.word("a", bits), network.word("b", bits)))
+
+
+# circuits by name: their gates, and their lines
+CIRCUITS = {
+    "operands at random": (1_000_000, circuit_lines),
+    "variables at random": (100_000, renumbered_lines),
+    "an adder": (1_000_000, adder_lines),
+    "a multiplier": (1_000_000, multiplier_lines),
+}
+
+
+def in_binary(lines):
+    """The binary form of a circuit in straight order without bad literals, from the lines of its ASCII form."""
+    most, inputs, latches, outputs, _ = (int(it) for it in lines[0].split()[1:])
+    first = 1 + inputs + latches + outputs
+    words = [it.split() for it in lines]
+    text = lines[0].replace("aag", "aig") + "".join(it[-1] + "\n" for it in words[1 + inputs : first])
+    found = bytearray(text.encode())
+    for left, *pair in ([int(it) for it in line] for line in words[first:]):
+        found += wide.delta(left - max(pair)) + wide.delta(max(pair) - min(pair))
+    return bytes(found)
 
 
 def stimulus_lines(inputs=64, steps=STEPS):

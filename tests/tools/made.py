@@ -26,7 +26,7 @@ STATES = 1 << 31
 KINDS = "map", "queue", "stab", "eval"
 SMALLEST = ["--block=128", "--frames=64"]
 # what --run tries; the plain answers of stab are quadratic. 20,000 lines of it have 5,000 stabs, of which nodes have nodes below them; the bits of
-# 300,000 gates don't fit into an area of the smallest shape
+# 300,000 gates don't fit into an area of the smallest shape, but into one of the default shape
 TRIED = ("map", 1, 20000), ("queue", 1, 20000), ("stab", 1, 2000), ("stab", 1, 20000), ("eval", 1, 2000), ("eval", 3, 300000), ("map", 7, 1), ("eval", 2147483647, 1)
 COMMAND = re.compile(r"emtool gen(?: --(?:stats|block=\d+|frames=\d+))* (\w+) (\d+) (\d+)")
 
@@ -161,7 +161,7 @@ def ran(program, folder, *words):
 
 
 def run():
-    """Runs the program both ways, and says what differs."""
+    """Runs the program on each text and as `gen`, at the smallest shape, and on the text at the default shape, and says what differs."""
     program = os.path.abspath(os.environ.get("EMTOOL") or os.path.join(TOP, "emtool"))
     wrong = 0
     with tempfile.TemporaryDirectory(prefix="emtool-made-") as folder:
@@ -174,8 +174,9 @@ def run():
             printed, cost = ran(program, folder, kind, *options, *names)
             line, made_cost = ran(program, folder, "gen", *options, kind, str(start), str(count))
             plain = answers(kind, start, count)
+            larger, _ = ran(program, folder, kind, *names)
             title = f"{kind} {start} {count}"
-            for what, same in (("answers", printed == plain), ("summary", line.decode() == summary(kind, count, plain)),
+            for what, same in (("answers", printed == plain), ("answers at the default shape", larger == plain), ("summary", line.decode() == summary(kind, count, plain)),
                                ("moves and peak", cost == made_cost)):
                 if not same:
                     wrong += 1

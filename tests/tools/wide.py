@@ -23,7 +23,10 @@ import aiger
 
 SHAPES = ["--block=128", "--frames=64"], []
 # how many circuits the gate tries
-TRIED = 60
+TRIED = 200
+# a number of variables of which the bits don't fit into an area at the smallest shape, so that gates are ordered through the queue there, and
+# by bits at the default shape
+MANY = 1 << 18
 # numbers of inputs, of columns and of lines: words and groups have 64 bits and lines
 WIDTHS = 0, 1, 2, 5, 63, 64, 65, 127, 128, 130
 LINES = 0, 1, 2, 63, 64, 65, 100, 127, 128, 129, 130
@@ -63,7 +66,8 @@ class Drawn:
 
     def in_ascii(self, draw):
         """The text of the ASCII form: variables have other numbers, of which one is left out, and the lines of gates any order. In one
-        text of three a gate has another variable at a place, so that one can be defined twice, or isn't defined, or lies on a cycle."""
+        text of three a gate has another variable at a place, so that one can be defined twice, or isn't defined, or lies on a cycle. In one
+        of three the header says that there are many variables."""
         most = self.greatest + 1
         variables = list(range(1, most + 1))
         draw.shuffle(variables)
@@ -81,7 +85,8 @@ class Drawn:
         draw.shuffle(gates)
         if gates and draw.random() < 1 / 3:
             draw.choice(gates)[draw.randrange(3)] = 2 * draw.randrange(1, most + 1)
-        return (self.header("aag", most) + "".join(lines) + "".join("{} {} {}\n".format(*it) for it in gates)).encode()
+        said = MANY if draw.random() < 1 / 3 else most
+        return (self.header("aag", said) + "".join(lines) + "".join("{} {} {}\n".format(*it) for it in gates)).encode()
 
     def text(self, draw):
         return self.in_binary() if self.binary else self.in_ascii(draw)

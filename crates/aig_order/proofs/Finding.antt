@@ -82,20 +82,20 @@ AllLead sweep rs = (e : Record) → Contains rs e → is_edge e ≡ true → is_
     → has (gates_in rs) (e.b / 4) ≡ true
 
 -- what a record's word d says
-edge_is : (r : Record) → r.d ≡ 0 → (is_edge r ≡ true) × (is_gate r ≡ false)
+pub edge_is : (r : Record) → r.d ≡ 0 → (is_edge r ≡ true) × (is_gate r ≡ false)
 edge_is r e = (
   eq-eqb r.d 0 e,
   ap (λ b. not b && not (eqb r.d 1)) (eq-eqb r.d 0 e),
 )
 
-source_is : (r : Record) → r.d ≡ 1 → (is_edge r ≡ false) × (is_gate r ≡ false)
+pub source_is : (r : Record) → r.d ≡ 1 → (is_edge r ≡ false) × (is_gate r ≡ false)
 source_is r e =
     let none : is_edge r ≡ false = ne_eqb r.d 0 (omega (arith, e)) in (
       none,
       ap (λ b. not b && not (eqb r.d 1)) none ∙ ap not (eq-eqb r.d 1 e),
     )
 
-gate_is : (r : Record) → r.d ≡ 2 → (is_edge r ≡ false) × (is_gate r ≡ true)
+pub gate_is : (r : Record) → r.d ≡ 2 → (is_edge r ≡ false) × (is_gate r ≡ true)
 gate_is r e =
     let none : is_edge r ≡ false = ne_eqb r.d 0 (omega (arith, e)) in (
       none,
@@ -236,7 +236,7 @@ edge_step_by : (rank : ℕ → ℕ) (e : Record) (rs notes : List Record) (n : �
 edge_step_by rank e rs notes n true f = note_joins (note_of Find rank n e) rs notes (f refl)
 edge_step_by rank e rs notes n false f = ap (awaited rs) (sym (append-nil notes))
 
-notes_step_by : (rank : ℕ → ℕ) (e : Record) (rs notes : List Record) (n : ℕ) (b : Bool)
+pub notes_step_by : (rank : ℕ → ℕ) (e : Record) (rs notes : List Record) (n : ℕ) (b : Bool)
     → notes ++ cond b (note_of Find rank n e ∷ notes_by Find rank (n + 1) rs)
     (notes_by Find rank (n + 1) rs)
     ≡ (notes ++ cond b (note_of Find rank n e ∷ []) []) ++ notes_by Find rank (n + 1) rs
@@ -295,24 +295,24 @@ gate_takes u n z k old new r rs notes all f g e told =
     ∙ ap (λ z. z ++ awaited rs notes) (ap in_order (sym same) ∙ told.are)) told.both
 
 -- the rank of a gate by its notes
-rank_kept : (n : ℕ) (r x y : Record) → r.c ≢ 0 → found_rank n r x y ≡ r.c
+pub rank_kept : (n : ℕ) (r x y : Record) → r.c ≢ 0 → found_rank n r x y ≡ r.c
 rank_kept n r x y s = ap (λ b. cond b (cond (eqb x.c 1 && eqb y.c 1) n 0) r.c) (ne_eqb r.c 0 s)
 
-rank_open : (n : ℕ) (r x y : Record) (b : Bool) → r.c ≡ 0 → (x.c == 1 && y.c == 1) ≡ b
+pub rank_open : (n : ℕ) (r x y : Record) (b : Bool) → r.c ≡ 0 → (x.c == 1 && y.c == 1) ≡ b
     → found_rank n r x y ≡ cond b n 0
 rank_open n r x y b e both =
     ap (λ t. cond t (cond (eqb x.c 1 && eqb y.c 1) n 0) r.c) (eq-eqb r.c 0 e)
     ∙ ap (λ t. cond t n 0) both
 
 -- where the sweep stands after it
-past_kept : (rank : ℕ → ℕ) (u n : ℕ) (r : Record) → 0 < r.a → r.c ≢ 0
+pub past_kept : (rank : ℕ → ℕ) (u n : ℕ) (r : Record) → 0 < r.a → r.c ≢ 0
     → past_gate (stand rank u n) r (rank r.a) ≡ stand rank r.a n
 past_kept rank u n r some s =
     ap (λ b. at_rank (rank r.a) (cond (b && not (eqb (rank r.a) 0)) (min (n + 1) (2 ^ 64 - 1)) n))
     (ne_eqb r.c 0 s)
     ∙ stands_at rank r.a n some
 
-past_left : (rank : ℕ → ℕ) (u n : ℕ) (r : Record) → 0 < r.a → r.c ≡ 0 → rank r.a ≡ 0
+pub past_left : (rank : ℕ → ℕ) (u n : ℕ) (r : Record) → 0 < r.a → r.c ≡ 0 → rank r.a ≡ 0
     → past_gate (stand rank u n) r (rank r.a) ≡ stand rank r.a n
 past_left rank u n r some e w =
     ap (λ b. at_rank (rank r.a) (cond (b && not (eqb (rank r.a) 0)) (min (n + 1) (2 ^ 64 - 1)) n))
@@ -323,7 +323,7 @@ past_left rank u n r some e w =
 least_next : (n : ℕ) → n < 2 ^ 64 - 1 → min (n + 1) (2 ^ 64 - 1) ≡ n + 1
 least_next n b = omega (arith, b)
 
-past_gained : (rank : ℕ → ℕ) (u n : ℕ) (r : Record) → 0 < r.a → r.c ≡ 0 → rank r.a ≢ 0
+pub past_gained : (rank : ℕ → ℕ) (u n : ℕ) (r : Record) → 0 < r.a → r.c ≡ 0 → rank r.a ≢ 0
     → n < 2 ^ 64 - 1 → past_gate (stand rank u n) r (rank r.a) ≡ stand rank r.a (n + 1)
 past_gained rank u n r some e w b =
     ap (λ t. at_rank (rank r.a) (cond (t && not (eqb (rank r.a) 0)) (min (n + 1) (2 ^ 64 - 1)) n))
@@ -346,7 +346,7 @@ gate_step h k m rank p r items rest ws e g takes is past =
     ∙ ap₂ (λ i q. moment i q (ws ++ with_rank r (rank r.a) ∷ [])) takes.left past
 
 -- the end of the sweep, after a first record
-first_edge : (rank : ℕ → ℕ) (u z : ℕ) (e : Record) (rs ws : List Record) → is_edge e ≡ true
+pub first_edge : (rank : ℕ → ℕ) (u z : ℕ) (e : Record) (rs ws : List Record) → is_edge e ≡ true
     → moment [] (stand rank (last_variable u rs) z) ((ws ++ e ∷ []) ++ map (renew rank) rs)
     ≡ moment [] (stand rank (last_variable u (e ∷ rs)) z) (ws ++ map (renew rank) (e ∷ rs))
 first_edge rank u z e rs ws t =
@@ -355,7 +355,7 @@ first_edge rank u z e rs ws t =
     ∙ sym (ap (λ b. moment [] (stand rank (cond b (last_variable u rs) (last_variable e.a rs)) z)
     (ws ++ cond b e (with_rank e (rank e.a)) ∷ map (renew rank) rs)) t)
 
-first_definition : (rank : ℕ → ℕ) (u z : ℕ) (r : Record) (rs ws : List Record) → is_edge r ≡ false
+pub first_definition : (rank : ℕ → ℕ) (u z : ℕ) (r : Record) (rs ws : List Record) → is_edge r ≡ false
     → moment [] (stand rank (last_variable r.a rs) z)
     ((ws ++ with_rank r (rank r.a) ∷ []) ++ map (renew rank) rs)
     ≡ moment [] (stand rank (last_variable u (r ∷ rs)) z) (ws ++ map (renew rank) (r ∷ rs))
@@ -366,13 +366,13 @@ first_definition rank u z r rs ws t =
     (ws ++ cond b r (with_rank r (rank r.a)) ∷ map (renew rank) rs)) t)
 
 -- a definition has no note
-no_note : (rank : ℕ → ℕ) (k : ℕ) (r : Record) (rs : List Record) → is_edge r ≡ false
+pub no_note : (rank : ℕ → ℕ) (k : ℕ) (r : Record) (rs : List Record) → is_edge r ≡ false
     → notes_by Find rank k (r ∷ rs) ≡ notes_by Find rank (k + 1) rs
 no_note rank k r rs e =
     ap (λ b. cond (b && is_told Find r) (note_of Find rank k r ∷ notes_by Find rank (k + 1) rs)
     (notes_by Find rank (k + 1) rs)) e
 
-edge_notes : (rank : ℕ → ℕ) (k : ℕ) (e : Record) (rs : List Record) → is_edge e ≡ true
+pub edge_notes : (rank : ℕ → ℕ) (k : ℕ) (e : Record) (rs : List Record) → is_edge e ≡ true
     → notes_by Find rank k (e ∷ rs)
     ≡ cond (is_told Find e) (note_of Find rank k e ∷ notes_by Find rank (k + 1) rs)
     (notes_by Find rank (k + 1) rs)

@@ -1,5 +1,5 @@
 -- Passes over the list of a circuit, one after another.
-use Rattle.std.proofs.Common.{inl, inr, ◌≡◌, ◌≢◌, ℕ, suc, ◌+◌, ◌*◌, ◌<◌, ◌≤◌, ◌^◌, List, [], ◌∷◌, ◌++◌, length, IsTrue, ap, ap₂, refl, sym, ◌∙◌, arith, Err}
+use Rattle.std.proofs.Common.{inl, inr, ◌≡◌, ◌≢◌, ℕ, suc, ◌+◌, ◌*◌, ◌<◌, ◌≤◌, ◌^◌, List, ◌++◌, length, IsTrue, ap, ap₂, refl, sym, ◌∙◌, arith, Err}
 use Rattle.std.proofs.Math.Nat.{mul-le-mul_right}
 use Rattle.std.proofs.lemmas.List.{length-append, length-map}
 use Rattle.em_record.specs.Shape.{fan_of}
@@ -14,7 +14,7 @@ use Rattle.em_chain.specs.declared.chain.Chain.{Chain}
 use Rattle.em_chain.proofs.Keeps.{payload_kept}
 use Rattle.em_chain.proofs.Readers.{length_items}
 use Rattle.em_queued.specs.Queued.{Called, RunsBeside}
-use Rattle.em_queued.proofs.Queued.{beside_holds, beside_none, beside_then, beside_wider, called_wider, stops_then, stops_wider}
+use Rattle.em_queued.proofs.Queued.{beside_holds, beside_none, beside_then, beside_wider, stops_then, stops_wider}
 use Rattle.aig_defs.specs.declared.circuit.Header.{Header}
 use Rattle.aig_defs.specs.declared.circuit.Latch.{Latch}
 use Rattle.aig_defs.specs.Circuit.{Circuit, IsCircuit, IsHeader, currents}
@@ -28,43 +28,18 @@ use Rattle.aig_order.specs.ByPass.{added, found}
 use Rattle.aig_order.specs.declared.passing.Swept.{Swept}
 use Rattle.aig_order.specs.declared.standing.Sweep.TheVariants.{Recall, Find}
 use Rattle.aig_order.specs.Findings.{CanFind, FindsAll, IsListOf, StopsFinding, finding_calls, finding_limits, finding_moves}
+use Rattle.aig_order.specs.OnePass.{CanPass, MakesPass, PassTo}
 use Rattle.aig_order.specs.OrderGraph.{adjacency_count}
-use Rattle.aig_order.specs.PassLists.{known, list_after}
-use Rattle.aig_order.specs.Passes.{BothFit, CanSweepTwice, SweepsBoth, SweepsTwice, after_both, bound_room, both_calls, restarted, sweeping_moves}
-use Rattle.aig_order.specs.SweepCalls.{sweep_calls, sweep_written}
-use Rattle.aig_order.specs.Sweeps.{Moment, meet_all}
-use Rattle.aig_order.proofs.Finding.{last_variable, moment, stand}
+use Rattle.aig_order.specs.PassLists.{list_after}
+use Rattle.aig_order.specs.Passes.{BothFit, after_both, both_calls, sweeping_moves}
+use Rattle.aig_order.specs.Sweeps.{Moment}
 use Rattle.aig_order.proofs.FirstRanks.{first_is}
-use Rattle.aig_order.proofs.ListBounds.{next_few}
-use Rattle.aig_order.proofs.Meeting.{calls_most}
 use Rattle.aig_order.proofs.ByPass.{found_in, found_unlike}
+use Rattle.aig_order.proofs.OnePass.{find_each, pass_is, recall_none}
 use Rattle.aig_order.proofs.Orders.{AllAdd, no_more, passes_fewer}
 use Rattle.aig_order.proofs.PassEnds.{adds_more, list_still, passes_end}
-use Rattle.aig_order.proofs.PassLists.{gives_none, gives_some, next_after, pass_finds, pass_recalls}
+use Rattle.aig_order.proofs.PassLists.{gives_none, gives_some, next_after}
 use Rattle.aig_order.proofs.SweepCalls.{pass_calls}
-
--- Both sweeps of a pass take the list after n passes to that after one more.
-pub pass_is : (h : Header) (list : Chain) (s : RigState) (c : Circuit) (n : ℕ) → IsListOf s h list c
-    → after_both h Recall Find (next_after c n) (list_after c n)
-    ≡ moment [] (stand (known c (suc n)) (last_variable 0 (list_after c n)) (next_after c (suc n)))
-    (list_after c (suc n))
-pass_is h list s c n k =
-    let rs = list_after c n in
-    let next = next_after c n in
-    let few = next_few c (suc n) k.is in
-    ap (λ (d : Header). after_both d Recall Find next rs) (sym k.header)
-    ∙ ap (λ (m : Moment). meet_all c.header Find (length rs) rs (restarted next m))
-    (pass_recalls c n next k.is k.defined.twice k.defined.undefined)
-    ∙ pass_finds c n (length rs) k.is k.defined.twice k.defined.undefined (omega (arith, few))
-
--- What the first sweep writes, and the second.
-pub recall_none : (rs : List Record) → sweep_written Recall rs ≡ 0
-recall_none [] = refl
-recall_none (r ∷ rs) = let e = recall_none rs in omega (arith, e)
-
-pub find_each : (rs : List Record) → sweep_written Find rs ≡ length rs
-find_each [] = refl
-find_each (r ∷ rs) = let e = find_each rs in omega (arith, e)
 
 -- What n passes made of a circuit's list.
 pub record PassesOf (n next : ℕ) (d : Chain) (t : RigState) (c : Circuit) : Type 0 where
@@ -124,35 +99,39 @@ few_left x y k n g l e f =
     let m : (n + 1) * (4 * k) ≤ g * (4 * k) = mul-le-mul_right (4 * k) (omega (arith, l)) in
     omega (arith, m, e, f)
 
-list_small : (h : Header) → IsHeader h → adjacency_count h ≤ 2 ^ 44
+list_small : (h : Header) → IsHeader h → adjacency_count h < 2 ^ 44
 list_small h i = omega (arith, i.inputs, i.latches, i.gates, i.outputs, i.bads, i.constraints)
 
 pub passed_can : {Q : Type 0} (q : QueueGhosts Q) (h : Header) (list : Chain) (n next : ℕ) (x y : Q)
     (d : Chain) {s t : RigState} → IsHeader h → n < h.gates → CanFind q h x s list
-    → Passed q h list n next x y d s t → CanSweepTwice q h Recall Find next y t d
+    → Passed q h list n next x y d s t → CanPass q h next y t d
 passed_can q h list n next x y d {s} {t} i l can f =
     let fan = ap fan_of f.runs.runs.frames.shape in
     let small = list_small h i in
     let few = few_left (q.counts x).n (q.counts y).n (adjacency_count h) n h.gates l f.few can.few in
     let size : d.count ≡ adjacency_count h = f.count_is ∙ can.count_is in
     record {
-      sound = f.runs.runs.session.sound;
-      empty = f.empty;
-      free = record {
-        singles = omega (arith, can.free.singles, fan, f.runs.runs.frames.free);
-        areas = omega (arith, can.free.areas, f.runs.runs.frames.free_areas);
-        rack = f.runs.runs.frames.rack ∙ can.free.rack;
+      sweeps = record {
+        sound = f.runs.runs.session.sound;
+        empty = f.empty;
+        free = record {
+          singles = omega (arith, can.free.singles, fan, f.runs.runs.frames.free);
+          areas = omega (arith, can.free.areas, f.runs.runs.frames.free_areas);
+          rack = f.runs.runs.frames.rack ∙ can.free.rack;
+        };
+        most = omega (arith, size, small);
+        few = rw size few;
+        chain = f.is;
+        holds = beside_holds f.runs;
+        empties = λ z.
+            let old = sym f.runs.runs.session.touches.told ∙ z in
+            let some = can.stands old in
+            let k = f.of old some.circuit some.is in
+            ap₂ (λ (m : ℕ) (rs : List Record). (after_both h Recall Find m rs).items) k.next_is k.items
+            ∙ ap (λ (m : Moment). m.items)
+            (pass_is h some.circuit n some.is.header some.is.is some.is.defined);
       };
-      most = rw size small;
-      few = rw size few;
-      chain = f.is;
-      holds = beside_holds f.runs;
-      empties = λ z.
-          let old = sym f.runs.runs.session.touches.told ∙ z in
-          let some = can.stands old in
-          let k = f.of old some.circuit some.is in
-          ap₂ (λ (m : ℕ) (rs : List Record). (after_both h Recall Find m rs).items) k.next_is k.items
-          ∙ ap (λ (m : Moment). m.items) (pass_is h list s some.circuit n some.is);
+      few = omega (arith, size, small);
     }
 
 -- which fits,
@@ -226,48 +205,36 @@ pub record MadePass {Q : Type 0} (q : QueueGhosts Q) (h : Header) (list : Chain)
 
 pub made_pass : {Q : Type 0} (q : QueueGhosts Q) (h : Header) (list : Chain) (n next : ℕ) (x y z : Q)
     (d : Chain) (e : Swept) {s t u : RigState} → CanFind q h x s list
-    → Passed q h list n next x y d s t
-    → SweepsBoth q h Recall Find next (finding_limits h d) y z d e t u
+    → Passed q h list n next x y d s t → MakesPass q h next y z d e t u
     → MadePass q h list n x z e s u
 made_pass q h list n next x y z d e {s} {t} {u} can f g =
     let told = f.runs.runs.session.touches.told in
-    let none = recall_none g.earlier in
-    let each = find_each g.later in
-    let count : e.list.count ≡ d.count = omega (arith, g.count_is, none, each, g.later_len) in
     let pay : payload_in t ≡ payload_in s =
     payload_kept (q.blocks x s ++ chain_blocks s list) s t f.runs.runs.session.touches in
     let size : e.list.blocks ≡ list.blocks =
-    g.blocks_is ∙ ap₂ (λ (i : ℕ) (p : ℕ). ceiling i p) (count ∙ f.count_is) pay
-    ∙ sym can.blocks_is in
-    let first = calls_most Recall g.earlier in
-    let second = calls_most Find g.later in
-    let calls = sweep_calls Recall g.earlier + sweep_calls Find g.later in
-    let all : calls ≤ 4 * adjacency_count h =
-    omega (arith, first, second, g.earlier_len, g.later_len, f.count_is, can.count_is) in
-    let few : calls ≤ 4 * h.gates = let most = g.calls_most in omega (arith, most) in
+    g.blocks_is ∙ ap₂ (λ (i : ℕ) (p : ℕ). ceiling i p) f.count_is pay ∙ sym can.blocks_is in
+    let all : 4 * h.gates ≤ 4 * adjacency_count h = omega arith in
     let more = calls_next n h.gates in
     let moves : sweeping_moves d.blocks e.list.blocks ≤ 5 * list.blocks + 1 =
     omega (arith, f.blocks_is, size) in
     record {
-      few = few_next (q.counts x).n (q.counts y).n (q.counts z).n (adjacency_count h) n calls f.few
-          g.runs.calls_on.called.n all;
-      count_is = count ∙ f.count_is;
+      few = few_next (q.counts x).n (q.counts y).n (q.counts z).n (adjacency_count h) n (4 * h.gates)
+          f.few g.runs.calls_on.called.n all;
+      count_is = g.count_is ∙ f.count_is;
       blocks_is = size;
       rests = omega (arith, f.rests, g.rests);
       of = λ o c k.
           let b = f.of o c k in
-          let now = told ∙ o in
-          let after : after_both h Recall Find next (chain_items t d)
-          ≡ moment [] (stand (known c (suc n)) (last_variable 0 (list_after c n))
-          (next_after c (suc n))) (list_after c (suc n)) =
-          ap₂ (λ (i : ℕ) (rs : List Record). after_both h Recall Find i rs) b.next_is b.items
-          ∙ pass_is h list s c n k in (
-            g.items now ∙ ap (λ (i : Moment). i.written) after,
-            g.next_is now ∙ ap (λ (i : Moment). i.standing.next) after,
-          );
+          let after = g.finds (told ∙ o) n c (record {
+            is = k.is;
+            defined = k.defined;
+            header = k.header;
+            items = b.items;
+            next_is = b.next_is;
+          }) in (after.items, after.next_is);
       in_runs = runs_next n h.gates (q.counts x) (q.counts y) (q.counts z) f.in_runs f.rests
-          (called_wider few g.runs.calls_on.called);
-      runs = beside_wider (omega (arith, more, few)) (omega (arith, f.blocks_is, size))
+          g.runs.calls_on.called;
+      runs = beside_wider (omega (arith, more)) (omega (arith, f.blocks_is, size))
           (beside_then (more_owed q h list n next x y d (sweeping_moves d.blocks e.list.blocks) moves
           f) g.runs);
     }
@@ -276,8 +243,7 @@ made_pass q h list n next x y z d e {s} {t} {u} can f g =
 pub passed_next : {Q : Type 0} (q : QueueGhosts Q) (h : Header) (list : Chain) (n next : ℕ)
     (x y z : Q) (d : Chain) (e : Swept) {s t u : RigState} → CanFind q h x s list
     → Passed q h list n next x y d s t
-    → SweepsBoth q h Recall Find next (finding_limits h d) y z d e t u
-    → e.next ≢ next → Passed q h list (n + 1) e.next x z e.list s u
+    → MakesPass q h next y z d e t u → e.next ≢ next → Passed q h list (n + 1) e.next x z e.list s u
 passed_next q h list n next x y z d e {s} {t} {u} can f g other =
     let p = made_pass q h list n next x y z d e can f g in
     let more : suc n ≡ n + 1 = omega arith in
@@ -305,7 +271,7 @@ passed_next q h list n next x y z d e {s} {t} {u} can f g other =
 pub finds_end : {Q : Type 0} (q : QueueGhosts Q) (h : Header) (list : Chain) (n next : ℕ)
     (x y z : Q) (d : Chain) (e : Swept) {s t u : RigState} → n < h.gates → CanFind q h x s list
     → Passed q h list n next x y d s t
-    → SweepsBoth q h Recall Find next (finding_limits h d) y z d e t u → e.next ≡ next
+    → MakesPass q h next y z d e t u → e.next ≡ next
     → FindsAll q h x z list (record { list = e.list; passes = n; next = next }) s u
 finds_end q h list n next x y z d e {s} {t} {u} l can f g still =
     let p = made_pass q h list n next x y z d e can f g in
@@ -428,15 +394,15 @@ finds_whole q h list n next x y d {s} {t} l e f =
 pub finds_stop : {Q : Type 0} (q : QueueGhosts Q) (h : Header) (list : Chain) (n next : ℕ)
     (x y z : Q) (d : Chain) {s t u : RigState} {fault : EmFault} → n < h.gates → CanFind q h x s list
     → Passed q h list n next x y d s t
-    → SweepsTwice q h Recall Find next (finding_limits h d) y z d t u (Err fault)
+    → PassTo q h next y z d t u (Err fault)
     → StopsFinding q h x z list s u fault
 finds_stop q h list n next x y z d {s} {t} {u} l can f g =
     let pay : payload_in t ≡ payload_in s =
     payload_kept (q.blocks x s ++ chain_blocks s list) s t f.runs.runs.session.touches in
-    let room : bound_room t (finding_limits h d) ≡ list.blocks =
+    let room : ceiling d.count (payload_in t) ≡ list.blocks =
     ap₂ (λ (i : ℕ) (p : ℕ). ceiling i p) f.count_is pay ∙ sym can.blocks_is in
     let more = calls_next n h.gates in
-    let moves : sweeping_moves d.blocks (bound_room t (finding_limits h d)) ≤ 5 * list.blocks + 1 =
+    let moves : sweeping_moves d.blocks (ceiling d.count (payload_in t)) ≤ 5 * list.blocks + 1 =
     omega (arith, room, f.blocks_is) in
     record {
       passes = n;
@@ -446,5 +412,5 @@ finds_stop q h list n next x y z d {s} {t} {u} l can f g =
       stops = stops_wider (omega (arith, more)) (omega (arith, room, f.blocks_is)) (omega arith)
           (omega arith)
           (stops_then (more_owed q h list n next x y d
-          (sweeping_moves d.blocks (bound_room t (finding_limits h d))) moves f) g);
+          (sweeping_moves d.blocks (ceiling d.count (payload_in t))) moves f) g);
     }

@@ -15,6 +15,9 @@ pub mod Known
 pub mod Leftover
 pub mod ListBounds
 pub mod ListSweeps
+pub mod Marked
+pub mod MarkedLists
+pub mod MarkedPass
 pub mod Meeting
 pub mod Meets
 pub mod Merged
@@ -23,6 +26,7 @@ pub mod MergedLists
 pub mod Notes
 pub mod Numbering
 pub mod Numbers
+pub mod OnePass
 pub mod OrderEnded
 pub mod OrderLists
 pub mod OrderMade
@@ -40,6 +44,8 @@ pub mod RankLists
 pub mod RankSweeps
 pub mod Ranked
 pub mod Reading
+pub mod Rewritten
+pub mod RewrittenLists
 pub mod SameGraph
 pub mod StraightEdges
 pub mod StraightOrder

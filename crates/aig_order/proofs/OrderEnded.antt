@@ -15,7 +15,7 @@ use Rattle.em_space.proofs.Within.{touches_within}
 use Rattle.em_chain.specs.Chain.{chain_blocks}
 use Rattle.em_chain.specs.declared.chain.Chain.{Chain}
 use Rattle.aig_edges.specs.Build.{UsesUp}
-use Rattle.aig_edges.specs.BuildGraph.{SortCosts}
+use Rattle.aig_edges.specs.BuildGraph.{CalledInRuns, SortCosts}
 use Rattle.aig_edges.specs.Graph.{graph_blocks, graph_lists, graph_size, ordered_blocks}
 use Rattle.aig_edges.specs.declared.graph.Graph.{Graph}
 use Rattle.aig_edges.specs.declared.graph.Ordered.{Ordered}
@@ -23,6 +23,7 @@ use Rattle.aig_edges.proofs.Besides.{holds_skip, session_past}
 use Rattle.aig_edges.proofs.Ended.{allowed, ended_roomy, ended_within, roomy, shares_gone, still_allowed}
 use Rattle.aig_edges.proofs.OrderedLaws.{OrderedStays, ordered_stays}
 use Rattle.aig_order.specs.ByPass.{by_pass}
+use Rattle.aig_order.specs.FewCalls.{FewCosts, few_calls}
 use Rattle.aig_order.specs.FindsOrder.{DoneUntil, OrdersBeside}
 use Rattle.aig_order.specs.OrderGraph.{OrderCosts, OrdersGraph, order_calls, order_moves, order_peak, order_run}
 
@@ -78,6 +79,58 @@ costs_of h costs = record {
   costs = costs;
 }
 
+few_of : {Q : Type 0} {q : QueueGhosts Q} {x y : Q} {s u v : RigState} {g : Graph}
+    → (h : DoneUntil q x y s u g)
+    → SortCosts q (few_calls g.header) (order_run g.header) (order_moves h.passes s g + h.looked)
+    (graph_size g) (order_peak s g) (q.counts x) s v
+    → FewCosts q (q.counts x) s v g
+few_of h costs = record {
+  passes = h.passes;
+  passes_most = h.passes_most;
+  fewer = h.fewer;
+  looked = h.looked;
+  looked_most = h.looked_most;
+  unlooked = h.unlooked;
+  costs = costs;
+}
+
+-- with as many calls as came,
+sort_left : {Q : Type 0} (q : QueueGhosts Q) (x y : Q) {s u v : RigState} (g : Graph) (calls : ℕ)
+    → (h : DoneUntil q x y s u g)
+    → CalledInRuns calls (order_run g.header) (q.counts x) (q.counts y) → q.HasItsFrames y u
+    → Leaves (q.counts y) u v → IfSome q.allowance IsRising
+    → (IsTrue u.device.told → IfSome q.allowance (λ f. (q.counts y).spent
+    ≤ f u.pool.shape (q.counts y).n (q.counts y).k))
+    → IfSome q.room IsRisingRoom
+    → (IsTrue u.device.told → IfSome q.room (λ f. (q.counts y).most ≤ f u.pool.shape (q.counts y).k))
+    → SortCosts q calls (order_run g.header) (order_moves h.passes s g + h.looked) (graph_size g)
+    (order_peak s g) (q.counts x) s v
+sort_left q x y {s} {u} {v} g calls h called has l rising spends rising_room fits =
+    let run = order_run g.header in
+    let e = h.shares.shape in
+    let w = h.within in
+    let n = ap (λ (k : RigState). k.moves) l.same in
+    let m = ap (λ (k : RigState). k.most) l.same in
+    record {
+      last = y;
+      then = u;
+      gone = inr l;
+      frames = has;
+      shape = e;
+      called = called;
+      most = λ told.
+          let here = h.touches.told ∙ told in
+          let top = most_at_end q.room u.pool.shape (q.counts y) (fits here) in
+          let same = ap (λ (k : ShapeNumbers). ending_most q.room k (q.counts y)) e in
+          omega (arith, w.most, m, top, same);
+      moves = w.moves;
+      all_moves = λ z. allowed q.allowance s u v (q.counts x) (q.counts y) calls run
+          (order_moves h.passes s g + h.looked) e called w.moves rising
+          (still_allowed q.allowance u v (q.counts y) n (spends (h.touches.told ∙ z)));
+      room = λ told. roomy q.room s u v (q.counts x) (q.counts y) calls run (graph_size g) (order_peak s g) e
+          called w.most m rising_room (fits (h.touches.told ∙ told));
+    }
+
 pub costs_left : {Q : Type 0} (q : QueueGhosts Q) (x y : Q) {s u v : RigState} (g : Graph)
     → DoneUntil q x y s u g → q.HasItsFrames y u → Leaves (q.counts y) u v
     → IfSome q.allowance IsRising
@@ -86,32 +139,21 @@ pub costs_left : {Q : Type 0} (q : QueueGhosts Q) (x y : Q) {s u v : RigState} (
     → IfSome q.room IsRisingRoom
     → (IsTrue u.device.told → IfSome q.room (λ f. (q.counts y).most ≤ f u.pool.shape (q.counts y).k))
     → OrderCosts q (q.counts x) s v g
-costs_left q x y {s} {u} {v} g h has l rising spends rising_room fits =
-    let calls = order_calls h.passes g.header in
-    let run = order_run g.header in
-    let e = h.shares.shape in
-    let w = h.within in
-    let n = ap (λ (k : RigState). k.moves) l.same in
-    let m = ap (λ (k : RigState). k.most) l.same in
-    costs_of h (record {
-      last = y;
-      then = u;
-      gone = inr l;
-      frames = has;
-      shape = e;
-      called = w.called;
-      most = λ told.
-          let here = h.touches.told ∙ told in
-          let top = most_at_end q.room u.pool.shape (q.counts y) (fits here) in
-          let same = ap (λ (k : ShapeNumbers). ending_most q.room k (q.counts y)) e in
-          omega (arith, w.most, m, top, same);
-      moves = w.moves;
-      all_moves = λ z. allowed q.allowance s u v (q.counts x) (q.counts y) calls run
-          (order_moves h.passes s g + h.looked) e w.called w.moves rising
-          (still_allowed q.allowance u v (q.counts y) n (spends (h.touches.told ∙ z)));
-      room = λ told. roomy q.room s u v (q.counts x) (q.counts y) calls run (graph_size g) (order_peak s g) e
-          w.called w.most m rising_room (fits (h.touches.told ∙ told));
-    })
+costs_left q x y g h has l rising spends rising_room fits =
+    costs_of h (sort_left q x y g (order_calls h.passes g.header) h h.within.called has l rising
+    spends rising_room fits)
+
+pub few_left : {Q : Type 0} (q : QueueGhosts Q) (x y : Q) {s u v : RigState} (g : Graph)
+    → DoneUntil q x y s u g
+    → CalledInRuns (few_calls g.header) (order_run g.header) (q.counts x) (q.counts y)
+    → q.HasItsFrames y u → Leaves (q.counts y) u v → IfSome q.allowance IsRising
+    → (IsTrue u.device.told → IfSome q.allowance (λ f. (q.counts y).spent
+    ≤ f u.pool.shape (q.counts y).n (q.counts y).k))
+    → IfSome q.room IsRisingRoom
+    → (IsTrue u.device.told → IfSome q.room (λ f. (q.counts y).most ≤ f u.pool.shape (q.counts y).k))
+    → FewCosts q (q.counts x) s v g
+few_left q x y g h few has l rising spends rising_room fits =
+    few_of h (sort_left q x y g (few_calls g.header) h few has l rising spends rising_room fits)
 
 -- or ended after the edges were made.
 pub record EndedAfter {Q : Type 0} (q : QueueGhosts Q) (x : Q) (s u v : RigState) (g : Graph)
@@ -154,26 +196,27 @@ up_ended q x y {s} {u} {v} g held b e = record {
   frames = shares_gone (q.counts x) (q.counts y) s.pool u.pool v.pool b.done.shares e.frames;
 }
 
-pub costs_ended : {Q : Type 0} (q : QueueGhosts Q) (x y : Q) {s u v : RigState} {o : Ordered}
-    (g : Graph) → OrdersBeside q x y s u g o → q.HasItsFrames y u
+sort_ended : {Q : Type 0} (q : QueueGhosts Q) (x y : Q) {s u v : RigState} {o : Ordered} (g : Graph)
+    (calls : ℕ) → (b : OrdersBeside q x y s u g o)
+    → CalledInRuns calls (order_run g.header) (q.counts x) (q.counts y) → q.HasItsFrames y u
     → Ends q.allowance q.room (q.blocks y u) (q.counts y) u v
     → IfSome q.allowance IsRising → IfSome q.room IsRisingRoom
     → (IsTrue u.device.told → IfSome q.room (λ f. (q.counts y).most ≤ f u.pool.shape (q.counts y).k))
-    → OrderCosts q (q.counts x) s v g
-costs_ended q x y {s} {u} {v} {o} g b has l rising rising_room fits =
+    → SortCosts q calls (order_run g.header) (order_moves b.done.passes s g + b.done.looked)
+    (graph_size g) (order_peak s g) (q.counts x) s v
+sort_ended q x y {s} {u} {v} {o} g calls b called has l rising rising_room fits =
     let h = b.done in
-    let calls = order_calls h.passes g.header in
     let run = order_run g.header in
     let e = h.shares.shape in
     let w = h.within in
     let least : o.edges.blocks ≤ order_peak s g = omega (arith, b.room) in
-    costs_of h (record {
+    record {
       last = y;
       then = u;
       gone = inl l;
       frames = has;
       shape = e;
-      called = w.called;
+      called = called;
       most = λ told.
           let here = h.touches.told ∙ told in
           let top = most_at_end q.room u.pool.shape (q.counts y) (fits here) in
@@ -183,12 +226,32 @@ costs_ended q x y {s} {u} {v} {o} g b has l rising rising_room fits =
           (l.most here);
       moves = w.moves;
       all_moves = λ z. allowed q.allowance s u v (q.counts x) (q.counts y) calls run
-          (order_moves h.passes s g + h.looked) e w.called w.moves rising
+          (order_moves h.passes s g + h.looked) e called w.moves rising
           (l.spent (h.touches.told ∙ z));
       room = λ told. ended_roomy q.room s u v (q.counts x) (q.counts y) calls run (graph_size g)
-          (order_peak s g) o.edges.blocks e w.called w.most b.used least rising_room
+          (order_peak s g) o.edges.blocks e called w.most b.used least rising_room
           (fits (h.touches.told ∙ told)) (l.most (h.touches.told ∙ told));
-    })
+    }
+
+pub costs_ended : {Q : Type 0} (q : QueueGhosts Q) (x y : Q) {s u v : RigState} {o : Ordered}
+    (g : Graph) → OrdersBeside q x y s u g o → q.HasItsFrames y u
+    → Ends q.allowance q.room (q.blocks y u) (q.counts y) u v
+    → IfSome q.allowance IsRising → IfSome q.room IsRisingRoom
+    → (IsTrue u.device.told → IfSome q.room (λ f. (q.counts y).most ≤ f u.pool.shape (q.counts y).k))
+    → OrderCosts q (q.counts x) s v g
+costs_ended q x y g b has l rising rising_room fits =
+    costs_of b.done (sort_ended q x y g (order_calls b.done.passes g.header) b b.done.within.called
+    has l rising rising_room fits)
+
+pub few_ended : {Q : Type 0} (q : QueueGhosts Q) (x y : Q) {s u v : RigState} {o : Ordered}
+    (g : Graph) → OrdersBeside q x y s u g o
+    → CalledInRuns (few_calls g.header) (order_run g.header) (q.counts x) (q.counts y)
+    → q.HasItsFrames y u → Ends q.allowance q.room (q.blocks y u) (q.counts y) u v
+    → IfSome q.allowance IsRising → IfSome q.room IsRisingRoom
+    → (IsTrue u.device.told → IfSome q.room (λ f. (q.counts y).most ≤ f u.pool.shape (q.counts y).k))
+    → FewCosts q (q.counts x) s v g
+few_ended q x y g b few has l rising rising_room fits =
+    few_of b.done (sort_ended q x y g (few_calls g.header) b few has l rising rising_room fits)
 
 -- They are those of each circuit whose graph it was,
 pub orders_graph : {Q : Type 0} (q : QueueGhosts Q) (x y : Q) {s u v : RigState} {o : Ordered}

@@ -138,6 +138,25 @@ pass_recalls c n next is w u =
 abbrev pub next_after : Circuit → ℕ → ℕ
 next_after c n = first_gate_rank c + length (found c n)
 
+-- The list with the ranks before and after a pass, by what the pass does at each gate.
+pub list_finding : (c : Circuit) (n : ℕ) → IsCircuit c → Nowhere (IsTwice c) → Nowhere (IsUndefined c)
+    → next_after c (suc n) < 2 ^ 64 - 1
+    → Finding (known c n) (known c (suc n)) 0 (next_after c n) (next_after c (suc n)) (list_after c n)
+list_finding c n is w u few =
+    let rs = list_after c n in
+    let passing : Passing c n (upwards c.gates) [] (passed c n) = record {
+      is = λ g i. from_upwards g c.gates i;
+      mount = upwards_mount c.gates (gates_unlike c w);
+      order = refl;
+      now = refl;
+      same = λ g i. refl;
+    } in
+    let start : next_rank c n [] ≡ next_after c n =
+    ap (λ (z : List Gate). first_gate_rank c + length z) (append-nil (found c n)) in
+    subst (λ z. Finding (known c n) (known c (suc n)) 0 z (next_after c (suc n)) rs) start
+    (pass_finding c n is w few 0 rs (list_adjoins c n is w u) (upwards c.gates) [] (passed c n)
+    passing (list_gates c n w) (list_kinds c n))
+
 -- The second sweep takes them and those of the other edges, and writes the list as it is after the
 -- pass, whose gates have the next ranks.
 pub pass_finds : (c : Circuit) (n base : ℕ) → IsCircuit c → Nowhere (IsTwice c)
@@ -152,24 +171,13 @@ pass_finds c n base is w u few =
     let old = known c n in
     let new = known c (suc n) in
     let notes = notes_by Recall old 0 rs in
-    let passing : Passing c n (upwards c.gates) [] (passed c n) = record {
-      is = λ g i. from_upwards g c.gates i;
-      mount = upwards_mount c.gates (gates_unlike c w);
-      order = refl;
-      now = refl;
-      same = λ g i. refl;
-    } in
-    let start : next_rank c n [] ≡ next_after c n =
-    ap (λ (z : List Gate). first_gate_rank c + length z) (append-nil (found c n)) in
-    let finding = subst (λ z. Finding old new 0 z (next_after c (suc n)) rs) start
-    (pass_finding c n is w few 0 rs (list_adjoins c n is w u) (upwards c.gates) [] (passed c n)
-    passing (list_gates c n w) (list_kinds c n)) in
     let waits : awaited rs notes ≡ in_order notes =
     all_awaited rs notes (notes_all_for (gates_in rs) Recall old 0 rs (list_leads Recall c n w)) in
     ap₂ (λ i p. meet_all c.header Find base rs (moment i p [])) (sym waits)
     (begins_at c (suc n) (next_after c n))
     ∙ finds old new c.header (pass_notes c n base) 0 (next_after c n) (next_after c (suc n)) rs
-    finding base notes [] refl (list_told c n base is w) (list_leads Find c n w)
+    (list_finding c n is w u few) base notes [] refl (list_told c n base is w)
+    (list_leads Find c n w)
     ∙ ap (moment [] (stand new (last_variable 0 rs) (next_after c (suc n))))
     (renew_again old new (first_list c))
 

@@ -1,8 +1,7 @@
 -- A straight graph was ordered beside the queue, which wasn't called.
-use Rattle.std.proofs.Common.{inl, inr, ◌≡◌, ℕ, ◌+◌, ◌*◌, ◌≤◌, ◌==◌, Bool, true, false, cond, List, ◌++◌, map, IsTrue, Result, Ok, Err, ap, refl, sym, ◌∙◌, subst, arith}
+use Rattle.std.proofs.Common.{inl, inr, ◌≡◌, ℕ, ◌≤◌, ◌==◌, cond, List, ◌++◌, map, IsTrue, Result, Ok, Err, ap, refl, sym, ◌∙◌, subst, arith}
 use Rattle.std.proofs.lemmas.Bool.{cases_Bool, eqb-false}
 use Rattle.em_record.specs.declared.record.Record.{Record}
-use Rattle.em_record.specs.Order.{in_order}
 use Rattle.em_space.specs.Held.{Holds}
 use Rattle.em_space.specs.Rig.{RigState, Goes}
 use Rattle.em_space.specs.declared.queue.Queue.{Ghosts as QueueGhosts}
@@ -15,14 +14,12 @@ use Rattle.em_queued.specs.Queued.{RunsBeside}
 use Rattle.em_queued.specs.Room.{FitsRoom}
 use Rattle.em_queued.proofs.Queued.{beside_as, others_beside, others_stop}
 use Rattle.aig_defs.specs.declared.circuit.Header.{Header}
-use Rattle.aig_defs.specs.Circuit.{Circuit, IsCircuit}
+use Rattle.aig_defs.specs.Circuit.{Circuit}
 use Rattle.aig_defs.specs.Faults.{IsDefined}
 use Rattle.aig_defs.specs.Founded.{passes_of}
 use Rattle.aig_defs.specs.Graph.{graph_edges, graph_gates, graph_sources}
-use Rattle.aig_defs.specs.Ranks.{ordered_edges}
 use Rattle.aig_defs.specs.Straight.{IsStraightGraph}
 use Rattle.aig_defs.specs.VariableRanks.{ranked_edge}
-use Rattle.aig_text.specs.Parts.{IsCompactOf}
 use Rattle.aig_text.specs.declared.stop.AigStop.{AigStop}
 use Rattle.aig_text.specs.declared.stop.AigStop.TheVariants as stop
 use Rattle.aig_text.proofs.PartsLaws.{compact_stays}
@@ -33,9 +30,9 @@ use Rattle.aig_edges.specs.declared.graph.Ordered.{Ordered}
 use Rattle.aig_edges.proofs.Besides.{apart_between, holds_last, session_past}
 use Rattle.aig_straight.specs.Straight.{MakesStraight, straight_moves, straight_peak}
 use Rattle.aig_order.specs.ByPass.{by_pass}
-use Rattle.aig_order.specs.FindsOrder.{OrdersBeside, OrdersNone, OrdersTo}
+use Rattle.aig_order.specs.FindsOrder.{OrdersBeside, OrdersTo}
 use Rattle.aig_order.specs.OrderGraph.{OfDefinedCircuit, OrdersCircuit, order_calls, order_run}
-use Rattle.aig_order.specs.Straight.{IsStraightOrder, OrdersStraight, straight_passes}
+use Rattle.aig_order.specs.Straight.{OrdersStraight, straight_passes}
 use Rattle.aig_order.proofs.OrderEnded.{held_at, lists_at, lists_held}
 use Rattle.aig_order.proofs.OrderMade.{Within, each_defined, orders_stopped, orders_until}
 use Rattle.aig_order.proofs.OrderSteps.{none_called}

@@ -1,5 +1,5 @@
 -- A straight circuit: one pass finds all its gates, and each variable is its own rank.
-use Rattle.std.proofs.Common.{◌⊎◌, inl, inr, ◌≡◌, ◌≢◌, ◌+◌, ◌<◌, ◌≤◌, ◌/◌, ◌==◌, Bool, true, false, cond, eqb, ◌&&◌, not, if◌then◌else◌, List, [], ◌∷◌, ◌++◌, ℕ, zero, suc, sym, ap, ◌∙◌, refl, subst, arith, length, map, Contains}
+use Rattle.std.proofs.Common.{◌⊎◌, inl, inr, ◌≡◌, ◌+◌, ◌<◌, ◌≤◌, ◌/◌, ◌==◌, Bool, true, false, cond, eqb, ◌&&◌, not, List, [], ◌∷◌, ◌++◌, ℕ, sym, ap, ◌∙◌, refl, subst, arith, length, map, Contains}
 use Rattle.std.proofs.lemmas.Bool.{cases_Bool, eqb-false, eqb-true, ne_eqb}
 use Rattle.std.proofs.lemmas.List.{length-append, length-map, map-append}
 use Rattle.em_record.specs.declared.record.Record.{Record}
@@ -9,10 +9,10 @@ use Rattle.aig_defs.specs.declared.circuit.Header.{Header}
 use Rattle.aig_defs.specs.declared.circuit.Latch.{Latch}
 use Rattle.aig_defs.specs.Chains.{gate_record, input_def, latch_def, numbered}
 use Rattle.aig_defs.specs.Circuit.{Circuit, IsCircuit, currents, left_sides, variables}
-use Rattle.aig_defs.specs.Faults.{IsDefined, definitions}
+use Rattle.aig_defs.specs.Faults.{IsDefined}
 use Rattle.aig_defs.specs.Founded.{first_set, gate_variables, has, is_added, passed, passes_of, sources, upwards}
 use Rattle.aig_defs.specs.Graph.{graph_edges, graph_gates, graph_sources}
-use Rattle.aig_defs.specs.Ranks.{first_gate_rank, given_literals, index, ordered_edges, ranked}
+use Rattle.aig_defs.specs.Ranks.{first_gate_rank, index, ordered_edges}
 use Rattle.aig_defs.specs.Straight.{AllAtRank, AllRise, CountsUp, IsStraightGraph}
 use Rattle.aig_defs.specs.VariableRanks.{ranked_edge, source_rank, variable_rank}
 use Rattle.aig_defs.proofs.Members.{contains_cases, contains_first, contains_left, contains_none, contains_rest, contains_right, has_cases, has_either, has_first, has_left, has_rest, has_right}

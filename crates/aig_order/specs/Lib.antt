@@ -1,12 +1,16 @@
 pub mod Adjacent
 pub mod ByPass
+pub mod FewCalls
 pub mod Findings
 pub mod FindsOrder
 pub mod LeftGates
+pub mod Marks
 pub mod Merges
+pub mod OnePass
 pub mod OrderGraph
 pub mod PassLists
 pub mod Passes
+pub mod Rewrites
 pub mod Room
 pub mod Straight
 pub mod SweepCalls

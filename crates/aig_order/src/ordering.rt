@@ -1,7 +1,7 @@
 //! Orders the gates of a circuit by the passes that find them, and makes its edges between ranks:
 //!
 //!     sources, gates, edges  become an adjacency list, in which no gate has a rank
-//!     passes                 give each gate that they find the next rank
+//!     passes                 give each gate that they find the next rank, by bits or by the queue
 //!     a gate without a rank  is on a cycle, or uses one
 //!     ranks                  are sent along edges, and these are sorted
 //!
@@ -13,9 +13,12 @@ ghost use Rattle.em_space.specs.Rig.{Cause, Sound};
 ghost use Rattle.em_space.specs.Seen.{seen};
 ghost use Rattle.aig_text.specs.Ascii.{IfEm};
 ghost use Rattle.aig_edges.specs.Build.{UsesUp};
+ghost use Rattle.aig_edges.specs.BuildGraph.{CalledInRuns};
 ghost use Rattle.aig_edges.specs.Graph.{IsGraph, graph_blocks};
+ghost use Rattle.aig_order.specs.FewCalls.{FewCosts, few_calls};
 ghost use Rattle.aig_order.specs.FindsOrder.{OrdersTo};
-ghost use Rattle.aig_order.specs.OrderGraph.{BeginsOrdering, OfDefinedCircuit, OrderCosts, OrdersGraph, StopsOrdering};
+ghost use Rattle.aig_order.specs.Marks.{FitsArea};
+ghost use Rattle.aig_order.specs.OrderGraph.{BeginsOrdering, OfDefinedCircuit, OrderCosts, OrdersGraph, StopsOrdering, order_run};
 ghost use Rattle.aig_order.specs.Room.{OrdersBlocks};
 ghost use Rattle.aig_order.specs.Straight as straight_order;
 ghost use Rattle.aig_order.specs.Straight.{OrdersStraight};
@@ -49,6 +52,9 @@ fn find_by_passes<D: Device, Q: Queue>(
     ensures queue { OnOk result (Q.IsQueue queue.new (seen D.state rig.new)) }
     ensures finds { OrdersTo Q.Queue queue.old queue.new (seen D.state rig.old)
         (seen D.state rig.new) graph result }
+    ensures few { FitsArea graph.header (seen D.state rig.old).pool.shape
+        → CalledInRuns (few_calls graph.header) (order_run graph.header) (Q.counts queue.old)
+        (Q.counts queue.new) }
 {
     let header = graph.header;
     let count = graph.edges.len();
@@ -114,6 +120,9 @@ fn find_order<D: Device, Q: Queue>(
     ensures queue { OnOk result (Q.IsQueue queue.new (seen D.state rig.new)) }
     ensures finds { OrdersTo Q.Queue queue.old queue.new (seen D.state rig.old)
         (seen D.state rig.new) graph result }
+    ensures few { FitsArea graph.header (seen D.state rig.old).pool.shape
+        → CalledInRuns (few_calls graph.header) (order_run graph.header) (Q.counts queue.old)
+        (Q.counts queue.new) }
 {
     let straight = graph.straight;
     if straight {
@@ -127,7 +136,7 @@ fn find_order<D: Device, Q: Queue>(
 ///
 /// It stops with `Cyclic` at the least variable of a gate that is on a cycle of gates or needs the value
 /// of one that is, and with `Em` if a call on the rig or of the queue gave up. `Damaged` at block 0 also
-/// comes if the lists don't have what was written: a pass would go past 4 calls of the queue for each
+/// comes if the lists don't have what was written: a pass by the queue would go past 4 calls of it for each
 /// gate, notes are left, or another number of edges comes. No device that tells gives this.
 ///
 /// 2f + 10 single frames, an area and the rack are free before. All frames are back at each exit, those
@@ -135,9 +144,10 @@ fn find_order<D: Device, Q: Queue>(
 /// After Ok all blocks are stored, after a stop all but m + 2.
 ///
 /// For A gates, E edges and r passes that found a gate the queue has at most 4·(r + 1)·A + 4·A + 2·E
-/// calls, and at most 2·E between two moments at which it is empty. The moves beside it go by r, and the
-/// blocks by the header alone. All this is said over each device, with r at most A. Over a device that
-/// tells, r is at most that of the circuit, the edges are its own, and `Cyclic` is its first fault.
+/// calls, and at most 2·E between two moments at which it is empty. If a bit for each variable up to M
+/// fits into an area, passes don't call it: it has at most 4·A + 2·E calls. The moves beside it go by r,
+/// and the blocks by the header alone. All this is said over each device, with r at most A. Over a device
+/// that tells, r is at most that of the circuit, the edges are its own, and `Cyclic` is its first fault.
 ///
 /// If the device tells and the queue states a room, `Full` comes only if that room and `order_peak` are
 /// more than all blocks that were free, the queue's or the graph's. If nothing else is in use at first, the
@@ -165,6 +175,8 @@ pub fn order<D: Device, Q: Queue>(
     ensures stops { StopsOrdering (seen D.state rig.old) graph result }
     ensures costs { OrderCosts Q.Queue (Q.counts queue) (seen D.state rig.old)
         (seen D.state rig.new) graph }
+    ensures few { FitsArea graph.header (seen D.state rig.old).pool.shape → FewCosts Q.Queue
+        (Q.counts queue) (seen D.state rig.old) (seen D.state rig.new) graph }
     ensures blocks { OrdersBlocks Q.Queue (Q.counts queue) (seen D.state rig.old)
         (seen D.state rig.new) graph result }
     ensures cause { IfEm result (Cause (seen D.state rig.old) (seen D.state rig.new)) }

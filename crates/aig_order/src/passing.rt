@@ -1,5 +1,5 @@
 //! Two sweeps over an adjacency list, the first of which leaves it and the second releases it, and what
-//! they write: a pass, or the edges between ranks.
+//! they write: a pass, or the edges between ranks. All passes, each by bits or by a queue.
 
 ghost use Rattle.std.specs.Prelude.{◌≡◌, IsTrue, OnOk};
 ghost use Rattle.em_space.specs.Seen.{seen};
@@ -8,11 +8,14 @@ ghost use Rattle.em_chain.specs.Writer.{WriterHasFrame};
 ghost use Rattle.aig_defs.specs.Circuit.{IsHeader};
 ghost use Rattle.aig_edges.specs.Accounts.{releasing, stored_account};
 ghost use Rattle.aig_order.specs.Findings.{CanFind, FindsTo};
+ghost use Rattle.aig_order.specs.Marks.{FitsArea};
+ghost use Rattle.aig_order.specs.OnePass.{CanPass, PassFits, PassTo};
 ghost use Rattle.aig_order.specs.Passes.{BothFit, CanSweepTwice, SweepsTwice};
 ghost use Rattle.aig_order.specs.SweepCalls.{AllBelow, Fits};
 ghost use Rattle.aig_order.specs.SweepLists.{CanSweepList, ListTo, pair_held, three_held};
 ghost use Rattle.aig_order.specs.SweepPairs.{CanSweepPair, PairTo};
 
+use crate::by_bits::{fits, pass_by_bits};
 use crate::limits::Limits;
 use crate::standing::{Standing, Sweep, at_constant};
 use crate::sweeping::sweep_all;
@@ -208,6 +211,46 @@ pub(crate) fn sweep_twice<D: Device, Q: Queue>(
     }
 }
 
+/// A pass over an adjacency list: by bits, if one for each variable up to M fits into an area, and else by the
+/// queue, with at most 4 calls of it for each gate. By bits the queue isn't called. The list's blocks are released. A
+/// fault is that of a call of the queue or of one on a list, or `Damaged` with block 0 if a device that doesn't
+/// tell went past the limits of a pass by the queue, or left notes in it.
+fn make_pass<D: Device, Q: Queue>(
+    rig: &mut Rig<'_, D>,
+    queue: &mut Q,
+    list: Chain,
+    header: &Header,
+    next: u64,
+) -> Result<Swept, EmFault>
+    requires is { Q.IsQueue queue.old (seen D.state rig.old) }
+    requires header { IsHeader header.now }
+    requires can { CanPass Q.Queue header.now next queue.old (seen D.state rig.old) list }
+    requires fits { PassFits header.now (seen D.state rig.old) list }
+    ensures frames { Q.HasItsFrames queue.new (seen D.state rig.new) }
+    ensures queue { OnOk result (Q.IsQueue queue.new (seen D.state rig.new)) }
+    ensures passes { PassTo Q.Queue header.now next queue.old queue.new list (seen D.state rig.old)
+        (seen D.state rig.new) result }
+    ensures still { FitsArea header.now (seen D.state rig.old).pool.shape → queue.new ≡ queue.old }
+{
+    if fits(header, rig.shape()) {
+        return pass_by_bits(rig, list, header, next);
+    }
+    let limits = Limits {
+        calls: 4 * header.gates,
+        records: list.len(),
+    };
+    sweep_twice(
+        rig,
+        queue,
+        list,
+        header,
+        Sweep::Recall,
+        Sweep::Find,
+        next,
+        limits,
+    )
+}
+
 /// An adjacency list after all passes, and how many of them found something.
 #[derive(Drop)]
 pub(crate) struct Found {
@@ -220,9 +263,9 @@ pub(crate) struct Found {
 }
 
 /// Passes over an adjacency list up to one that finds the last gate, or none. Each other one finds a gate, so
-/// there are no more of these than gates. A pass has at most 4 calls of the queue for each gate. A fault is that of
-/// a call of the queue or of one on a list, or `Damaged` with block 0 if a device that doesn't tell went
-/// past this or left notes in the queue.
+/// there are no more of these than gates. A fault is that of a call of the queue or of one on a list, or
+/// `Damaged` with block 0 if a device that doesn't tell went past the limits of a pass or left notes in the
+/// queue. If a bit for each variable fits into an area, the queue isn't called.
 pub(crate) fn find_all<D: Device, Q: Queue>(
     rig: &mut Rig<'_, D>,
     queue: &mut Q,
@@ -236,26 +279,14 @@ pub(crate) fn find_all<D: Device, Q: Queue>(
     ensures queue { OnOk result (Q.IsQueue queue.new (seen D.state rig.new)) }
     ensures finds { FindsTo Q.Queue header.now queue.old queue.new list (seen D.state rig.old)
         (seen D.state rig.new) result }
+    ensures still { FitsArea header.now (seen D.state rig.old).pool.shape → queue.new ≡ queue.old }
 {
     let mut list = list;
     let mut next = 1 + header.inputs + header.latches;
     let end = next + header.gates;
     let mut passes = 0;
     for _ in 0..header.gates {
-        let limits = Limits {
-            calls: 4 * header.gates,
-            records: list.len(),
-        };
-        let swept = sweep_twice(
-            rig,
-            queue,
-            list,
-            header,
-            Sweep::Recall,
-            Sweep::Find,
-            next,
-            limits,
-        )?;
+        let swept = make_pass(rig, queue, list, header, next)?;
         list = swept.list;
         if swept.next == next {
             return Ok(Found { list, passes, next });

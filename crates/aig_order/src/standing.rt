@@ -208,7 +208,7 @@ pub(crate) fn standing_after(
 }
 
 /// What the second sweep of a pass writes for a record: a gate has its rank, and another stays as it is.
-fn found_anew(standing: Standing, item: Record, first: Record, second: Record) -> Record
+pub(crate) fn found_anew(standing: Standing, item: Record, first: Record, second: Record) -> Record
     ensures { result ≡ (if sweeps.is_edge item then item else (if sweeps.is_gate item
         then sweeps.with_rank item (sweeps.found_rank standing.next item first second)
         else item)) }

@@ -89,6 +89,7 @@ is_new {s = s} {t = t} b e n =
       is = record {
         is = n.is;
         pushed = ap (λ (c : TreeCounts). c.n) n.counts ∙ sym e;
+        longest = let k = ap (λ (c : TreeCounts). c.k) n.counts in omega (arith, k);
         few = omega (arith, e);
         unsettled = ap (λ (c : TreeCounts). c.y) n.counts;
         unreset = ap (λ (c : TreeCounts). c.z) n.counts;
@@ -104,16 +105,6 @@ is_new {s = s} {t = t} b e n =
       };
     }
 
--- Over a device that tells, no more operations came between two resets than in all.
-books_most : {s : RigState} {b : Batch} → IsBatch s b → IsTrue s.device.told
-    → (trunk_of b).longest ≤ (trunk_of b).pushed
-books_most is told =
-    let books = is.is.books told in
-    let most = books.paid.fits.k_most in
-    let n = books.n in
-    let k = books.k in
-    omega (arith, most, n, k)
-
 -- what a push leaves of a tree's numbers
 module _ {s t : RigState} (b d : Batch) (is : IsBatch s b)
     (c : CountsCall (count_push 0) s t (trunk_of b) (trunk_of d)) where
@@ -126,12 +117,11 @@ module _ {s t : RigState} (b d : Batch) (is : IsBatch s b)
   none_reset : (trunk_of d).resets ≡ 0
   none_reset = ap (λ (z : TreeCounts). z.z) c.counts ∙ is.unreset
 
-  longest_more : IsTrue s.device.told → (trunk_of d).longest ≤ (trunk_of b).pushed + 1
-  longest_more told =
+  longest_more : (trunk_of d).longest ≤ b.calls + 1
+  longest_more =
       let e : (trunk_of d).longest ≡ max (trunk_of b).longest ((trunk_of b).since + 1) =
       ap (λ (z : TreeCounts). z.k) c.counts in
-      let most = books_most is told in
-      omega (arith, e, most, is.is.running.numbers.since_most)
+      omega (arith, e, is.longest, is.is.running.numbers.since_most)
 
   -- The numbers of a call that gives a command.
   pub counts_command : Sound s → d.calls ≡ b.calls + 1 → CountsCommand s t b d
@@ -142,7 +132,7 @@ module _ {s t : RigState} (b d : Batch) (is : IsBatch s b)
         share = λ told. subst (λ n. (trunk_of d).spent ≤ batch_share s.pool.shape n) now
             (within_batch s.pool.shape (trunk_of d).pushed (trunk_of d).longest (trunk_of d).resets
             (trunk_of d).settled (trunk_of d).spent sound.shape
-            (omega (arith, longest_more told, pushed_more)) none_reset (omega (arith, none_settled))
+            (omega (arith, longest_more, pushed_more, is.pushed)) none_reset (omega (arith, none_settled))
             (c.share told).within);
       }
 
@@ -160,6 +150,7 @@ module _ {s t : RigState} (b d : Batch) (is : IsBatch s b)
         is = record {
           is = p.is;
           pushed = omega (arith, pushed_more, is.pushed, e);
+          longest = omega (arith, longest_more, e);
           few = omega (arith, few, e);
           unsettled = none_settled;
           unreset = none_reset;
@@ -211,5 +202,5 @@ batch_costs {s = s} {t = t} b sound is f =
           is.pushed
           (within_batch s.pool.shape (trunk_of b).pushed (trunk_of b).longest (trunk_of b).resets
           ((trunk_of b).settled + 1) ((trunk_of b).spent + (t.moves - s.moves)) sound.shape
-          (books_most is told) is.unreset (omega (arith, is.unsettled)) (f.share told).within);
+          (omega (arith, is.longest, is.pushed)) is.unreset (omega (arith, is.unsettled)) (f.share told).within);
     }

@@ -1,5 +1,5 @@
 -- The room of a batch is that of its tree, and of the answers that it has given.
-use Rattle.std.specs.Prelude.{◌≡◌, ℕ, ◌+◌, ◌<◌, ◌≤◌, max, List, [], ◌∷◌, length, IsTrue, IfErr, Some, None, Result, Ok, Err}
+use Rattle.std.specs.Prelude.{◌≡◌, ℕ, zero, suc, ◌+◌, ◌<◌, ◌≤◌, max, List, [], ◌∷◌, length, IsTrue, IfErr, Some, None, Result, Ok, Err}
 use Rattle.std.proofs.Common.{ap, refl, subst, arith}
 use Rattle.std.proofs.lemmas.List.{length-append, length-drop}
 use Rattle.std.specs.List.Sorted.{IsPermutation}
@@ -12,7 +12,7 @@ use Rattle.em_model.specs.MapAnswers.{answer_records, answers_of}
 use Rattle.em_model.specs.declared.command.Command.{Command}
 use Rattle.em_model.specs.declared.command.Command.TheVariants.{Put, Del, Get, Push, Pop, Interval, Stab}
 use Rattle.em_settle.specs.Map.{map_key_of, map_step_of}
-use Rattle.em_space.specs.Rig.{RigState}
+use Rattle.em_space.specs.Rig.{IfFull, RigState}
 use Rattle.em_space.specs.declared.fault.EmFault.{EmFault}
 use Rattle.em_space.proofs.Ledgers.{full_by}
 use Rattle.em_chain.specs.List.{items_in}
@@ -23,6 +23,7 @@ use Rattle.em_tree_model.specs.Meaning.{nothing, tree_answers}
 use Rattle.em_tree_model.specs.Owed.{owed}
 use Rattle.em_tree_cost.specs.Shares.{tree_room}
 use Rattle.em_tree_cost.proofs.Rising.{tree_room_rises}
+use Rattle.em_tree.specs.Finishing.{FullIfUsed}
 use Rattle.em_trunk.specs.Room.{FullOverRoom, WithinRoom}
 use Rattle.em_trunk.specs.Trunk.{given_by, model_of, trunk_blocks}
 use Rattle.em_trunk.specs.declared.trunk.Trunk.{Trunk}
@@ -40,12 +41,12 @@ within_more {s} j k h r =
 
 -- also for one that was full.
 pub over_more : {T : Type 0} (s : RigState) (v : Trunk) (r : Result T EmFault) (j k : ℕ)
-    → (IsTrue s.device.told → j ≤ k)
+    → j ≤ k
     → IfErr r (λ fault. IsTrue s.device.told → FullOverRoom j s v fault)
     → IfErr r (λ fault. IsTrue s.device.told → FullOverRoom k s v fault)
 over_more s v (Ok x) j k h r = tt
 over_more s v (Err fault) j k h r = λ told.
-    let rises = tree_room_rises s.pool.shape j k (h told) in
+    let rises = tree_room_rises s.pool.shape j k h in
     let held = length (trunk_blocks s v) in
     record {
       full = full_by fault (s.blocks + held < s.used + (tree_room s.pool.shape j + v.answers.blocks))
@@ -53,21 +54,23 @@ over_more s v (Err fault) j k h r = λ told.
           (λ f. omega (arith, f, rises)) (r told).full;
     }
 
--- The tree's number is at most that of the commands.
-pub longest_few : (s : RigState) (b : Batch) → IsBatch s b → IsTrue s.device.told
-    → (trunk_of b).longest ≤ b.calls
-longest_few s b i told =
-    let books = i.is.books told in
-    let most = books.paid.fits.k_most in
-    let n = books.n in
-    let k = books.k in
-    let p = i.pushed in
-    omega (arith, most, n, k, p)
+-- a number that isn't less than one that isn't 0
+some_called : (longest calls : ℕ) → longest ≤ calls → (longest ≡ 0 → ⊥) → 0 < calls
+some_called longest zero h some = absurd (some (omega (arith, h)))
+some_called longest (suc calls) h some = omega arith
 
-pub push_few : (s : RigState) (b : Batch) → IsBatch s b → IsTrue s.device.told
+-- A tree that counts an operation is that of a batch with a command.
+pub full_given : {T : Type 0} {s : RigState} (b : Batch) (r : Result T EmFault) → IsBatch s b → FullIfUsed (trunk_of b) r
+    → IfErr r (λ fault. IfFull fault (λ _. 0 < b.calls))
+full_given b (Ok x) i h = tt
+full_given b (Err fault) i h =
+    full_by fault ((trunk_of b).longest ≡ 0 → ⊥) (0 < b.calls) (some_called (trunk_of b).longest b.calls i.longest) h
+
+-- The tree's number after a push is at most that of the commands.
+pub push_few : (s : RigState) (b : Batch) → IsBatch s b
     → max (trunk_of b).longest ((trunk_of b).since + 1) ≤ b.calls + 1
-push_few s b i told =
-    let n = longest_few s b i told in
+push_few s b i =
+    let n = i.longest in
     let k = i.is.running.numbers.since_most in
     omega (arith, n, k)
 

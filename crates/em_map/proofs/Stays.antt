@@ -29,6 +29,7 @@ module _ (s t : RigState) (b : Batch) (same : t.device.told ≡ s.device.told)
   batch_stays is i = record {
     is = is;
     pushed = i.pushed;
+    longest = i.longest;
     few = i.few;
     unsettled = i.unsettled;
     unreset = i.unreset;

@@ -36,11 +36,12 @@ batch_unstored b = trunk_unstored (trunk_of b)
 abbrev pub BatchHasFrames : RigState → Batch → Type 0
 BatchHasFrames s b = TrunkHasFrames s (trunk_of b)
 
--- What ties a batch to its rig: each call was pushed into its tree, which was never settled or reset, and
--- what waits there has the numbers of these calls.
+-- What ties a batch to its rig: each call was pushed into its tree, which was never settled or reset and counts
+-- no operation that wasn't called, and what waits there has the numbers of these calls.
 pub record IsBatch (s : RigState) (b : Batch) : Type 0 where
   pub is : IsTrunk map_key_of IsMapOp IsMapKept s (trunk_of b)
   pub pushed : (trunk_of b).pushed ≡ b.calls
+  pub longest : (trunk_of b).longest ≤ b.calls
   pub few : b.calls ≤ 2 ^ 40
   pub unsettled : (trunk_of b).settled ≡ 0
   pub unreset : (trunk_of b).resets ≡ 0

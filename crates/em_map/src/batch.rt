@@ -45,7 +45,6 @@ impl Batch {
     ghost use Rattle.em_map.specs.Batch.{BatchCosts, BatchHasFrames, CountsCommand, FinishesBatch, IsBatch, IsNewBatch, TakesTo, trunk_of};
     ghost use Rattle.em_map.specs.Commands.{map_op};
     ghost use Rattle.em_tree.specs.Calls.{StopsNewTrunk};
-    ghost use Rattle.em_tree.specs.Finishing.{FullIfUsed};
     ghost use Rattle.em_tree.specs.Pushing.{NeedsMore};
     ghost use Rattle.em_trunk.specs.Room.{FullOverRoom, WithinRoom};
     ghost use Rattle.em_trunk.specs.Lists.{LeavesTrunk};
@@ -134,13 +133,14 @@ impl Batch {
     }
 
     /// The answers of the gets in any order, each once: `(number, 1, V, 0)` if the key had the value V
-    /// by the calls before, and `(number, 0, 0, 0)` if it had none.
+    /// by the calls before, and `(number, 0, 0, 0)` if it had none. `Full` comes only if all blocks are in use,
+    /// and a command was given (`full`).
     pub fn finish<D: Device>(self, rig: &mut Rig<'_, D>) -> Result<Chain, EmFault>
         requires sound { Sound (seen D.state rig.old) }
         requires is { IsBatch (seen D.state rig.old) self }
         requires free { CanServe (seen D.state rig.old).pool }
         ensures finishes { FinishesBatch (seen D.state rig.old) (seen D.state rig.new) self result }
-        ensures full { FullIfUsed (trunk_of self) result }
+        ensures full { IfErr result (λ fault. IfFull fault (λ _. 0 < self.calls)) }
         ensures costs { BatchCosts (seen D.state rig.old) (seen D.state rig.new) self }
         ensures room { IsTrue (seen D.state rig.old).device.told → WithinRoom self.calls
             (seen D.state rig.old) (seen D.state rig.new) (trunk_of self) }

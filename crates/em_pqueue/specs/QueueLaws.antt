@@ -161,6 +161,14 @@ none_pushed q s i none =
     let f = st.fits in
     omega (arith, f.tree_k_most, f.k_most, n.tree_longest, n.calls, none)
 
+-- nor into that of one whose tree was given none
+pub none_given : (q : ExtQueue) (s : RigState) → IsExtQueue s q → q.tree.trunk.pushed ≡ 0
+    → q.tree.trunk.longest ≡ 0
+none_given q s i none =
+    let n = i.stands.shown in
+    let f = i.stands.fits in
+    omega (arith, f.tree_k_few, n.tree_longest, n.pushed, none)
+
 pub out : (q : ExtQueue) (s : RigState) → HoldsFrames s q → AreOut (counts_of q) s.pool
 out q s f = record { singles = f.has.tree.out; areas = f.has.out }
 

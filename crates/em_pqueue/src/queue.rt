@@ -497,8 +497,8 @@ impl Queue for ExtQueue {
     }
 
     /// Releases its blocks, and gives its frames back, which it does after a fault too. `Full` comes only
-    /// if all blocks are in use, and an item went into the tree before (`needs`). If none did, at most 4
-    /// moves are made over a device that tells (`unused`).
+    /// if all blocks are in use, and an item went into the tree before (`needs`, `none_given`). If none did,
+    /// at most 4 moves are made over a device that tells (`unused`).
     fn end<D: Device>(self, rig: &mut Rig<'_, D>) -> Result<(), EmFault>
         requires sound { Sound (seen D.state rig.old) }
         requires is { IsExtQueue (seen D.state rig.old) self }

@@ -92,6 +92,7 @@ module _ (cap half : ℕ) where
     since_most = omega arith;
     k_most = omega arith;
     tree_k_most = omega arith;
+    tree_k_few = omega arith;
     tree_since_most = omega arith;
     tree_len_most = omega arith;
     pushed_since_most = omega arith;
@@ -110,6 +111,7 @@ module _ (cap half : ℕ) where
       since_most = omega arith;
       k_most = omega (arith, a.k_most, a.since_most);
       tree_k_most = omega (arith, a.tree_k_most);
+      tree_k_few = a.tree_k_few;
       tree_since_most = a.tree_since_most;
       tree_len_most = a.tree_len_most;
       pushed_since_most = a.pushed_since_most;
@@ -127,6 +129,7 @@ module _ (cap half : ℕ) where
       since_most = omega arith;
       k_most = omega (arith, a.k_most, a.since_most);
       tree_k_most = omega (arith, a.tree_k_most);
+      tree_k_few = a.tree_k_few;
       tree_since_most = a.tree_since_most;
       tree_len_most = a.tree_len_most;
       pushed_since_most = a.pushed_since_most;
@@ -144,6 +147,7 @@ module _ (cap half : ℕ) where
       since_most = omega arith;
       k_most = omega (arith, a.k_most, a.since_most);
       tree_k_most = omega (arith, a.tree_k_most);
+      tree_k_few = a.tree_k_few;
       tree_since_most = a.tree_since_most;
       tree_len_most = a.tree_len_most;
       pushed_since_most = a.pushed_since_most;
@@ -164,6 +168,7 @@ module _ (cap half : ℕ) where
       k_most = omega (arith, a.k_most, a.since_most);
       tree_k_most = let s = pushes_most cap q.heap q.pushed_since q.since a.now in
           omega (arith, a.tree_k_most, a.tree_since_most, s);
+      tree_k_few = omega (arith, a.tree_k_few, a.tree_since_most, a.pushed_since_most);
       tree_since_most = omega (arith, a.tree_since_most);
       tree_len_most = omega (arith, a.tree_len_most);
       pushed_since_most = omega (arith, a.pushed_since_most);
@@ -187,6 +192,7 @@ module _ (cap half : ℕ) where
           since_most = a.since_most;
           k_most = a.k_most;
           tree_k_most = omega (arith, a.tree_k_most, a.tree_since_most, a.since_most, s);
+          tree_k_few = omega (arith, a.tree_k_few, a.tree_since_most, a.pushed_since_most);
           tree_since_most = omega (arith, a.tree_since_most);
           tree_len_most = omega (arith, a.tree_len_most);
           pushed_since_most = omega (arith, a.pushed_since_most);
@@ -210,6 +216,7 @@ module _ (cap half : ℕ) where
           since_most = a.since_most;
           k_most = a.k_most;
           tree_k_most = a.tree_k_most;
+          tree_k_few = a.tree_k_few;
           tree_since_most = a.tree_since_most;
           tree_len_most = omega (arith, a.tree_len_most);
           pushed_since_most = a.pushed_since_most;
@@ -233,6 +240,7 @@ module _ (cap half : ℕ) where
           since_most = a.since_most;
           k_most = a.k_most;
           tree_k_most = a.tree_k_most;
+          tree_k_few = a.tree_k_few;
           tree_since_most = omega arith;
           tree_len_most = omega arith;
           pushed_since_most = a.pushed_since_most;
@@ -255,6 +263,7 @@ module _ (cap half : ℕ) where
       since_most = omega arith;
       k_most = a.k_most;
       tree_k_most = a.tree_k_most;
+      tree_k_few = a.tree_k_few;
       tree_since_most = let n = a.tree_none h in omega (arith, n);
       tree_len_most = omega (arith, h);
       pushed_since_most = omega arith;

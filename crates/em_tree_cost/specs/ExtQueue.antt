@@ -35,6 +35,7 @@ pub record ExtQueueFits (cap half : ℕ) (q : ExtQueueCounts) : Type 0 where
   pub since_most : q.since ≤ q.k
   pub k_most : q.k ≤ q.n
   pub tree_k_most : q.tree_k ≤ q.k
+  pub tree_k_few : q.tree_k ≤ q.tree_n
   pub tree_since_most : q.tree_since ≤ q.pushed_since
   pub tree_len_most : q.tree_len ≤ q.pushed_since
   pub pushed_since_most : q.pushed_since ≤ q.tree_n

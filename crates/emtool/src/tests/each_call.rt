@@ -74,35 +74,17 @@ fn wrong_call(
     Ok(Some(call))
 }
 
-/// The exit code of a run in which a call fails, and that call, for the first one in three tables at which
-/// a run doesn't end so.
-fn wrong_part(rt: &HostRuntime, file: &File<'_>, tables: &str) -> Result<Option<(u8, u64)>, Fail> {
-    let (device, rest) = field_of(tables);
-    let (shelf, output) = field_of(rest);
-    let parts = [
-        (Wrong::Device, 5, device),
-        (Wrong::Shelf, 3, shelf),
-        (Wrong::Output, 4, output),
-    ];
-    for (part, code, table) in parts {
-        if table == "-" {
-            continue;
-        }
-        if let Some(call) = wrong_call(rt, file, part, code, table)? {
-            return Ok(Some((code, call)));
-        }
-    }
-    Ok(None)
-}
-
-/// The same of a row.
+/// The exit code of a run in which a call fails, and that call, for the first one in the three tables of a row at
+/// which a run doesn't end so.
 pub(super) fn wrong_in(rt: &HostRuntime, row: &str) -> Result<Option<(u8, u64)>, Fail> {
     let alloc = rt.alloc();
     let (words, rest) = field_of(row);
     let (text, rest) = field_of(rest);
     let (stimulus, rest) = field_of(rest);
     let (lines, rest) = field_of(rest);
-    let (code, tables) = field_of(rest);
+    let (code, rest) = field_of(rest);
+    let (device, rest) = field_of(rest);
+    let (shelf, output) = field_of(rest);
     let text = text_of(alloc, text)?;
     let stimulus = text_of(alloc, stimulus)?;
     let lines = text_of(alloc, lines)?;
@@ -114,7 +96,20 @@ pub(super) fn wrong_in(rt: &HostRuntime, row: &str) -> Result<Option<(u8, u64)>,
         code: code.parse::<u8>()?,
         later: if words.starts_with("eval") { 3 } else { 0 },
     };
-    wrong_part(rt, &file, tables)
+    let parts = [
+        (Wrong::Device, 5, device),
+        (Wrong::Shelf, 3, shelf),
+        (Wrong::Output, 4, output),
+    ];
+    for (part, code, table) in parts {
+        if table == "-" {
+            continue;
+        }
+        if let Some(call) = wrong_call(rt, &file, part, code, table)? {
+            return Ok(Some((code, call)));
+        }
+    }
+    Ok(None)
 }
 
 /// Command files. The shelf is called once to open the file, once for each 3 bytes of it, and once where the

@@ -28,10 +28,10 @@
 use crate::tests::each_call::wrong_in;
 use std::test::Fail;
 
-/// Circuits without a fault, which are evaluated on a stimulus, in rows as `each_call` has them. The shelf is
-/// called once to open the circuit, once for each 3 bytes of it, and once at its end; and so for the stimulus,
-/// which is read as it is used. The output is called at the end of the run alone, for each 3 bytes.
-const EVALUATED: [&str; 13] = [
+/// Circuits that are evaluated on a stimulus, in rows as `each_call` has them. The shelf is called once to open the
+/// circuit, once for each 3 bytes of it, and once at its end; and so for the stimulus, which is read as it is used. The
+/// output is called at the end of the run alone, for each 3 bytes.
+const ROWS: [&str; 30] = [
     // Two inputs, an output and a gate, and so three edges. The line of the first step is pending if the second one fails,
     // and is sent then. The device: 40 calls, of which 32 come before the first step:
     //
@@ -142,13 +142,12 @@ const EVALUATED: [&str; 13] = [
     "eval --block=128 --frames=64 a s|\
      aig 5 2 0 2 3/10/6/\x02\x02\x03\x02\x01\x02i0 x/i1 y/o0 s/o1 c/c/half adder/|\
      00/01/10/11/|00/10/10/01/|0|36 0,4 3,4 6,4 9|24 0,1 3,1 6,1 9,1 12|4 0+3",
-];
-
-/// Circuits without latches, which are evaluated many lines at once. The device is called before the first group as
-/// before the first step above, and a group makes 2 calls more than a step: 1 stores the columns' words, and 1 loads
-/// them. The lines of a group go to the printer after all of its calls, so that a
-/// call that fails in a group leaves those of the groups before it.
-const IN_GROUPS: [&str; 4] = [
+    //
+    // Circuits without latches, many lines at once. The device is called before the first group as before the first step
+    // above, and a group makes 2 calls more than a step: 1 stores the columns' words, and 1 loads them. The lines of a
+    // group go to the printer after all of its calls, so that a call that fails in a group leaves those of the groups
+    // before it.
+    //
     // The conjunction on two lines. The device: 38 calls, 32 before the first group and its 6. The shelf: 16 calls, the
     // 15 of two steps, since the group looks for a third line, and 1 more at the end of the stimulus. The output: two calls.
     "eval --wide --block=128 --frames=64 a s|aag 3 2 0 1 1/2/4/6/6 2 4/|11/01/|1/0/|0|38 0|15 0,1 4|1 0,1 3",
@@ -167,10 +166,9 @@ const IN_GROUPS: [&str; 4] = [
      1/1/1/1/1/1/1/1/1/1/1/1/1/1/1/1/1/1/1/1/1/1/1/1/1/1/1/1/1/1/1/1/\
      1/1/1/1/1/1/1/1/1/1/1/1/1/1/1/1/1/1/1/1/1/1/1/1/1/1/1/1/1/1/1/1/1/|0|\
      23 0,3 128|31 0,1 128,1 130|44 0+3",
-];
-
-/// Circuits with a fault, or with a stimulus that isn't there: no step is made, and the output isn't called.
-const REFUSED: [&str; 13] = [
+    //
+    // A fault of the circuit, or a stimulus that isn't there: no step is made, and the output isn't called.
+    //
     // A fault of a line is found before a list is stored: the device is only begun. The shelf: the call that opens the
     // circuit, and a read for each 3 bytes up to the one that is looked at last. That is byte 21 in the header of ten
     // numbers, byte 13 in the next one, the newline at 19 after the literal 9, also if there is no stimulus, and the space at 28 after the position 2.
@@ -208,27 +206,7 @@ const REFUSED: [&str; 13] = [
 #[test]
 fn evaluations_end_at_each_failing_call(rt: HostRuntime) -> Result<(), Fail> {
     let mut number = 0u64;
-    for row in EVALUATED {
-        number = number.saturating_add(1);
-        assert_eq!(rt; wrong_in(&rt, row)?, None, "row {number}");
-    }
-    Ok(())
-}
-
-#[test]
-fn refused_circuits_end_at_each_failing_call(rt: HostRuntime) -> Result<(), Fail> {
-    let mut number = 0u64;
-    for row in REFUSED {
-        number = number.saturating_add(1);
-        assert_eq!(rt; wrong_in(&rt, row)?, None, "row {number}");
-    }
-    Ok(())
-}
-
-#[test]
-fn groups_end_at_each_failing_call(rt: HostRuntime) -> Result<(), Fail> {
-    let mut number = 0u64;
-    for row in IN_GROUPS {
+    for row in ROWS {
         number = number.saturating_add(1);
         assert_eq!(rt; wrong_in(&rt, row)?, None, "row {number}");
     }

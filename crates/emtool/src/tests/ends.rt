@@ -137,20 +137,9 @@ fn runs_end_as_their_rows_say(rt: HostRuntime) -> Result<(), Fail> {
     Ok(())
 }
 
-/// No block of a map of many keys is as it was written: the first one that is read is named, and nothing is
-/// printed.
-#[test]
-fn the_first_block_that_is_read_is_damaged(rt: HostRuntime) -> Result<(), Fail> {
-    let text = text_of(rt.alloc(), MANY)?;
-    let ended = run(&rt, LARGE, text.bytes(), b"", Wrong::Lost, 0)?;
-    let block = ended.device.first.unwrap_or(u64::MAX);
-    assert!(rt; ended.status == Status::Damaged { block });
-    assert_eq!(rt; ended.out.bytes(), b"".as_slice());
-    Ok(())
-}
-
 /// A leaf has at most 4096 records at this shape, so that 20,000 keys want several, under one node. A map of
-/// one key has one leaf.
+/// one key has one leaf. If no block of the map of many keys is as it was written, the first one that is read is named,
+/// and nothing is printed.
 #[test]
 fn a_map_of_many_keys_has_several_leaves(rt: HostRuntime) -> Result<(), Fail> {
     for (field, lines, parted) in [(MANY, "1/", true), ("put 1 2/get 1/", "2/", false)] {
@@ -161,23 +150,17 @@ fn a_map_of_many_keys_has_several_leaves(rt: HostRuntime) -> Result<(), Fail> {
         assert_eq!(rt; ended.out.bytes(), lines.bytes());
         assert!(rt; ended.device.parted == parted);
     }
+    let text = text_of(rt.alloc(), MANY)?;
+    let ended = run(&rt, LARGE, text.bytes(), b"", Wrong::Lost, 0)?;
+    let block = ended.device.first.unwrap_or(u64::MAX);
+    assert!(rt; ended.status == Status::Damaged { block });
+    assert_eq!(rt; ended.out.bytes(), b"".as_slice());
     Ok(())
 }
 
-/// Whether a run of which the last call of the device fails ends so after the output took these lines. A whole run calls
-/// the device as often as it moves blocks, and once to begin it.
-fn last_call_leaves(rt: &HostRuntime, words: &str, field: &str, lines: &str) -> Result<bool, Fail> {
-    let alloc = rt.alloc();
-    let text = text_of(alloc, field)?;
-    let lines = text_of(alloc, lines)?;
-    let whole = run(rt, words, text.bytes(), b"", Wrong::Nothing, 0)?;
-    let last = whole.device.kept.moves();
-    let ended = run(rt, words, text.bytes(), b"", Wrong::Device, last)?;
-    Ok(ended.status == Status::DeviceFault && ended.out.bytes() == lines.bytes())
-}
-
 /// Of 3000 answers, 127 a block, the last call reads the last 79. When it fails a piece of 4096 bytes was sent, and the
-/// other lines that were printed are sent then. Whether the line of a stab goes on would be seen by the next pair.
+/// other lines that were printed are sent then. Whether the line of a stab goes on would be seen by the next pair. A
+/// whole run calls the device as often as it moves blocks, and once to begin it.
 #[test]
 fn lines_that_wait_are_sent_at_a_stop(rt: HostRuntime) -> Result<(), Fail> {
     let rows = [
@@ -193,46 +176,46 @@ fn lines_that_wait_are_sent_at_a_stop(rt: HostRuntime) -> Result<(), Fail> {
         ),
     ];
     for (words, field, lines) in rows {
-        assert!(rt; last_call_leaves(&rt, words, field, lines)?);
+        let text = text_of(rt.alloc(), field)?;
+        let lines = text_of(rt.alloc(), lines)?;
+        let whole = run(&rt, words, text.bytes(), b"", Wrong::Nothing, 0)?;
+        let last = whole.device.kept.moves();
+        let ended = run(&rt, words, text.bytes(), b"", Wrong::Device, last)?;
+        assert!(rt; ended.status == Status::DeviceFault);
+        assert_eq!(rt; ended.out.bytes(), lines.bytes());
     }
     Ok(())
-}
-
-/// How a run of a command over a device that tells what it holds ended, and what the output took.
-fn over_memory(rt: &HostRuntime, command: &str, text: &[u8]) -> Result<(Status, MemSink), Fail> {
-    let alloc = rt.alloc();
-    let mut words = Vec::new(alloc);
-    for word in [command, "a"] {
-        words.push(String::from_str(alloc, word)?)?;
-    }
-    let mut device = MemDevice::new(alloc, &[])?;
-    let mut shelf = MemShelf::new(alloc, 3, &[])?;
-    shelf.add("a", text)?;
-    let mut out = MemSink::new(alloc, 3, &[])?;
-    let mut err = MemSink::new(alloc, 7, &[])?;
-    let status = emtool(
-        &words,
-        Grant::new(alloc),
-        &mut device,
-        &mut shelf,
-        &mut out,
-        &mut err,
-    );
-    Ok((status, out))
 }
 
 /// The other runs go over a device that doesn't tell.
 #[test]
 fn commands_are_answered_over_a_device_that_tells(rt: HostRuntime) -> Result<(), Fail> {
+    let alloc = rt.alloc();
     let rows = [
         ("map", "put 5 10/get 5/get 6/", "10/-/"),
         ("queue", "push 4 1/pop/pop/", "4 1/-/"),
         ("stab", "iv 0 5/stab 5/stab 6/", "0/-/"),
     ];
     for (command, field, lines) in rows {
-        let text = text_of(rt.alloc(), field)?;
-        let lines = text_of(rt.alloc(), lines)?;
-        let (status, out) = over_memory(&rt, command, text.bytes())?;
+        let mut words = Vec::new(alloc);
+        for word in [command, "a"] {
+            words.push(String::from_str(alloc, word)?)?;
+        }
+        let text = text_of(alloc, field)?;
+        let lines = text_of(alloc, lines)?;
+        let mut device = MemDevice::new(alloc, &[])?;
+        let mut shelf = MemShelf::new(alloc, 3, &[])?;
+        shelf.add("a", text.bytes())?;
+        let mut out = MemSink::new(alloc, 3, &[])?;
+        let mut err = MemSink::new(alloc, 7, &[])?;
+        let status = emtool(
+            &words,
+            Grant::new(alloc),
+            &mut device,
+            &mut shelf,
+            &mut out,
+            &mut err,
+        );
         assert!(rt; status == Status::Done);
         assert_eq!(rt; out.bytes(), lines.bytes());
     }

@@ -1,4 +1,4 @@
-use Rattle.std.proofs.Common.{◌∙◌, Result}
+use Rattle.std.proofs.Common.{◌∙◌, Result, refl, subst, sym}
 use Rattle.em_space.specs.Seen.{seen}
 use Rattle.em_space.proofs.Held.{apart_none}
 use Rattle.em_space.proofs.Queues.{out_same}
@@ -8,6 +8,8 @@ use Rattle.aig_text.proofs.Lines.{of_error}
 use Rattle.aig_edges.specs.Graph.{graph_lists}
 use Rattle.aig_edges.specs.declared.graph.Ordered.{Ordered}
 use Rattle.aig_order.specs.FindsOrder.{OrdersTo}
+use Rattle.aig_order.specs.Marks.{FitsArea}
+use Rattle.aig_order.proofs.FewCalls.{few_ranked, few_same}
 use Rattle.aig_order.proofs.OrderEnded.{lists_held}
 use Rattle.aig_order.proofs.OrderMade.{orders_cycle}
 use Rattle.aig_order.proofs.OrderRanked.{can_rank, ranked_beside, ranked_none}
@@ -261,3 +263,42 @@ returns-clause-finds g c =
     c.in_default.is look.1 (c.len-count.ensures ∙ r.graph.edges.count_is) in
     ranked_beside q x y c.rank_edges.new.queue c.args.graph o c.in_ok-edges.edges
     _ c.in_ok-list.ensures.merges.1 r.holds c.in_ok-edges.ensures.ranks
+
+-- calls, if the queue isn't called in passes
+pub returns-in_err-list-clause-few : goal.returns-in_err-list-clause-few
+returns-in_err-list-clause-few g c = λ f.
+    few_same g.Q.Queue c.args.queue.now c.args.queue.now c.args.graph.header refl
+
+pub returns-in_err-found-clause-few : goal.returns-in_err-found-clause-few
+returns-in_err-found-clause-few g c = λ f.
+    let m = c.in_ok-list.ensures.merges.0 in
+    few_same g.Q.Queue c.args.queue.now c.find_all.new.queue c.args.graph.header
+    (c.in_err-found.ensures.still (subst (FitsArea c.args.graph.header) (sym m.runs.frames.shape) f))
+
+pub returns-in_err-place-clause-few : goal.returns-in_err-place-clause-few
+returns-in_err-place-clause-few g c = λ f.
+    let m = c.in_ok-list.ensures.merges.0 in
+    few_same g.Q.Queue c.args.queue.now c.find_all.new.queue c.args.graph.header
+    (c.in_ok-found.ensures.still (subst (FitsArea c.args.graph.header) (sym m.runs.frames.shape) f))
+
+pub returns-in-Some-clause-few : goal.returns-in-Some-clause-few
+returns-in-Some-clause-few g c = λ f.
+    let m = c.in_ok-list.ensures.merges.0 in
+    few_same g.Q.Queue c.args.queue.now c.find_all.new.queue c.args.graph.header
+    (c.in_ok-found.ensures.still (subst (FitsArea c.args.graph.header) (sym m.runs.frames.shape) f))
+
+pub returns-in_err-edges-clause-few : goal.returns-in_err-edges-clause-few
+returns-in_err-edges-clause-few g c = λ f.
+    let m = c.in_ok-list.ensures.merges.0 in
+    few_ranked g.Q.Queue c.args.queue.now c.find_all.new.queue c.rank_edges.new.queue
+    c.args.graph.header c.len-count.result
+    (c.in_ok-found.ensures.still (subst (FitsArea c.args.graph.header) (sym m.runs.frames.shape) f))
+    (c.len-count.ensures ∙ c.requires.graph.edges.count_is) c.in_err-edges.ensures.ranks.in_runs
+
+pub returns-clause-few : goal.returns-clause-few
+returns-clause-few g c = λ f.
+    let m = c.in_ok-list.ensures.merges.0 in
+    few_ranked g.Q.Queue c.args.queue.now c.find_all.new.queue c.rank_edges.new.queue
+    c.args.graph.header c.len-count.result
+    (c.in_ok-found.ensures.still (subst (FitsArea c.args.graph.header) (sym m.runs.frames.shape) f))
+    (c.len-count.ensures ∙ c.requires.graph.edges.count_is) c.in_ok-edges.ensures.ranks.in_runs

@@ -1,8 +1,10 @@
+use Rattle.std.proofs.Common.{refl}
 use Rattle.em_space.specs.Seen.{seen}
 use Rattle.em_space.proofs.Queues.{out_same}
 use Rattle.em_queued.proofs.Queued.{unstored_frames}
 use Rattle.aig_edges.specs.Graph.{graph_lists}
 use Rattle.aig_edges.proofs.Pushed.{all_ok}
+use Rattle.aig_order.proofs.FewCalls.{few_same}
 use Rattle.aig_order.proofs.OrderEnded.{lists_held}
 use Rattle.aig_order.proofs.OrderReady.{graph_apart}
 use Rattle.aig_order.proofs.StraightOrder.{straight_goes, straight_to}
@@ -48,3 +50,7 @@ returns-then-straight-clause-finds g c =
     c.requires.defined (laws.blocks_most x s c.requires.queue)
     (unstored_frames (laws.unstored_most x s c.requires.queue) out c.requires.sound)
     (laws.fits x s has) c.requires.holds kept.2 c.find_straight.ensures.finds
+
+pub returns-then-straight-clause-few : goal.returns-then-straight-clause-few
+returns-then-straight-clause-few g c = λ f.
+    few_same g.Q.Queue c.args.queue.now c.args.queue.now c.args.graph.header refl

@@ -1,6 +1,5 @@
-use Rattle.std.proofs.Common.{Result, refl, ap}
+use Rattle.std.proofs.Common.{Result, refl}
 use Rattle.em_space.specs.Seen.{seen}
-use Rattle.em_chain.specs.declared.chain.Chain.{Chain}
 use Rattle.aig_text.specs.declared.stop.AigStop.{AigStop}
 use Rattle.aig_text.proofs.Lines.{of_error}
 use Rattle.aig_edges.specs.declared.graph.Ordered.{Ordered}

@@ -5,7 +5,7 @@ use Rattle.aig_text.proofs.Lines.{of_error}
 use Rattle.aig_order.specs.Room.{OrdersBlocks}
 use Rattle.aig_edges.specs.declared.graph.Ordered.{Ordered}
 use Rattle.aig_edges.proofs.Ended.{cause_left, pays_left}
-use Rattle.aig_order.proofs.OrderEnded.{orders_graph, costs_ended, costs_left, pays_unended, stores_ended, up_ended, up_left}
+use Rattle.aig_order.proofs.OrderEnded.{orders_graph, costs_ended, costs_left, few_ended, few_left, pays_unended, stores_ended, up_ended, up_left}
 use Rattle.aig_order.proofs.OrderRoom.{end_full, left_full, orders_blocks}
 use Rattle.aig_order.proofs.ordering.order.Goals as goal
 
@@ -111,3 +111,25 @@ returns-in-Err-clause-cause g c =
 
 pub abandon-requires-clause-sound : goal.abandon-requires-clause-sound
 abandon-requires-clause-sound g c = c.in-Err.ensures.finds.done.sound
+
+pub returns-in_err-end-in-Ok-clause-few : goal.returns-in_err-end-in-Ok-clause-few
+returns-in_err-end-in-Ok-clause-few g c = λ f.
+    let u = seen g.D.Device.state c.find_order.new.rig in
+    few_ended g.Q.Queue c.args.queue c.find_order.new.queue c.args.graph c.in-Ok.ensures.finds
+    (c.in-Ok.ensures.few f) c.in-Ok.ensures.frames c.end.ensures.ends g.met.Q.Queue.rising
+    g.met.Q.Queue.rising_room (g.met.Q.Queue.fits c.find_order.new.queue u c.in-Ok.ensures.frames)
+
+pub returns-in_ok-end-in-Ok-clause-few : goal.returns-in_ok-end-in-Ok-clause-few
+returns-in_ok-end-in-Ok-clause-few g c = λ f.
+    let u = seen g.D.Device.state c.find_order.new.rig in
+    few_ended g.Q.Queue c.args.queue c.find_order.new.queue c.args.graph c.in-Ok.ensures.finds
+    (c.in-Ok.ensures.few f) c.in-Ok.ensures.frames c.end.ensures.ends g.met.Q.Queue.rising
+    g.met.Q.Queue.rising_room (g.met.Q.Queue.fits c.find_order.new.queue u c.in-Ok.ensures.frames)
+
+pub returns-in-Err-clause-few : goal.returns-in-Err-clause-few
+returns-in-Err-clause-few g c = λ f.
+    let u = seen g.D.Device.state c.find_order.new.rig in
+    few_left g.Q.Queue c.args.queue c.find_order.new.queue c.args.graph c.in-Err.ensures.finds.done
+    (c.in-Err.ensures.few f) c.in-Err.ensures.frames c.abandon.ensures.leaves g.met.Q.Queue.rising
+    (g.met.Q.Queue.spends c.find_order.new.queue u c.in-Err.ensures.frames)
+    g.met.Q.Queue.rising_room (g.met.Q.Queue.fits c.find_order.new.queue u c.in-Err.ensures.frames)

@@ -1,5 +1,6 @@
 use Rattle.std.proofs.Common.{◌≡◌, ◌≤◌}
 use Rattle.em_space.specs.Seen.{seen}
+use Rattle.aig_order.specs.Marks.{FitsArea}
 use Rattle.aig_order.proofs.Finds.{Passed}
 use Rattle.aig_order.proofs.passing.find_all.Given as goal
 
@@ -12,4 +13,5 @@ invariant-loop g l =
       most : l.counter ≤ l.header.gates;
       passes : l.passes ≡ l.counter;
       passed : Passed g.Q.Queue l.header l.fn.list l.counter l.next l.fn.queue l.queue l.list first now;
+      still : FitsArea l.header first.pool.shape → l.queue ≡ l.fn.queue;
     }

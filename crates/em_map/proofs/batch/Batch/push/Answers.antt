@@ -27,7 +27,7 @@ pub returns-clause-room : goal.returns-clause-room
 returns-clause-room g c = λ told.
     let b = c.args.self.now in
     within_more (max b.tree.trunk.longest (b.tree.trunk.since + 1)) (b.calls + 1)
-    (push_few (seen g.D.Device.state c.args.rig.now) b c.requires.is told) (c.push.ensures.room told)
+    (push_few (seen g.D.Device.state c.args.rig.now) b c.requires.is) (c.push.ensures.room told)
 
 pub returns-clause-over : goal.returns-clause-over
 returns-clause-over g c =
