@@ -6,7 +6,7 @@ use Rattle.std.proofs.lemmas.List.{append-nil}
 use Rattle.em_record.specs.declared.record.Record.{Record}
 use Rattle.em_record.proofs.OrderLaws.{which}
 use Rattle.em_frames.specs.Device.{zero_record}
-use Rattle.em_bits.specs.Bits.{AndsIn, Fills, has_bit}
+use Rattle.em_bits.specs.Bits.{AndsIn, FillsUpTo, has_bit}
 use Rattle.aig_order.specs.declared.standing.Standing.{Standing}
 use Rattle.aig_order.specs.declared.standing.Sweep.{Sweep}
 use Rattle.aig_order.specs.declared.standing.Sweep.TheVariants.{Recall, Find}
@@ -81,9 +81,8 @@ note_joined {old} {new} last sweep p r fits a n notes h v l =
     ∙ sym (noted_by told v own notes)
 
 -- All bits are 1 if there is no note.
-pub none_noted : {old new : List Record} (last : ℕ) → last < 256 * length new → Fills old new
-    → HasNotes last [] new
-none_noted last fits f v l = f.ones v (omega (arith, fits, l))
+pub none_noted : {old new : List Record} (last : ℕ) → FillsUpTo last old new → HasNotes last [] new
+none_noted last f v l = f.ones v l
 
 -- Records one after another.
 mark_then : (last : ℕ) (sweep : Sweep) (n : ℕ) (rs qs : List Record) (m : Moment)

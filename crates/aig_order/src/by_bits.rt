@@ -1,6 +1,6 @@
 //! A pass by a bit for each variable, in an area that is lent for it: no queue is called.
 //!
-//!     fill    all bits are 1
+//!     fill    the bits of all variables are 1
 //!     recall  edges that don't rise join what their sources were after the last pass
 //!     rewrite the list is written anew, with the gates that the pass finds
 //!
@@ -18,7 +18,7 @@ use crate::recalling::recall;
 use crate::rewriting::rewrite;
 use crate::standing::at_constant;
 use aig_defs::Header;
-use em_bits::fill;
+use em_bits::fill_to;
 use em_chain::Chain;
 use em_frames::Device;
 use em_record::{Record, Shape};
@@ -68,7 +68,7 @@ fn mark_pass<D: Device>(
     ensures long { length row.new ≡ length row.old }
     ensures marks { MarksTo last next (seen D.state rig.old) (seen D.state rig.new) list result }
 {
-    fill(row);
+    fill_to(row, last);
     recall(rig, row, &list, next, last)?;
     let mut standing = at_constant(next);
     let list = rewrite(rig, row, list, &mut standing, last)?;

@@ -141,7 +141,7 @@ fill_values n u v (Err e) j f = tt
 -- The table has the bits of all ranks.
 pub filled : {value : ℕ → Bool} {all G H W : List Record} {h : Header} (zero one two three four : List Record)
     (last n i j : ℕ) → last ≡ ranks_of h - 1 → last < 256 * length zero → length one ≡ length zero
-    → length two ≡ length one → length three ≡ length two → n ≡ base_of h → BeginsTable zero one
+    → length two ≡ length one → length three ≡ length two → n ≡ base_of h → BeginsTable last zero one
     → LoadsFor 0 n W [] one two → FollowsTo G [] i last two three → FollowsTo H [] j last three four
     → HasEdgesOf value all h G H W → IsTable value (base_of h) (ranks_of h - 1) all four
 filled {value} {all} {G} {H} {W} {h} zero one two three four last n i j is fits a b c count begun load first
@@ -149,7 +149,7 @@ filled {value} {all} {G} {H} {W} {h} zero one two three four last n i j is fits 
     let low = x.followable.low in
     let high = x.followable.high in
     let f = subst (λ (m : ℕ). Followable value all (base_of h) (last_of h) m) (sym is) x.followable in
-    let start : IsTable value 0 last [] one = table_begun last x.constant fits begun in
+    let start : IsTable value 0 last [] one = table_begun last x.constant begun in
     let few : 0 + n ≤ last = omega (arith, count, is, low, high) in
     let loaded = (load value last (omega (arith, fits, a)) few start x.bits_are).0 in
     let given : IsTable value (base_of h) last [] two =

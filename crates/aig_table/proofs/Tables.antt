@@ -4,7 +4,7 @@ use Rattle.std.proofs.lemmas.List.{append-nil, drop-drop, take-append-drop}
 use Rattle.std.proofs.lemmas.Bool.Decides.{nat_tests}
 use Rattle.em_record.specs.declared.record.Record.{Record}
 use Rattle.em_record.proofs.OrderLaws.{which}
-use Rattle.em_bits.specs.Bits.{AndsIn, Fills, has_bit}
+use Rattle.em_bits.specs.Bits.{AndsIn, Fills, FillsUpTo, has_bit}
 use Rattle.aig_defs.specs.Edges.{LeadOn, arity, conjunction, heard, target}
 use Rattle.aig_sweep.specs.Messages.{ComeFrom, IsClimbing, IsForward}
 use Rattle.aig_sweep.proofs.Awaits.{come_less, drop_climbs}
@@ -157,16 +157,26 @@ pub follows_all : {value : ℕ → Bool} {all table : List Record} {base last k 
 follows_all {value} {all} {table} {base} {last} {k} h =
     subst (λ (l : List Record). IsTable value base last l table) (take_whole k all h.rest) h.table_is
 
+-- A row of ones up to the last rank, in which the bit of the constant became 0, is begun.
+pub table_fresh : {old mid new : List Record} (last : ℕ) → last < 256 * length old → FillsUpTo last old mid
+    → AndsIn 0 false mid new → BeginsTable last old new
+table_fresh last fits f a =
+    let long = f.long in
+    record {
+      constant = a.same ∙ ap (λ (b : Bool). b && false) (f.ones 0 (omega arith));
+      ones = λ t lo hi. a.other t (omega (arith, hi, fits, long)) (λ e. omega (arith, lo, e)) ∙ f.ones t hi;
+      long = a.long ∙ f.long;
+    }
+
 -- A table that was begun has the value of the constant,
 pub table_begun : {value : ℕ → Bool} {old new : List Record} (last : ℕ) → false ≡ value 0
-    → last < 256 * length old → BeginsTable old new → IsTable value 0 last [] new
-table_begun {value} {old} {new} last e fits b =
-    let long = b.long in
+    → BeginsTable last old new → IsTable value 0 last [] new
+table_begun {value} {old} {new} last e b =
     record {
       given = λ t l.
           let z : t ≡ 0 = omega (arith, l) in
           ap (has_bit new) z ∙ b.constant ∙ e ∙ ap value (sym z);
-      later = λ t lo hi. b.ones t lo (omega (arith, hi, fits, long));
+      later = λ t lo hi. b.ones t lo hi;
     }
 
 -- and that of one more rank.

@@ -16,10 +16,10 @@ abbrev pub bits_at : List Record → ℕ → ℕ → List Bool
 bits_at table first zero = []
 bits_at table first (suc n) = has_bit table first ∷ bits_at table (first + 1) n
 
--- The bit of the constant is 0, and all others are 1.
-pub record BeginsTable (old new : List Record) : Type 0 where
+-- The bit of the constant is 0, and all others up to this one are 1.
+pub record BeginsTable (last : ℕ) (old new : List Record) : Type 0 where
   pub constant : has_bit new 0 ≡ false
-  pub ones : (t : ℕ) → 0 < t → t < 256 * length new → has_bit new t ≡ true
+  pub ones : (t : ℕ) → 0 < t → t ≤ last → has_bit new t ≡ true
   pub long : length new ≡ length old
 
 -- The bits of ranks up to `last`, once some edges were followed: of a rank up to `base` it is its value, and of a

@@ -116,7 +116,7 @@ fn fill_table<D: Device>(
     let first = 1 + header.inputs + header.latches + header.gates;
     let count = header.outputs + header.bads + header.constraints;
     let last = first + header.latches + count - 1;
-    begin(table);
+    begin(table, last);
     load(rig, table, words)?;
     follow_list(rig, table, given, last)?;
     follow_list(rig, table, gates, last)

@@ -10,15 +10,15 @@ ghost use Rattle.std.specs.Prelude.{◌≡◌, ◌<◌, ◌≤◌, ◌+◌, ◌*
 ghost use Rattle.aig_table.specs.Follows.{FollowsEdge, heard_bit};
 ghost use Rattle.aig_table.specs.Tables.{BeginsTable, bits_at};
 
-use em_bits::{and_in, fill, get};
+use em_bits::{and_in, fill, fill_to, get};
 use em_record::Record;
 
-/// Begins a table: the bit of the constant is 0, and all others are 1.
-pub(crate) fn begin(table: &mut [Record])
-    requires some { 0 < length table.old }
-    ensures begins { BeginsTable table.old table.new }
+/// Begins a table of the ranks up to the last one: the bit of the constant is 0, and all others are 1.
+pub(crate) fn begin(table: &mut [Record], last: u64)
+    requires within { last < 256 * length table.old }
+    ensures begins { BeginsTable last table.old table.new }
 {
-    fill(table);
+    fill_to(table, last);
     and_in(table, 0, false);
 }
 

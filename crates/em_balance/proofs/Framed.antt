@@ -9,11 +9,11 @@ use Rattle.em_tree_blocks.specs.Reading.{IsNodeAt}
 use Rattle.em_balance.specs.Node.{CanGrowUp, CanSplit}
 use Rattle.em_balance.specs.Effects.{GrowsInto, HalvesNode, SplitsInto}
 
-node_lent : {s : RigState} {l k : ℕ} → IsNodeAt s l k
+pub node_lent : {s : RigState} {l k : ℕ} → IsNodeAt s l k
     → IsNodeAt (record s { pool = lent s.pool }) l k
 node_lent i = record { in_use = in_use_lent i.in_use; block = i.block; level = i.level }
 
-node_given : {s : RigState} {l k : ℕ} → IsNodeAt s l k
+pub node_given : {s : RigState} {l k : ℕ} → IsNodeAt s l k
     → IsNodeAt (record s { pool = given s.pool }) l k
 node_given i = record { in_use = in_use_given i.in_use; block = i.block; level = i.level }
 

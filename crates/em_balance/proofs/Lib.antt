@@ -10,3 +10,9 @@ pub mod Trees
 pub mod Upwards
 pub mod NewRoots
 pub mod Stays
+pub mod Dealt
+pub mod Together
+pub mod Putting
+pub mod Paired
+pub mod PairFramed
+pub mod Pairs

@@ -18,6 +18,8 @@ mod heaps;
 #[cfg(test)]
 mod joined;
 #[cfg(test)]
+mod lines;
+#[cfg(test)]
 mod made;
 #[cfg(test)]
 mod scripts;

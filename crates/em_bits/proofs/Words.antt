@@ -4,7 +4,7 @@ use Rattle.std.specs.Int.{bit_at, bit_not}
 use Rattle.std.proofs.lemmas.Nat.Bits.{bit_at_clear_same, bit_at_clear_other, bit_at_ones}
 use Rattle.em_record.specs.declared.record.Record.{Record}
 use Rattle.em_record.proofs.OrderLaws.{which}
-use Rattle.em_bits.specs.Bits.{Fills, bit_of, no_bits, put_word, word_at}
+use Rattle.em_bits.specs.Bits.{Fills, FillsUpTo, bit_of, no_bits, put_word, word_at}
 
 -- the word that was put
 put_same : (r : Record) (j w : ℕ) → word_at (put_word r j w) j ≡ w
@@ -121,3 +121,12 @@ fills_all n xs ys e f =
           (f.front (k / 256) (omega (arith, l, e, long))) ∙ ones_set (k % 256));
       long = long;
     }
+
+-- Those up to a bit were filled.
+pub fills_front : (n last : ℕ) (xs ys : List Record) → n ≡ last / 256 + 1 → FillsTo n xs ys → FillsUpTo last xs ys
+fills_front n last xs ys e f = record {
+  ones = λ k l.
+      ap (λ (n : ℕ). n == 1) (ap (λ (r : Record). bit_of r (k % 256))
+      (f.front (k / 256) (omega (arith, l, e))) ∙ ones_set (k % 256));
+  long = f.long;
+}

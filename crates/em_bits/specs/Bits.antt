@@ -1,5 +1,5 @@
 -- A bit for each number, in a row of records.
-use Rattle.std.specs.Prelude.{◌≡◌, ◌≢◌, ℕ, zero, suc, ◌/◌, ◌%◌, ◌*◌, ◌<◌, ◌==◌, ◌&&◌, Bool, true, List, get_or, length}
+use Rattle.std.specs.Prelude.{◌≡◌, ◌≢◌, ℕ, zero, suc, ◌/◌, ◌%◌, ◌*◌, ◌<◌, ◌≤◌, ◌==◌, ◌&&◌, Bool, true, List, get_or, length}
 use Rattle.std.specs.Int.{bit_at}
 use Rattle.em_record.specs.declared.record.Record.{Record}
 
@@ -48,4 +48,9 @@ pub record AndsIn (at : ℕ) (bit : Bool) (xs ys : List Record) : Type 0 where
 -- All bits are 1.
 pub record Fills (xs ys : List Record) : Type 0 where
   pub ones : (k : ℕ) → k < 256 * length ys → has_bit ys k ≡ true
+  pub long : length ys ≡ length xs
+
+-- The bits up to this one are 1.
+pub record FillsUpTo (last : ℕ) (xs ys : List Record) : Type 0 where
+  pub ones : (k : ℕ) → k ≤ last → has_bit ys k ≡ true
   pub long : length ys ≡ length xs

@@ -6,7 +6,7 @@
 //! Left to the caller: that the row has enough records.
 
 ghost use Rattle.std.specs.Prelude.{◌<◌, ◌*◌, ◌≡◌, Bool, length};
-ghost use Rattle.em_bits.specs.Bits.{AndsIn, Clears, Fills, has_bit};
+ghost use Rattle.em_bits.specs.Bits.{AndsIn, Clears, Fills, FillsUpTo, has_bit};
 
 use crate::word::{holds, without};
 use em_record::Record;
@@ -25,6 +25,16 @@ pub fn fill(records: &mut [Record])
 {
     for place in 0..records.len() {
         records[place] = ONES;
+    }
+}
+
+/// Makes the bits up to this one 1, and the others of its record.
+pub fn fill_to(records: &mut [Record], last: u64)
+    requires within { last < 256 * length records.old }
+    ensures fills { FillsUpTo last records.old records.new }
+{
+    for at in 0..(last / 256) as usize + 1 {
+        records[at] = ONES;
     }
 }
 

@@ -4,4 +4,4 @@
 mod bits;
 mod word;
 
-pub use bits::{and_in, fill, get};
+pub use bits::{and_in, fill, fill_to, get};

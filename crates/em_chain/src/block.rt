@@ -21,6 +21,7 @@ pub fn put_header(frame: &mut Frame, link: u64, count: u64)
 }
 
 /// Puts the last record of a block into a frame, with the header that counts it.
+#[inline]
 pub fn put_record(frame: &mut Frame, link: u64, count: u64, item: Record)
     requires { count < length frame.old }
     ensures { frame.new ≡ set (set frame.old 0 (block_header link count)) count item }

@@ -98,6 +98,7 @@ impl Reader {
 
     /// The next record, and None exactly at the list's end, where nothing is done. After a fault
     /// the reader may only be abandoned.
+    #[inline]
     pub fn next<D: Device>(&mut self, rig: &mut Rig<'_, D>) -> Result<Option<Record>, EmFault>
         requires sound { Sound (seen D.state rig.old) }
         requires is { IsReader (seen D.state rig.old) self.old }
@@ -154,6 +155,7 @@ impl Reader {
     }
 
     /// Sees that the first block is in the frame.
+    #[inline]
     fn ready<D: Device>(&mut self, rig: &mut Rig<'_, D>) -> Result<(), EmFault>
         requires sound { Sound (seen D.state rig.old) }
         requires is { IsReader (seen D.state rig.old) self.old }
@@ -173,6 +175,7 @@ impl Reader {
     }
 
     /// Loads the first block.
+    #[cold]
     fn fetch<D: Device>(&mut self, rig: &mut Rig<'_, D>) -> Result<(), EmFault>
         requires sound { Sound (seen D.state rig.old) }
         requires is { IsReader (seen D.state rig.old) self.old }
@@ -202,6 +205,7 @@ impl Reader {
     }
 
     /// Takes a record from the frame.
+    #[inline]
     fn step<D: Device>(&mut self, rig: &mut Rig<'_, D>) -> Result<Record, EmFault>
         requires sound { Sound (seen D.state rig.old) }
         requires ready { IsReady (seen D.state rig.old) self.old }
@@ -232,6 +236,7 @@ impl Reader {
     }
 
     /// Takes the last record of a block, and goes on to the next block.
+    #[cold]
     fn last<D: Device>(&mut self, rig: &mut Rig<'_, D>) -> Result<(), EmFault>
         requires sound { Sound (seen D.state rig.old) }
         requires last { IsAtLast (seen D.state rig.old) self.old }

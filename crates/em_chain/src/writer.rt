@@ -163,6 +163,7 @@ impl Writer {
     /// Adds one record at the end. A block is taken only if the list has none, or where its last
     /// one is full, which is then stored. `Full` comes exactly if a block is needed and all are
     /// in use. After a fault the writer may only be abandoned.
+    #[inline]
     pub fn append<D: Device>(&mut self, rig: &mut Rig<'_, D>, item: Record) -> Result<(), EmFault>
         requires sound { Sound (seen D.state rig.old) }
         requires is { IsWriter (seen D.state rig.old) self.old }
@@ -197,6 +198,7 @@ impl Writer {
     }
 
     /// The first block, with this record.
+    #[cold]
     fn first_block<D: Device>(&mut self, rig: &mut Rig<'_, D>, item: Record) -> Result<(), EmFault>
         requires sound { Sound (seen D.state rig.old) }
         requires is { IsWriter (seen D.state rig.old) self.old }
@@ -227,6 +229,7 @@ impl Writer {
     }
 
     /// Stores the last block, with a link to a new one that has this record.
+    #[cold]
     fn next_block<D: Device>(&mut self, rig: &mut Rig<'_, D>, item: Record) -> Result<(), EmFault>
         requires sound { Sound (seen D.state rig.old) }
         requires is { IsWriter (seen D.state rig.old) self.old }
@@ -259,6 +262,7 @@ impl Writer {
     }
 
     /// One more record in the last block.
+    #[inline]
     fn put(&mut self, item: Record)
         requires room { self.old.fill + 1 < length self.old.frame }
         requires len { length self.old.frame ≤ 65536 }

@@ -1,4 +1,4 @@
-ghost use Rattle.std.specs.Prelude.{◌≡◌, ◌+◌, ◌^◌, ◌<◌, [], true, length, drop, IfOk, IsTrue, slice_get};
+ghost use Rattle.std.specs.Prelude.{◌≡◌, ◌+◌, ◌^◌, ◌<◌, ◌≤◌, [], true, length, drop, IfOk, IsTrue, slice_get};
 ghost use Rattle.em_io.specs.Feed.{rest, Takes};
 ghost use Rattle.em_record.specs.Count.{HasCause};
 
@@ -100,5 +100,26 @@ impl Feed {
     {
         self.at += 1;
         self.place += 1;
+    }
+
+    /// The bytes that were read and not taken yet.
+    #[inline]
+    pub fn ahead(&self) -> &[u8]
+        ensures { result.now ≡ self.now.ahead }
+    {
+        &self.buffer[self.at..self.end]
+    }
+
+    /// Takes this many of the bytes that `ahead` gives.
+    #[inline]
+    pub fn skip(&mut self, count: usize)
+        requires ahead { count ≤ length self.old.ahead }
+        requires place { self.old.place + count ≤ 2 ^ 50 }
+        ensures slot { self.new.slot ≡ self.old.slot }
+        ensures ahead { self.new.ahead ≡ drop count self.old.ahead }
+        ensures place { self.new.place ≡ self.old.place + count }
+    {
+        self.at += count;
+        self.place += count as u64;
     }
 }

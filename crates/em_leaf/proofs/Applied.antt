@@ -73,8 +73,8 @@ can_settle {key} {s} {c} {w} load ops n h e =
     let P : ℕ → Type 0 = λ k. CanSettle key s c k w in
     subst P (sym m) (record {
       chain = h.chain;
-      most = h.most;
-      list = h.list;
+      most = omega (arith, h.most, h.few);
+      rises = λ z. (h.list z).rises;
       few = h.few;
       writer = h.writer;
       grow = h.grow;

@@ -50,7 +50,7 @@ pub ops_in_order : (load : List Record) (n : ℕ) → IsAscending (ops_of load n
 ops_in_order load n = order_ascends (take n load)
 
 -- some records, with the first of them
-some_first : (xs : List Record) → 0 < length xs → (x : Record) × (ys : List Record) × (xs ≡ x ∷ ys)
+pub some_first : (xs : List Record) → 0 < length xs → (x : Record) × (ys : List Record) × (xs ≡ x ∷ ys)
 some_first [] h = absurd (omega arith)
 some_first (x ∷ xs) h = (x, xs, refl)
 

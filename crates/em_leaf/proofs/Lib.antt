@@ -12,3 +12,7 @@ pub mod Needs
 pub mod Applied
 pub mod Laws
 pub mod Entries
+pub mod Rewriting
+pub mod Fused
+pub mod Joined
+pub mod Parts

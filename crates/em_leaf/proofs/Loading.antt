@@ -61,17 +61,17 @@ load_some shape i =
     omega arith
 
 -- Both parts have room for all that may result,
-pub limit_room : (n stored ops most load : ℕ) → most ≡ 4 * load → stored ≤ most → ops ≤ load
+pub limit_room : (n stored ops most load : ℕ) → most ≡ 4 * load → stored + ops ≤ most + load
     → n ≤ stored + ops → stored + ops ≤ low_limit_of most n + most
-limit_room n stored ops most load e s o l = ⊎_elim
+limit_room n stored ops most load e s l = ⊎_elim
     (λ (h : most < n). let m = limit_more most n h in omega arith)
     (λ (h : n ≤ most). let m = limit_low most n h in omega arith)
     (lt_or_le most n)
 
 -- and the low part no more than a leaf.
-pub limit_most : (n stored ops most load : ℕ) → most ≡ 4 * load → stored ≤ most → ops ≤ load
+pub limit_most : (n stored ops most load : ℕ) → most ≡ 4 * load → stored + ops ≤ most + load
     → n ≤ stored + ops → low_limit_of most n ≤ most
-limit_most n stored ops most load e s o l = ⊎_elim
+limit_most n stored ops most load e s l = ⊎_elim
     (λ (h : most < n). let m = limit_more most n h in omega arith)
     (λ (h : n ≤ most). let m = limit_low most n h in omega arith)
     (lt_or_le most n)

@@ -367,7 +367,7 @@ module _ (key : Record → Record) (step : Option Record → Record → Step) (o
   lacks_leaf b limit most q v (Err DeviceFault) so can ms lim d h k = tt
   lacks_leaf b limit most q v (Err (Damaged j)) so can ms lim d h k = tt
   lacks_leaf {s} {l} {a} {c} {r} {w} b limit most q v (Err (Full j)) so can ms lim d h k = λ z.
-      let rises = (can.list z).rises in
+      let rises = can.rises z in
       let same = d.items z in
       let P : List Record → Type 0 = RisesByKey key in
       let m = length (answers_to key step (record_at key (chain_items s c)) ops) in

@@ -62,7 +62,7 @@ not_none [] e = refl
 not_none (x ∷ xs) e = absurd (omega arith)
 
 -- The blocks of the parts, at most.
-blocks_fit : (l h n x b c p : ℕ) → 0 < p → l + h ≤ x + n → ceiling (x + 1) p + b ≤ c + 1
+pub blocks_fit : (l h n x b c p : ℕ) → 0 < p → l + h ≤ x + n → ceiling (x + 1) p + b ≤ c + 1
     → ceiling l p + ceiling h p ≤ ceiling n p + c + 2
 blocks_fit l h n x b c p pos few room =
     let k = ceiling_two l h p pos in
@@ -71,7 +71,7 @@ blocks_fit l h n x b c p pos few room =
     omega arith
 
 module _ (key : Record → Record) (step : Option Record → Record → Step) (ops : List Record) where
-  high_blocks_are : (t : RigState) (o : Option (Record × Chain)) (items : List Record)
+  pub high_blocks_are : (t : RigState) (o : Option (Record × Chain)) (items : List Record)
       → 128 ≤ t.pool.shape.block → IsHighPart key t o items
       → high_count o ≤ ceiling (length items) (payload_in t)
   high_blocks_are t None items low h = omega arith
@@ -83,7 +83,7 @@ module _ (key : Record → Record) (step : Option Record → Record → Step) (o
   high_items_are t (Some p) items z h = h.0.items_are z
 
   -- the high part over a frame that came back
-  high_stays : (b t : RigState) (o : Option (Record × Chain)) (items : List Record)
+  pub high_stays : (b t : RigState) (o : Option (Record × Chain)) (items : List Record)
       → GivesFrame [] b t → IsHighPart key b o items
       → IsHighPart key t o items × (IsTrue b.device.told → high_blocks t o ≡ high_blocks b o)
   high_stays b t None items x h = (h, λ z. refl)
@@ -245,7 +245,7 @@ module _ (key : Record → Record) (step : Option Record → Record → Step) (o
       let some = load_some s.pool.shape so.shape in
       let cm = can.most in
       let lm = limit_most lim.total c.count (length ops) most (load_of s.pool.shape) e (omega arith)
-      can.few lim.few in
+      lim.few in
       let li = lim.limit_is in
       let lw = h.low_most in
       let lc = h.low.count_is in
@@ -253,7 +253,7 @@ module _ (key : Record → Record) (step : Option Record → Record → Step) (o
       (wrote_stays x.touches.told ws) in
       let P : List Record → Type 0 = RisesByKey key in
       let settles = λ (z : IsTrue s.device.told).
-      let o = h.settles (d.told ∙ z) (subst P (sym (d.items z)) (can.list z).rises) in o in
+      let o = h.settles (d.told ∙ z) (subst P (sym (d.items z)) (can.rises z)) in o in
       let all = list_with_ops key step (chain_items s c) ops in
       let list = λ (z : IsTrue s.device.told).
       let o : all ≡ h.lows ++ h.highs = ap (λ zs. list_with_ops key step zs ops) (sym (d.items z))
@@ -269,7 +269,7 @@ module _ (key : Record → Record) (step : Option Record → Record → Step) (o
         settles = λ z.
             let n = ap length (list z) in
             let la = length-append h.lows h.highs in
-            let ex = lim.exact z (can.list z).rises in
+            let ex = lim.exact z (can.rises z) in
             let ll = ap length (lows z) in
             let tt_told = x.touches.told ∙ (told ∙ z) in
             let li2 = low_is (length all) (length h.lows) (length h.highs) limit most ex

@@ -7,3 +7,4 @@ pub mod Needs
 pub mod Writing
 pub mod Counting
 pub mod Settling
+pub mod Fusing

@@ -121,7 +121,7 @@ fn settle_leaf<D: Device, S: Settle>(
 }
 
 /// Whether a chain that has no record holds no block, as it must.
-fn is_whole(stored: &Chain) -> bool
+pub(crate) fn is_whole(stored: &Chain) -> bool
     ensures { IsTrue result ↔ (stored.now.count ≡ 0 → stored.now.blocks ≡ 0) }
 {
     stored.len() > 0 || stored.blocks() == 0

@@ -50,7 +50,7 @@ pub(crate) fn low_limit<D: Device, S: Settle>(
 }
 
 /// How many of `count` records the low part may take.
-fn limit_from(count: u64, most: u64) -> u64
+pub(crate) fn limit_from(count: u64, most: u64) -> u64
     ensures { result ≡ low_limit_of most count }
 {
     if count <= most {

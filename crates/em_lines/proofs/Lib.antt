@@ -1,3 +1,4 @@
+mod AheadLemmas
 pub mod LineLemmas
 mod NumberLemmas
 pub mod ReadLaws

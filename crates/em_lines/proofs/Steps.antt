@@ -1,9 +1,9 @@
 -- Readers of one slot, one after another.
-use Rattle.std.proofs.Common.{◌≡◌, ◌∙◌, ap, Bool, subst, length, drop, arith}
+use Rattle.std.proofs.Common.{◌≡◌, ◌∙◌, ap, ℕ, Bool, refl, subst, length, drop, arith}
 use Rattle.em_io.specs.Shelf.{Stand, Leaves}
 use Rattle.em_io.specs.Feed.{Fed, rest}
 use Rattle.std.proofs.lemmas.List.{length-drop}
-use Rattle.em_io.proofs.Takes.{leaves-then}
+use Rattle.em_io.proofs.Takes.{leaves-nothing, leaves-then}
 use Rattle.em_lines.specs.Reads.{Reads}
 
 -- two readers in turn are a reader
@@ -31,4 +31,16 @@ reads_take t f g h a b p e r = record {
   ready = p.ready;
   shorter = λ told. omega (arith, p.shorter told, ap length (r b), length-drop 1 (rest g b));
   lost = p.lost;
+}
+
+-- a reader that takes some of the bytes that are left
+pub reads_skip : (t : Bool) (f g : Fed) (a : Stand) (n : ℕ) → g.slot ≡ f.slot
+    → ((s : Stand) → rest g s ≡ drop n (rest f s)) → Reads t f a g a
+reads_skip t f g a n e r = record {
+  slot = e;
+  leaves = leaves-nothing f.slot a;
+  opened = refl;
+  ready = refl;
+  shorter = λ told. omega (arith, ap length (r a), length-drop n (rest f a));
+  lost = λ told. refl;
 }

@@ -1,3 +1,4 @@
+pub mod Ahead
 pub mod CommandLine
 pub mod Kind
 pub mod LineTaken

@@ -1,5 +1,5 @@
 // The next byte of a text.
-ghost use Rattle.std.specs.Prelude.{◌≡◌, ◌+◌, ◌<◌, ◌^◌, ◌∷◌, [], true, length, drop, IfOk, IsTrue, OnSome, MatchOption};
+ghost use Rattle.std.specs.Prelude.{◌≡◌, ◌+◌, ◌<◌, ◌≤◌, ◌^◌, ◌∷◌, [], true, length, drop, IfOk, IsTrue, OnSome, MatchOption};
 ghost use Rattle.em_record.specs.Count.{HasCause};
 ghost use Rattle.em_io.specs.Feed.{rest};
 ghost use Rattle.em_io.specs.Shelf.{Stand};
@@ -34,4 +34,15 @@ pub fn take_byte(feed: &mut Feed)
     ensures place { feed.new.place ≡ feed.old.place + 1 }
 {
     feed.take();
+}
+
+/// Takes this many of the bytes that are ahead.
+pub fn take_bytes(feed: &mut Feed, count: usize)
+    requires ahead { count ≤ length feed.old.ahead }
+    requires place { feed.old.place + count ≤ 2 ^ 50 }
+    ensures rest { (stand : Stand) → rest feed.new stand ≡ drop count (rest feed.old stand) }
+    ensures slot { feed.new.slot ≡ feed.old.slot }
+    ensures place { feed.new.place ≡ feed.old.place + count }
+{
+    feed.skip(count);
 }

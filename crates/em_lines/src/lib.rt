@@ -2,6 +2,7 @@
 //! fault.
 #![tactic(auto)]
 
+mod ahead;
 mod byte;
 mod line;
 mod numeral;

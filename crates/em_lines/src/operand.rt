@@ -6,7 +6,8 @@ ghost use Rattle.em_lines.specs.Stream.{after_line, word_at, after_word, parts_l
 ghost use Rattle.em_lines.specs.Stops.{Gives};
 ghost use Rattle.em_lines.specs.Reads.{ReadsLine};
 
-use crate::byte::{next_byte, take_byte};
+use crate::ahead::operand_ahead;
+use crate::byte::{next_byte, take_byte, take_bytes};
 use crate::numeral::MOST_DIGITS;
 use crate::text::{LineStop, TextKind};
 use em_io::{Feed, Shelf};
@@ -46,9 +47,10 @@ fn read_number<H: Shelf>(feed: &mut Feed, shelf: &mut H) -> Result<u64, LineStop
     Ok(value as u64)
 }
 
-/// Reads the space before an operand, and the operand.
+/// Reads the space before an operand, and the operand, byte by byte.
 #[tactic(auto, using(crate::proofs::Steps::reads_then, crate::proofs::Steps::reads_take))]
-pub fn read_operand<H: Shelf>(feed: &mut Feed, shelf: &mut H) -> Result<u64, LineStop>
+#[cold]
+fn read_spaced<H: Shelf>(feed: &mut Feed, shelf: &mut H) -> Result<u64, LineStop>
     requires ready { ((H.stand shelf.old).slot feed.old.slot).ready ≡ true }
     requires place { feed.old.place < 2 ^ 48 }
     ensures value { IsTrue H.tells
@@ -68,4 +70,25 @@ pub fn read_operand<H: Shelf>(feed: &mut Feed, shelf: &mut H) -> Result<u64, Lin
             read_number(feed, shelf)
         }
     }
+}
+
+/// Reads the space before an operand, and the operand.
+#[tactic(auto, using(crate::proofs::Steps::reads_skip))]
+pub fn read_operand<H: Shelf>(feed: &mut Feed, shelf: &mut H) -> Result<u64, LineStop>
+    requires ready { ((H.stand shelf.old).slot feed.old.slot).ready ≡ true }
+    requires place { feed.old.place < 2 ^ 48 }
+    ensures value { IsTrue H.tells
+        → Gives result (operand (parts_left (rest feed.old (H.stand shelf.old)))) }
+    ensures parts { IsTrue H.tells → OnOk result (parts_left (rest feed.new (H.stand shelf.new))
+        ≡ drop 1 (parts_left (rest feed.old (H.stand shelf.old)))) }
+    ensures line { IsTrue H.tells → OnOk result (after_line (rest feed.new (H.stand shelf.new))
+        ≡ after_line (rest feed.old (H.stand shelf.old))) }
+    ensures reads { ReadsLine 21 H.tells feed.old (H.stand shelf.old) (H.faults shelf.old)
+        feed.new (H.stand shelf.new) (H.faults shelf.new) result }
+{
+    if let Some(found) = operand_ahead(feed.ahead()) {
+        take_bytes(feed, 1 + found.digits);
+        return Ok(found.value);
+    }
+    read_spaced(feed, shelf)
 }

@@ -66,19 +66,19 @@ entry_put l s k i h =
     ∙ ap (λ fs. take i es ++ fs) (drop-cons es i no_entry h))
     ∙ row_put (tree_at l s) s (take i es) (get_or es i no_entry ∷ drop (suc i) es)
 
-stored_take : (Child : ℕ → Type 0) (s : RigState) (i : ℕ) (es : List Entry) → AreStored Child s es
+pub stored_take : (Child : ℕ → Type 0) (s : RigState) (i : ℕ) (es : List Entry) → AreStored Child s es
     → AreStored Child s (take i es)
 stored_take Child s zero es a = tt
 stored_take Child s (suc i) [] a = tt
 stored_take Child s (suc i) (e ∷ es) a = (a.0, a.1, stored_take Child s i es a.2)
 
-stored_drop : (Child : ℕ → Type 0) (s : RigState) (i : ℕ) (es : List Entry) → AreStored Child s es
+pub stored_drop : (Child : ℕ → Type 0) (s : RigState) (i : ℕ) (es : List Entry) → AreStored Child s es
     → AreStored Child s (drop i es)
 stored_drop Child s zero es a = a
 stored_drop Child s (suc i) [] a = tt
 stored_drop Child s (suc i) (e ∷ es) a = stored_drop Child s i es a.2
 
-past_same : (l : ℕ) (s t : RigState) (xs : List Entry) (p : Place)
+pub past_same : (l : ℕ) (s t : RigState) (xs : List Entry) (p : Place)
     → row_of (tree_at l t) t xs ≡ row_of (tree_at l s) s xs
     → past_entries (tree_at l t) t xs p ≡ past_entries (tree_at l s) s xs p
 past_same l s t [] p e = refl

@@ -7,4 +7,5 @@ pub mod Blocks
 pub mod Least
 pub mod Roots
 pub mod Removed
+pub mod Fusing
 pub mod DeviceRows

@@ -2,3 +2,4 @@ pub mod Node
 pub mod Reading
 pub mod Paths
 pub mod Effects
+pub mod Fusing

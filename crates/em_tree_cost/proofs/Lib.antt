@@ -26,6 +26,7 @@ pub mod Room
 pub mod Rows
 pub mod Services
 pub mod Settling
+pub mod Fusing
 pub mod Total
 pub mod VisitRows
 pub mod Visits

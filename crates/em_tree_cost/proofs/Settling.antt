@@ -33,7 +33,7 @@ big_levels shape k is none big =
     ]
 
 -- with no level there is one leaf
-one_leaf : {shape : ShapeNumbers} {cs : Counters} {t : Sums} → IsShape shape → FitsShape shape cs t
+pub one_leaf : {shape : ShapeNumbers} {cs : Counters} {t : Sums} → IsShape shape → FitsShape shape cs t
     → lev shape (blocks_of shape cs.k) ≤ 0 → t.leaves ≤ 1
 one_leaf {shape = shape} {cs = cs} is a none =
     let size = size_is shape is in
@@ -47,7 +47,7 @@ one_leaf {shape = shape} {cs = cs} is a none =
     omega (arith, a.leaves_are, no_splits)
 
 -- a block is there as soon as there is an operation
-some_block : (shape : ShapeNumbers) (k : ℕ) → IsShape shape → 1 ≤ k → 1 ≤ blocks_of shape k
+pub some_block : (shape : ShapeNumbers) (k : ℕ) → IsShape shape → 1 ≤ k → 1 ≤ blocks_of shape k
 some_block shape k is h =
     let c = blocks_ceil shape k is in
     elim (cases_lt 0 (blocks_of shape k)) [

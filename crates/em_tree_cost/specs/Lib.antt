@@ -5,6 +5,7 @@ pub mod Effects
 pub mod ExtQueue
 pub mod Fat
 pub mod Fees
+pub mod Fusing
 pub mod Held
 pub mod Outline
 pub mod Paid

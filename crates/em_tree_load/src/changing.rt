@@ -10,10 +10,10 @@ ghost use Rattle.em_node.specs.Node.{Is, IsNode, IsNodeBlock, entries_of, level_
 ghost use Rattle.em_tree_walk.specs.Inserted.{CanFollow};
 ghost use Rattle.em_tree_load.specs.LoadRoom.{Takes, new_leaves};
 ghost use Rattle.em_tree_load.specs.NodeLoads.{CanChange, ChangesLeaf, kept_change, parted_change};
-ghost use Rattle.em_tree_load.specs.LeafChanges.{StoresEntries, StoresNewLeaf, divided_at, rebuffered_at};
+ghost use Rattle.em_tree_load.specs.LeafChanges.{StoresEntries, divided_at, rebuffered_at};
 ghost use Rattle.em_tree_load.specs.Peaks.{Peaks};
 
-use crate::leaf_block::store_leaf;
+use crate::leaf_block::{store_leaf, store_new_leaf};
 use em_chain::Chain;
 use em_frames::{Device, Frame};
 use em_leaf::LeafChange;
@@ -220,16 +220,4 @@ fn put_two(frame: &mut Frame, at: usize, low: Record, block: u64)
         buffer: words,
     };
     insert_after(frame, at, entry);
-}
-
-/// Stores the block of a new leaf with this chain. Answers its number. After a fault that block may be
-/// in use.
-fn store_new_leaf<D: Device>(rig: &mut Rig<'_, D>, stored: &Chain) -> Result<u64, EmFault>
-    requires sound { Sound (seen D.state rig.old) }
-    requires free { 0 < (seen D.state rig.old).pool.free }
-    ensures { StoresNewLeaf (seen D.state rig.old) (seen D.state rig.new) stored.now result }
-{
-    let block = rig.alloc()?;
-    store_leaf(rig, block, stored)?;
-    Ok(block)
 }

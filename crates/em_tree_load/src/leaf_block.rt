@@ -8,6 +8,7 @@ ghost use Rattle.em_chain.specs.Chain.{payload_in};
 ghost use Rattle.em_record.specs.Shape.{payload_of};
 ghost use Rattle.em_leaf.specs.Leaf.{leaf_most};
 ghost use Rattle.em_tree_blocks.specs.Node.{leaf_chain};
+ghost use Rattle.em_tree_load.specs.LeafChanges.{StoresNewLeaf};
 ghost use Rattle.em_tree_load.specs.Leaves.{IsLeafBlock, LeadsToLeaf, ReadsLeaf, StoresLeaf, with_leaf};
 ghost use Rattle.em_tree_walk.specs.Reads.{ReadsTested};
 
@@ -52,6 +53,18 @@ pub fn store_leaf<D: Device>(rig: &mut Rig<'_, D>, leaf: u64, stored: &Chain) ->
     let done = rig.store(leaf, &frame);
     rig.give(frame);
     done
+}
+
+/// Stores the block of a new leaf with this chain. Answers its number. After a fault that block may be
+/// in use.
+pub fn store_new_leaf<D: Device>(rig: &mut Rig<'_, D>, stored: &Chain) -> Result<u64, EmFault>
+    requires sound { Sound (seen D.state rig.old) }
+    requires free { 0 < (seen D.state rig.old).pool.free }
+    ensures { StoresNewLeaf (seen D.state rig.old) (seen D.state rig.new) stored.now result }
+{
+    let block = rig.alloc()?;
+    store_leaf(rig, block, stored)?;
+    Ok(block)
 }
 
 /// The chain of a leaf block. Another block is `Damaged`, and so is one of a leaf with more than

@@ -11,7 +11,7 @@ mod removing;
 mod seeking;
 mod settling;
 
-pub use leaf_block::put_leaf;
+pub use leaf_block::{put_leaf, read_leaf, store_leaf, store_new_leaf};
 pub use leaf_taking::take_leaf;
 pub use loading::load_leaf;
 pub use releasing::release_tree;

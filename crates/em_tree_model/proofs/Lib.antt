@@ -5,6 +5,7 @@ pub mod Pouring
 pub mod Meaning
 pub mod Events
 pub mod Splits
+pub mod Fusing
 pub mod Loads
 pub mod Takes
 pub mod Turns

@@ -30,21 +30,21 @@ waiting_join (entry low b c r) u n = ap (λ zs. (waiting_in c ++ b) ++ zs) (wait
     ∙ sym (append_assoc (waiting_in c ++ b) (waiting_in r) (waiting_in u))
 
 -- entries that follow one also follow a later one whose range ends at their first low key
-follow_from : (lo k : Record) (hi : Option Record) (r : Tree) → Follow lo hi r
+pub follow_from : (lo k : Record) (hi : Option Record) (r : Tree) → Follow lo hi r
     → Under (next_low hi r) k → Follow k hi r
 follow_from lo k hi (leaf xs) f u = absurd f
 follow_from lo k hi end f u = tt
 follow_from lo k hi (entry low b c r) f u = (u, f.1)
 
 -- an earlier one too
-follow_lower : (lo lower : Record) (hi : Option Record) (r : Tree) → is_below lo lower ≡ false
+pub follow_lower : (lo lower : Record) (hi : Option Record) (r : Tree) → is_below lo lower ≡ false
     → Follow lo hi r → Follow lower hi r
 follow_lower lo lower hi (leaf xs) l f = absurd f
 follow_lower lo lower hi end l f = tt
 follow_lower lo lower hi (entry low b c r) l f = (to_below lower lo low l f.0, f.1)
 
 module _ (key : Record → Record) where
-  rest_from : (lo k : Record) (hi : Option Record) (r : Tree) → Follow lo hi r
+  pub rest_from : (lo k : Record) (hi : Option Record) (r : Tree) → Follow lo hi r
       → IsTree key r (low_of lo r) hi → IsTree key r (low_of k r) hi
   rest_from lo k hi (leaf xs) f i = absurd f
   rest_from lo k hi end f i = tt
@@ -158,7 +158,7 @@ module _ (key : Record → Record) where
   parts k bk ck rk (entry low b c r) lo hi n e i =
       parts_by k bk ck rk low b c r lo hi n (λ l m j. parts k bk ck rk r l hi n m j) i
 
-  entry_some : (t : Tree) → HasEntry t → IsChild t
+  pub entry_some : (t : Tree) → HasEntry t → IsChild t
   entry_some (leaf xs) e = absurd e
   entry_some end e = absurd e
   entry_some (entry low b c r) e = tt

@@ -1,10 +1,10 @@
 -- Over a device that doesn't tell, a block is asked for its range alone, and a chain for its numbers.
-use Rattle.std.proofs.Common.{◌≡◌, ℕ, ◌+◌, ◌-◌, ◌*◌, ◌/◌, ◌<◌, ◌≤◌, ◌^◌, List, false, refl, sym, ap, ◌∙◌, arith, Bool, IsTrue, Result, Ok, Err, IfOk}
+use Rattle.std.proofs.Common.{◌≡◌, ℕ, ◌+◌, ◌-◌, ◌*◌, ◌/◌, ◌<◌, ◌≤◌, ◌^◌, ◌⊎◌, inl, inr, List, false, refl, sym, ap, subst, ◌∙◌, arith, Bool, IsTrue, Option, Some, None, Result, Ok, Err, IfOk}
 use Rattle.std.proofs.lemmas.Bool.{false≢true}
 use Rattle.em_record.specs.Shape.{ShapeNumbers}
 use Rattle.em_record.specs.declared.record.Record.{Record}
 use Rattle.em_frames.specs.Device.{DeviceState}
-use Rattle.em_frames.specs.Pool.{IsWhole, PoolCounts, SameFrames, fresh_pool}
+use Rattle.em_frames.specs.Pool.{IsWhole, PoolCounts, SameFrames, fresh_pool, load_of}
 use Rattle.em_space.specs.Ledger.{Session}
 use Rattle.em_space.specs.Rig.{RigState, Goes, InUse, Opens}
 use Rattle.em_space.specs.declared.fault.EmFault.{EmFault}
@@ -17,8 +17,10 @@ use Rattle.em_chain.specs.declared.writer.Writer.{Writer}
 use Rattle.em_node.specs.declared.entry.Entry.{Entry}
 use Rattle.em_node.specs.Node.{HasLinks, IsLimited}
 use Rattle.em_empty.specs.Node.{CanEmpty}
+use Rattle.em_balance.specs.Fusing.{CanFusePair, FusesOrShares}
 use Rattle.em_balance.specs.Node.{CanGrowUp, CanSplit, IsFreshEntry}
-use Rattle.em_leaf.specs.Leaf.{IsLeafChain}
+use Rattle.em_leaf.specs.Fusing.{CanFuse}
+use Rattle.em_leaf.specs.Leaf.{IsHighChain, IsLeafChain}
 use Rattle.em_tree_walk.specs.Inserted.{CanAdd}
 use Rattle.em_tree_walk.specs.Stands.{LeadsToTree}
 use Rattle.em_tree_walk.specs.Taken.{HasPlace}
@@ -158,10 +160,57 @@ pub can_remove : {s : RigState} {level k : ℕ} → IsSmall s → k < s.blocks
     → CanRemoveFirst s level k
 can_remove r h = record { leads = leads r h; told = never r.untold }
 
+pub can_pair : {s : RigState} {k i : ℕ} → IsSmall s → k < s.blocks → CanFusePair s k i
+can_pair r h = record { in_use = in_use r h; told = never r.untold }
+
+-- What fusing two nodes left, by its result.
+pub keeps_pair : {T : Type 0} (s t : RigState) (k i : ℕ) (result : Result T EmFault)
+    → FusesOrShares s t k i result → Keeps s t
+keeps_pair s t k i (Ok x) (inl h) = keeps_session h.runs.session h.runs.frames
+keeps_pair s t k i (Ok x) (inr h) = keeps_session h.runs.session h.runs.frames
+keeps_pair s t k i (Err e) h = keeps_goes h.stops.goes
+
+-- a list by its numbers
+pub is_chain : {s : RigState} {c : Chain} → IsSmall s → c.count ≤ 2 ^ 56 → c.blocks ≤ 2 ^ 56
+    → IsChain s c
+is_chain r m n = record { count_most = m; blocks_most = n; told = never r.untold }
+
+few_most : (n m b : ℕ) → m ≡ 64 → b ≡ 128 → n ≤ 4096 → n ≤ 4 * (m / 4 / 2 * b)
+few_most n m b p q h = rw (p, q) h
+
+few_short : (n m b : ℕ) → m ≡ 64 → b ≡ 128 → n < 1024 → n < m / 4 / 2 * b
+few_short n m b p q h = rw (p, q) h
+
+one_short : {s : RigState} (n m : ℕ) → IsSmall s → (n < 1024) ⊎ (m < 1024)
+    → (n < load_of s.pool.shape) ⊎ (m < load_of s.pool.shape)
+one_short {s} n m r (inl h) = inl (few_short n s.pool.shape.frames s.pool.shape.block r.frames r.block h)
+one_short {s} n m r (inr h) = inr (few_short m s.pool.shape.frames s.pool.shape.block r.frames r.block h)
+
+-- two leaves' lists, of which one is short
+pub can_fuse : {key : Record → Record} {s : RigState} {low high : Chain} → IsSmall s
+    → low.count ≤ 4096 → low.blocks ≤ 4096 → high.count ≤ 4096 → high.blocks ≤ 4096
+    → (low.count < 1024) ⊎ (high.count < 1024) → CanFuse key s low high
+can_fuse {key} {s} {low} {high} r m n p q short = record {
+  low_chain = is_chain r (omega arith) (omega arith);
+  high_chain = is_chain r (omega arith) (omega arith);
+  low_most = few_most low.count s.pool.shape.frames s.pool.shape.block r.frames r.block m;
+  high_most = few_most high.count s.pool.shape.frames s.pool.shape.block r.frames r.block p;
+  room = record { count = omega arith; blocks = omega arith };
+  short = one_short low.count high.count r short;
+  lists = never r.untold;
+}
+
 -- a list that is read
 pub is_view : {s : RigState} {c : Chain} → IsSmall s → c.count ≤ 2 ^ 56 → c.blocks ≤ 2 ^ 56
     → IsView s c
 is_view r m n = record { count_most = m; blocks_most = n; told = never r.untold }
+
+-- the list of a high part
+pub is_high : {s : RigState} {o : Option (Record × Chain)} {p : Record × Chain} → IsSmall s
+    → o ≡ Some p → IsHighChain s o → IsView s p.1
+is_high {s} {o} {p} r e h =
+    let P : Option (Record × Chain) → Type 0 = IsHighChain s in
+    let c = subst P e h in is_view r c.chain.count_most c.chain.blocks_most
 
 -- A rig is ready when it was opened,
 pub ready_opened : {d : DeviceState} {n : ℕ} {t : RigState} → d.told ≡ false

@@ -4,6 +4,7 @@ ghost use Rattle.em_tree_part_tests.specs.Ready.{IsReady, Keeps};
 
 use crate::emptied::emptied;
 use crate::firsts::{cut, taken_first};
+use crate::fused_nodes::fused;
 use crate::halves::{grown, halved};
 use crate::loads::loaded;
 use crate::rows::{Answer, Numbers};
@@ -22,6 +23,7 @@ pub enum Call {
     Halve,
     Grow,
     SplitUp,
+    Fuse,
     Release,
     TakeFirst,
     Cut,
@@ -43,6 +45,7 @@ pub fn called<D: Device>(rig: &mut Rig<'_, D>, call: Call, given: Numbers) -> An
         Call::Halve => halved(rig, first, second),
         Call::Grow => grown(rig, first),
         Call::SplitUp => split(rig, first),
+        Call::Fuse => fused(rig, given),
         Call::Release => released(rig, first),
         Call::TakeFirst => taken_first(rig),
         Call::Cut => cut(rig),

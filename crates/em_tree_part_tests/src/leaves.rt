@@ -137,7 +137,7 @@ fn puts(alloc: Global, first: u64, count: u64) -> Result<Vec<Record>, AllocError
 }
 
 /// The stored records of the keys from one on, below another.
-fn kept(alloc: Global, first: u64, end: u64) -> Result<Vec<Record>, AllocError> {
+pub fn kept(alloc: Global, first: u64, end: u64) -> Result<Vec<Record>, AllocError> {
     let mut records = Vec::new(alloc);
     for key in first..end {
         records.push(record(key, 0, 0, key))?;

@@ -12,6 +12,10 @@ mod emptied;
 #[cfg(test)]
 mod firsts;
 #[cfg(test)]
+mod fused_leaves;
+#[cfg(test)]
+mod fused_nodes;
+#[cfg(test)]
 mod halves;
 #[cfg(test)]
 mod leaves;

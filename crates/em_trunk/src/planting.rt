@@ -6,9 +6,9 @@ ghost use Rattle.em_space.specs.Seen.{seen};
 ghost use Rattle.em_node.specs.Node.{Is};
 ghost use Rattle.em_tree_model.specs.Ranges.{least_record};
 ghost use Rattle.em_balance.specs.Node.{entry_to};
-ghost use Rattle.em_balance.specs.Stored.{StoresNew};
 ghost use Rattle.em_trunk.specs.Planting.{Plants};
 
+use em_balance::store_new;
 use em_chain::Chain;
 use em_frames::{Device, Frame};
 use em_node::{Entry, fresh, insert};
@@ -38,9 +38,9 @@ fn plant_in<D: Device>(rig: &mut Rig<'_, D>, frame: &mut Frame) -> Result<u64, E
     ensures plants { Plants (seen D.state rig.old) (seen D.state rig.new) result }
 {
     put_leaf(frame, &Chain::empty());
-    let leaf = store_frame(rig, frame)?;
+    let leaf = store_new(rig, frame)?;
     put_first(frame, leaf);
-    store_frame(rig, frame)
+    store_new(rig, frame)
 }
 
 /// Makes a frame a node of level 1 over a leaf, with nothing in the leaf's buffer.
@@ -60,16 +60,4 @@ fn put_first(frame: &mut Frame, leaf: u64)
             buffer: Chain::empty().words(),
         },
     );
-}
-
-/// Stores a frame in a new block, and answers its number. After a fault that block may be in use.
-fn store_frame<D: Device>(rig: &mut Rig<'_, D>, frame: &Frame) -> Result<u64, EmFault>
-    requires sound { Sound (seen D.state rig.old) }
-    requires len { length frame.now ≡ (seen D.state rig.old).pool.shape.block }
-    requires free { 0 < (seen D.state rig.old).pool.free }
-    ensures { StoresNew (seen D.state rig.old) (seen D.state rig.new) frame.now result }
-{
-    let block = rig.alloc()?;
-    rig.store(block, frame)?;
-    Ok(block)
 }

@@ -11,7 +11,7 @@ use Rattle.aig_order.proofs.by_bits.mark_pass.Goals as goal
 pub recall-requires-clause-within : goal.recall-requires-clause-within
 recall-requires-clause-within g c =
     let fits = c.requires.within in
-    let long = c.fill.ensures.fills.long in
+    let long = c.fill_to.ensures.fills.long in
     omega (arith, fits, long)
 
 pub recall-requires-clause-free : goal.recall-requires-clause-free
@@ -30,7 +30,7 @@ rewrite-requires-clause-can g c = looked_can c.requires.can c.in_ok-recall.ensur
 pub rewrite-requires-clause-within : goal.rewrite-requires-clause-within
 rewrite-requires-clause-within g c =
     let fits = c.requires.within in
-    let long = c.fill.ensures.fills.long in
+    let long = c.fill_to.ensures.fills.long in
     let same = c.in_ok-recall.ensures.long in
     omega (arith, fits, long, same)
 
@@ -45,9 +45,9 @@ returns-in_err-list-clause-marks g c =
 pub returns-clause-marks : goal.returns-clause-marks
 returns-clause-marks g c =
     let fits = c.requires.within in
-    let fills = c.fill.ensures.fills in
+    let fills = c.fill_to.ensures.fills in
     let long = fills.long in
     let e = c.in_ok-recall.ensures.recalls in
     marks_made c.args.last c.args.next c.args.list c.in_ok-list.list _ c.requires.can e.0 e.1
-    (none_noted c.args.last (omega (arith, fits, long)) fills)
+    (none_noted c.args.last fills)
     (rw c.at_constant-standing.ensures at c.in_ok-list.ensures.rewrites)

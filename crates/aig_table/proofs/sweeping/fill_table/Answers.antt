@@ -7,7 +7,7 @@ use Rattle.aig_table.proofs.Followed.{follow_as}
 use Rattle.aig_table.proofs.sweeping.fill_table.Goals as goal
 
 pub begin-requires : goal.begin-requires
-begin-requires g c = let fits = c.requires.can.fits in record { some = omega (arith, fits) }
+begin-requires g c = let fits = c.requires.can.fits in record { within = omega (arith, fits) }
 
 pub load-requires-clause-within : goal.load-requires-clause-within
 load-requires-clause-within g c =

@@ -39,7 +39,7 @@ write_leaf-change-requires-clause-limits g c =
     let cm = c.requires.can.most in
     let room = limit_room l.total c.args.stored.count (length c.args.ops.now)
     (4 * c.wide.result * c.block.result) (load_of s.pool.shape) most (omega arith)
-    c.requires.can.few l.few in
+    l.few in
     let e = l.limit_is in
     let n = ap (λ (k : Chain). k.count) c.taking-reader.ensures.opens.words in
     omega arith

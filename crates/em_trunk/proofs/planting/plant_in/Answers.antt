@@ -11,6 +11,6 @@ pub returns-clause-plants : goal.returns-clause-plants
 returns-clause-plants g c =
     let long = c.requires.sound.shape in
     plants_last {s = seen g.D.Device.state c.args.rig.now}
-    (seen g.D.Device.state c.store_frame-2.new.rig) _ c.store_frame-2.result
+    (seen g.D.Device.state c.store_new-2.new.rig) _ c.store_new-2.result
     (omega (arith, long.block_low, c.requires.len)) c.in_ok-leaf.ensures c.put_leaf.ensures.is
-    c.empty.ensures c.put_first.ensures.is c.store_frame-2.ensures
+    c.empty.ensures c.put_first.ensures.is c.store_new-2.ensures

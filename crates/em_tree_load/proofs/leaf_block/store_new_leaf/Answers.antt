@@ -1,5 +1,5 @@
 use Rattle.em_tree_load.proofs.Alterations.{new_of, new_stops, new_stored, unallotted}
-use Rattle.em_tree_load.proofs.changing.store_new_leaf.Goals as goal
+use Rattle.em_tree_load.proofs.leaf_block.store_new_leaf.Goals as goal
 
 pub returns-in_err-block : goal.returns-in_err-block
 returns-in_err-block g c =

@@ -2,7 +2,7 @@ use Rattle.std.proofs.Common.{◌≡◌, ◌≤◌, ◌-◌, ◌+◌, ◌++◌, 
 use Rattle.em_io.specs.Feed.{rest}
 use Rattle.em_lines.specs.Stream.{word_at, after_word}
 use Rattle.em_lines.specs.Reads.{Reads}
-use Rattle.em_lines.proofs.word.read_word.Given as goal
+use Rattle.em_lines.proofs.word.read_letters.Given as goal
 
 abbrev pub invariant-loop-byte : goal.invariant-loop-byte
 invariant-loop-byte g l = record {
