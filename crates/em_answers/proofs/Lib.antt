@@ -9,3 +9,4 @@ pub mod ReadingStops
 pub mod Running
 pub mod Served
 pub mod ServiceMoves
+pub mod Waiting

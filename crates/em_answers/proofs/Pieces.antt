@@ -4,7 +4,7 @@ use Rattle.std.proofs.lemmas.List.{append-nil}
 use Rattle.std.specs.Prelude.{IsErr, OnOk}
 use Rattle.em_io.specs.Sink.{IsRule, Sent, SentPart}
 use Rattle.em_io.specs.declared.sink.Sink.{Ghosts as SinkGhosts}
-use Rattle.em_io.proofs.Sent.{all-sent, part-of, part-more, part-rest, sent-all, sent-more, sent-rest}
+use Rattle.em_io.proofs.Sent.{all-sent, part-of, part-more, part-rest, sent-all, sent-more, sent-nothing, sent-rest}
 use Rattle.em_space.specs.Rig.{RigState, BlockCause, Touches}
 use Rattle.em_space.specs.declared.fault.EmFault.{EmFault}
 use Rattle.em_space.specs.declared.fault.EmFault.TheVariants as em
@@ -53,6 +53,12 @@ module _ {T : Type 0} {took : List ℕ → List ℕ → List ℕ} {whole old new
 
 module _ {IsState : List ℕ → Type 0} {took : List ℕ → List ℕ → List ℕ} (rule : IsRule IsState took)
     {old : List ℕ} (ok : IsState old) where
+  -- There was nothing to print.
+  pub into_nothing : {T : Type 0} (pending more : List ℕ) (x : T) → more ≡ []
+      → PrintsInto took (pending ++ more) old old pending (Ok x)
+  into_nothing {T} pending more x e =
+      into_all x (rw (e, append-nil pending) (sent-nothing rule ok pending refl))
+
   -- What is pending is a front of what is left: of a part more a front was printed.
   into_part : {whole mid left new pending : List ℕ} (front a more : List ℕ)
       → Sent took old whole mid left → left ≡ front ++ (a ++ more)

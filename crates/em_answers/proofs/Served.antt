@@ -1,9 +1,8 @@
 -- A queue file that is answered command by command.
 use Rattle.std.proofs.Common.{◌≡◌, ℕ, ◌+◌, ◌-◌, ◌≤◌, ◌^◌, List, ◌∷◌, ◌++◌, ap, ◌∙◌, arith, Result, Ok, Err, IfErr, inl, inr, ⊎_elim, ◌<◌, subst, sym, IfSome, Option, None, Some}
 use Rattle.std.proofs.lemmas.Grind.{flat_map-append}
-use Rattle.std.specs.Prelude.{IsErr}
 use Rattle.std.specs.Result.{IsErrAnd}
-use Rattle.em_io.specs.Sink.{Sent, SentPart}
+use Rattle.em_io.specs.Sink.{Sent}
 use Rattle.em_record.specs.declared.record.Record.{Record}
 use Rattle.em_model.specs.Queue.{Queue, queue_answer_of, queue_answers_from, queue_step}
 use Rattle.em_model.specs.declared.command.Command.{Command}
@@ -11,20 +10,20 @@ use Rattle.em_space.specs.Queue.{Pays, QueueCounts, Served, Serves, LacksBlocks}
 use Rattle.em_space.specs.Rig.{RigState}
 use Rattle.em_space.specs.declared.fault.EmFault.TheVariants.{DeviceFault, Full, Damaged}
 use Rattle.em_answers.specs.Answer.{popped_line, queue_text}
-use Rattle.em_answers.specs.Serve.{Answers, Follows, IsAlone, IsFilledBy, ServeCause}
-use Rattle.em_ends.specs.Stop.{IfStopsFull, OnFault}
+use Rattle.em_answers.specs.Serve.{Follows, IsAlone, IsFilledBy, ServeCause}
+use Rattle.em_ends.specs.Stop.{IfStopsFull}
 use Rattle.em_ends.specs.declared.stop.Stop.{Stop}
 use Rattle.em_ends.specs.declared.stop.Stop.TheVariants.{Fault, Read, Write, Em}
 use Rattle.em_answers.proofs.Listing.{full_paid}
 use Rattle.em_record.specs.Shape.{ShapeNumbers}
 use Rattle.em_space.specs.declared.queue.Queue.{Ghosts as QueueGhosts}
 
--- The answers so far went out, and those to the commands that are left are to go.
+-- The answers so far went out or are pending, and those to the commands that are left are to go.
 pub record Serving (took : List ℕ → List ℕ → List ℕ) (whole : List ℕ) (left : List Command)
-    (items : List Record) (pushes : ℕ) (old new : List ℕ) : Type 0 where
+    (items : List Record) (pushes : ℕ) (old new pending : List ℕ) : Type 0 where
   pub model : Queue
   pub follows : Follows items pushes model
-  pub sent : Sent took old whole new (queue_text (queue_answers_from model left))
+  pub sent : Sent took old whole new (pending ++ queue_text (queue_answers_from model left))
 
 -- the answer to the next command, and those to the others
 pub next_answer : (q : Queue) (c : Command) (left cs : List Command) → left ≡ c ∷ cs
@@ -91,35 +90,3 @@ pub stops_by : {T : Type 0} (P : ℕ → Type 0) (result : Result T Stop) (stop 
     → IsErrAnd result (λ e. e ≡ stop) → IfStopsFull stop P → IfErr result (λ e. IfStopsFull e P)
 stops_by P (Ok x) stop is h = tt
 stops_by P (Err e) stop is h = subst (λ (x : Stop). IfStopsFull x P) (sym is) h
-
--- A call that answers one command stops at no fault of the text.
-
-abbrev NoFault : Stop → Type 0
-NoFault stop = OnFault stop ⊥
-
-no_fault : (faults after : ℕ) (s t : RigState) (stop : Stop) → ServeCause faults after s t stop
-    → NoFault stop
-no_fault faults after s t (Fault kind line) cause = cause
-no_fault faults after s t Read cause = tt
-no_fault faults after s t Write cause = tt
-no_fault faults after s t (Em fault) cause = tt
-
-never : (stop : Stop) (P : Type 0) → NoFault stop → OnFault stop P
-never (Fault kind line) P h = absurd h
-never Read P h = tt
-never Write P h = tt
-never (Em fault) P h = tt
-
--- what went out where the run stopped while it answered a command
-pub stopped : {T : Type 0} {took : List ℕ → List ℕ → List ℕ} {text old new : List ℕ}
-    (faults after : ℕ) (s t : RigState) (stop : Stop) (result : Result T Stop) → IsErr result
-    → IsErrAnd result (λ e. e ≡ stop) → ServeCause faults after s t stop
-    → SentPart took old text new → Answers took text old new result
-stopped faults after s t stop (Ok x) e and cause p = cc
-stopped {T} {took} {text} {old} {new} faults after s t stop (Err other) e and cause p = record {
-  all = tt;
-  fault =
-      let same : other ≡ stop = and in
-      rw same (never stop (new ≡ took old text) (no_fault faults after s t stop cause));
-  part = p;
-}

@@ -5,10 +5,11 @@ use Rattle.em_space.specs.Queue.{Shares, QueueCounts}
 use Rattle.em_space.specs.Rig.{Cause, RigState, Sound, Touches}
 use Rattle.em_space.specs.declared.queue.Queue.{Ghosts as QueueGhosts}
 use Rattle.em_record.specs.Count.{Rose}
-use Rattle.em_io.specs.Sink.{SentPart}
+use Rattle.em_io.specs.Sink.{Sent, SentPart}
 use Rattle.em_model.specs.Queue.{Item, Queue, AreInOrder}
 use Rattle.em_record.specs.Order.{in_order}
 use Rattle.em_record.specs.declared.record.Record.{Record}
+use Rattle.em_answers.specs.Print.{PrintsInto}
 use Rattle.em_ends.specs.Stop.{OnFault}
 use Rattle.em_ends.specs.declared.stop.Stop.{Stop}
 use Rattle.em_ends.specs.declared.stop.Stop.TheVariants.{Fault, Read, Write, Em}
@@ -38,6 +39,13 @@ pub record Answers {T : Type 0} (took : List ℕ → List ℕ → List ℕ) (tex
   pub all : OnOk result (new ≡ took old text)
   pub fault : IfErr result (λ stop. OnFault stop (new ≡ took old text))
   pub part : SentPart took old text new
+
+-- What answers printed that may wait: the text of all answers went out or is pending if the run was done or stopped
+-- at a faulty line; else, unless the output failed, a front of it.
+pub record AnswersInto (took : List ℕ → List ℕ → List ℕ) (text old new pending : List ℕ)
+    (result : Result (Unit {0}) Stop) : Type 0 where
+  pub prints : PrintsInto took text old new pending result
+  pub fault : IfErr result (λ stop. OnFault stop (Sent took old text new pending))
 
 -- The queue is alone on the rig: all blocks in use are its own, at no moment more than its number
 -- says; each was moved or isn't stored yet; and all moves were made in its calls.

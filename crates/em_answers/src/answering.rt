@@ -50,7 +50,7 @@ pub fn run_service<D: Device, H: Shelf, W: Sink, S: Service>(
 }
 
 /// Answers the commands of the open slot by a queue that was never called, on a rig of which all blocks
-/// in use are the queue's, and prints each answer when its pop is read. The queue is given up.
+/// in use are the queue's, and prints each answer before more of the input is read. The queue is given up.
 pub fn run_queue<D: Device, H: Shelf, W: Sink, Q: Queue>(
     rig: &mut Rig<'_, D>,
     mut queue: Q,

@@ -1,10 +1,10 @@
 //! Answers that are printed, one line for each:
 //!
 //!     map, stab   records -> lines -> a printer's buffer -> the output, in pieces of 4096 bytes
-//!     queue       a pop -> its line -> the output
+//!     queue       a pop -> its line -> a printer's buffer -> the output, before more of the input is read
 //!
 //! Kept here: at each exit of `print_answers` what was printed before was sent, unless the output failed (at a
-//! stop of the rig the contract says a front of it).
+//! stop of the rig the contract says a front of it). The lines of pops are sent in `serving`.
 
 ghost use Rattle.std.specs.Prelude.{◌≡◌, ◌+◌, ◌<◌, ◌≤◌, ◌++◌, ◌∷◌, [], None, decimal, option_to_list, IfNone, IfOk, IsTrue, OnOk};
 ghost use Rattle.em_record.specs.Count.{HasCause};
@@ -13,7 +13,7 @@ ghost use Rattle.em_space.specs.Rig.{Sound, Goes};
 ghost use Rattle.em_space.specs.Seen.{seen};
 ghost use Rattle.em_chain.specs.Chain.{IsChain, chain_items};
 ghost use Rattle.em_chain.specs.Reader.{owed, reader_items};
-ghost use Rattle.em_answers.specs.Answer.{answer_line, further_words, map_text, numbers_line, popped_line, popped_word, stab_text};
+ghost use Rattle.em_answers.specs.Answer.{answer_line, further_words, map_text, numbers_line, popped_line, stab_text};
 ghost use Rattle.em_answers.specs.Print.{IsBehind, Looks, PrintStops, PrintsInto, ReadsOn, ReadsWithin, answer_in, answers_in, groups_from, intervals_at, popped_in, records_text};
 ghost use Rattle.em_ends.specs.Stop.{Prints};
 
@@ -247,38 +247,23 @@ fn add_pair<W: Sink>(printer: &mut Printer, out: &mut W, key: u64, value: u64) -
     printer.add_number(out, value)
 }
 
-/// Adds an answer of a queue to the line.
-fn add_popped<W: Sink>(
+/// Adds the line of an answer of a queue.
+pub fn add_popped<W: Sink>(
     printer: &mut Printer,
     out: &mut W,
     item: Option<Record>,
 ) -> Result<(), Failed>
     ensures sent { OnOk result (Sent W.took (W.state out.old)
-        (printer.old ++ popped_word (popped_in item)) (W.state out.new) printer.new) }
+        (printer.old ++ popped_line (popped_in item)) (W.state out.new) printer.new) }
     ensures part { SentPart W.took (W.state out.old)
-        (printer.old ++ popped_word (popped_in item)) (W.state out.new) }
+        (printer.old ++ popped_line (popped_in item)) (W.state out.new) }
     ensures cause { HasCause (W.faults out.old) (W.faults out.new) result }
 {
     match item {
-        Some(item) => add_pair(printer, out, item.a, item.c),
-        None => printer.add(out, b"-"),
+        Some(item) => {
+            add_pair(printer, out, item.a, item.c)?;
+            printer.add(out, b"\n")
+        }
+        None => printer.add(out, b"-\n"),
     }
-}
-
-/// Prints the line of an answer of a queue, by a printer with nothing pending.
-pub fn print_popped<W: Sink>(
-    printer: &mut Printer,
-    out: &mut W,
-    item: Option<Record>,
-) -> Result<(), Failed>
-    requires none { printer.old ≡ [] }
-    ensures all { OnOk result
-        (W.state out.new ≡ W.took (W.state out.old) (popped_line (popped_in item))) }
-    ensures none { OnOk result (printer.new ≡ []) }
-    ensures part { SentPart W.took (W.state out.old) (popped_line (popped_in item))
-        (W.state out.new) }
-    ensures cause { HasCause (W.faults out.old) (W.faults out.new) result }
-{
-    add_popped(printer, out, item)?;
-    printer.end_line(out)
 }

@@ -4,7 +4,7 @@ use Rattle.em_chain.specs.Reader.{reader_items}
 use Rattle.em_answers.specs.Answer.{answer_line, map_text}
 use Rattle.em_answers.specs.Print.{answer_in, answers_in}
 use Rattle.em_answers.proofs.Looking.{goes_looking, looks_next, reads_on}
-use Rattle.em_ends.proofs.Printing.{sent_line, part_step, sent_step}
+use Rattle.em_ends.proofs.Printing.{part_step, sent_step}
 use Rattle.em_answers.proofs.print.print_map.Goals as goal
 use Rattle.em_answers.proofs.Pieces.{into_failed, into_stopped}
 

@@ -7,7 +7,7 @@ use Rattle.em_chain.specs.Reader.{reader_items}
 use Rattle.em_answers.specs.Answer.{numbers_line, stab_text}
 use Rattle.em_answers.specs.Print.{groups_from, intervals_at, pairs_behind}
 use Rattle.em_answers.proofs.PairLaws.{groups_next}
-use Rattle.em_ends.proofs.Printing.{prints_part, sent_line, sent_step}
+use Rattle.em_ends.proofs.Printing.{sent_step}
 use Rattle.em_answers.proofs.print.print_stabs.Goals as goal
 use Rattle.em_answers.proofs.Pieces.{into_step, into_stopped}
 

@@ -1,4 +1,4 @@
-use Rattle.std.proofs.Common.{◌≡◌, [], ◌+◌, ◌-◌, ◌*◌, ◌≤◌, ◌^◌, IsTrue}
+use Rattle.std.proofs.Common.{◌≡◌, ◌+◌, ◌-◌, ◌*◌, ◌≤◌, ◌^◌, IsTrue}
 use Rattle.em_io.specs.Feed.{rest}
 use Rattle.em_space.specs.Held.{Within}
 use Rattle.em_space.specs.Numbered.{NumberedTo}
@@ -13,10 +13,10 @@ use Rattle.em_answers.specs.Serve.{IsAlone}
 use Rattle.em_lines.specs.declared.text.FileKind.TheVariants.{Queue}
 use Rattle.em_lines.proofs.ReadLaws.{Counted}
 use Rattle.em_answers.proofs.Served.{Serving}
-use Rattle.em_answers.proofs.serving.serve.Given as goal
+use Rattle.em_answers.proofs.serving.serve_lines.Given as goal
 
-abbrev pub invariant-loop-next : goal.invariant-loop-next
-invariant-loop-next g l =
+abbrev pub invariant-loop-feed : goal.invariant-loop-feed
+invariant-loop-feed g l =
     let first = seen g.D.Device.state l.fn.rig in
     let now = seen g.D.Device.state l.rig in
     let text = rest l.fn.feed (g.H.Shelf.stand l.fn.shelf) in
@@ -37,7 +37,6 @@ invariant-loop-next g l =
       limit : c.len ≤ c.n;
       pushes : l.pushes ≤ c.n;
       numbers : IsTrue now.device.told → NumberedTo l.pushes (g.Q.Queue.items l.queue now);
-      none : l.printer ≡ [];
       place : l.feed.place ≤ 48 * c.n;
       reads : Reads g.H.Shelf.tells l.fn.feed (g.H.Shelf.stand l.fn.shelf)
           l.feed (g.H.Shelf.stand l.shelf);
@@ -49,8 +48,9 @@ invariant-loop-next g l =
       serving : IsTrue g.H.Shelf.tells → IsTrue first.device.told
           → Serving g.W.Sink.took (text_for Queue (good_commands Queue text))
           (parsed_from Queue (c.n + 1) (lines_of left)).good
-          (g.Q.Queue.items l.queue now) l.pushes (g.W.Sink.state l.fn.out) (g.W.Sink.state l.out);
+          (g.Q.Queue.items l.queue now) l.pushes (g.W.Sink.state l.fn.out) (g.W.Sink.state l.out)
+          l.printer;
     }
 
-abbrev pub decreases-loop-next : goal.decreases-loop-next
-decreases-loop-next g l = 2 ^ 40 + 1 - l.number
+abbrev pub decreases-loop-feed : goal.decreases-loop-feed
+decreases-loop-feed g l = 2 ^ 40 + 1 - l.number
