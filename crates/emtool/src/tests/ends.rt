@@ -137,87 +137,88 @@ fn runs_end_as_their_rows_say(rt: HostRuntime) -> Result<(), Fail> {
     Ok(())
 }
 
+/// Whether a map of these commands is done and prints these lines, and whether its tree has several leaves as is said.
+fn has_leaves(rt: &HostRuntime, field: &str, lines: &str, several: bool) -> Result<bool, Fail> {
+    let text = text_of(rt.alloc(), field)?;
+    let lines = text_of(rt.alloc(), lines)?;
+    let ended = run(rt, LARGE, text.bytes(), b"", Wrong::Nothing, 0)?;
+    Ok(
+        ended.status == Status::Done
+            && ended.out.bytes() == lines.bytes()
+            && ended.device.parted == several,
+    )
+}
+
+/// Whether the run of the map of many keys, if no block is as it was written, names the first one that is read, and prints
+/// nothing.
+fn names_the_first_lost(rt: &HostRuntime) -> Result<bool, Fail> {
+    let text = text_of(rt.alloc(), MANY)?;
+    let ended = run(rt, LARGE, text.bytes(), b"", Wrong::Lost, 0)?;
+    let block = ended.device.first.unwrap_or(u64::MAX);
+    Ok(ended.status == Status::Damaged { block } && ended.out.bytes().is_empty())
+}
+
 /// A leaf has at most 4096 records at this shape, so that 20,000 keys want several, under one node. A map of
-/// one key has one leaf. If no block of the map of many keys is as it was written, the first one that is read is named,
-/// and nothing is printed.
+/// one key has one leaf.
 #[test]
 fn a_map_of_many_keys_has_several_leaves(rt: HostRuntime) -> Result<(), Fail> {
-    for (field, lines, parted) in [(MANY, "1/", true), ("put 1 2/get 1/", "2/", false)] {
-        let text = text_of(rt.alloc(), field)?;
-        let lines = text_of(rt.alloc(), lines)?;
-        let ended = run(&rt, LARGE, text.bytes(), b"", Wrong::Nothing, 0)?;
-        assert!(rt; ended.status == Status::Done);
-        assert_eq!(rt; ended.out.bytes(), lines.bytes());
-        assert!(rt; ended.device.parted == parted);
-    }
-    let text = text_of(rt.alloc(), MANY)?;
-    let ended = run(&rt, LARGE, text.bytes(), b"", Wrong::Lost, 0)?;
-    let block = ended.device.first.unwrap_or(u64::MAX);
-    assert!(rt; ended.status == Status::Damaged { block });
-    assert_eq!(rt; ended.out.bytes(), b"".as_slice());
+    assert!(rt; has_leaves(&rt, MANY, "1/", true)?);
+    assert!(rt; has_leaves(&rt, "put 1 2/get 1/", "2/", false)?);
+    assert!(rt; names_the_first_lost(&rt)?);
     Ok(())
 }
 
+/// Whether a run prints these lines if its last call of the device fails. A whole run calls the device as often as it moves
+/// blocks, and once to begin it.
+fn sends_what_waits(rt: &HostRuntime, words: &str, field: &str, lines: &str) -> Result<bool, Fail> {
+    let text = text_of(rt.alloc(), field)?;
+    let lines = text_of(rt.alloc(), lines)?;
+    let whole = run(rt, words, text.bytes(), b"", Wrong::Nothing, 0)?;
+    let last = whole.device.kept.moves();
+    let ended = run(rt, words, text.bytes(), b"", Wrong::Device, last)?;
+    Ok(ended.status == Status::DeviceFault && ended.out.bytes() == lines.bytes())
+}
+
 /// Of 3000 answers, 127 a block, the last call reads the last 79. When it fails a piece of 4096 bytes was sent, and the
-/// other lines that were printed are sent then. Whether the line of a stab goes on would be seen by the next pair. A
-/// whole run calls the device as often as it moves blocks, and once to begin it.
+/// other lines that were printed are sent then. Whether the line of a stab goes on would be seen by the next pair.
 #[test]
 fn lines_that_wait_are_sent_at_a_stop(rt: HostRuntime) -> Result<(), Fail> {
-    let rows = [
-        (
-            "map --block=128 --frames=64 a",
-            "put 1 2/3000*get 1/",
-            "2921*2/",
-        ),
-        (
-            "stab --block=128 --frames=64 a",
-            "iv 1 2/3000*stab 1/",
-            "2920*0/0",
-        ),
-    ];
-    for (words, field, lines) in rows {
-        let text = text_of(rt.alloc(), field)?;
-        let lines = text_of(rt.alloc(), lines)?;
-        let whole = run(&rt, words, text.bytes(), b"", Wrong::Nothing, 0)?;
-        let last = whole.device.kept.moves();
-        let ended = run(&rt, words, text.bytes(), b"", Wrong::Device, last)?;
-        assert!(rt; ended.status == Status::DeviceFault);
-        assert_eq!(rt; ended.out.bytes(), lines.bytes());
-    }
+    let map = "map --block=128 --frames=64 a";
+    assert!(rt; sends_what_waits(&rt, map, "put 1 2/3000*get 1/", "2921*2/")?);
+    let stab = "stab --block=128 --frames=64 a";
+    assert!(rt; sends_what_waits(&rt, stab, "iv 1 2/3000*stab 1/", "2920*0/0")?);
     Ok(())
+}
+
+/// Whether the run of a command over a device that tells is done, and prints these lines.
+fn is_answered(rt: &HostRuntime, command: &str, field: &str, lines: &str) -> Result<bool, Fail> {
+    let alloc = rt.alloc();
+    let mut words = Vec::new(alloc);
+    words.push(String::from_str(alloc, command)?)?;
+    words.push(String::from_str(alloc, "a")?)?;
+    let text = text_of(alloc, field)?;
+    let lines = text_of(alloc, lines)?;
+    let mut device = MemDevice::new(alloc, &[])?;
+    let mut shelf = MemShelf::new(alloc, 3, &[])?;
+    shelf.add("a", text.bytes())?;
+    let mut out = MemSink::new(alloc, 3, &[])?;
+    let mut err = MemSink::new(alloc, 7, &[])?;
+    let status = emtool(
+        &words,
+        Grant::new(alloc),
+        &mut device,
+        &mut shelf,
+        &mut out,
+        &mut err,
+    );
+    Ok(status == Status::Done && out.bytes() == lines.bytes())
 }
 
 /// The other runs go over a device that doesn't tell.
 #[test]
 fn commands_are_answered_over_a_device_that_tells(rt: HostRuntime) -> Result<(), Fail> {
-    let alloc = rt.alloc();
-    let rows = [
-        ("map", "put 5 10/get 5/get 6/", "10/-/"),
-        ("queue", "push 4 1/pop/pop/", "4 1/-/"),
-        ("stab", "iv 0 5/stab 5/stab 6/", "0/-/"),
-    ];
-    for (command, field, lines) in rows {
-        let mut words = Vec::new(alloc);
-        for word in [command, "a"] {
-            words.push(String::from_str(alloc, word)?)?;
-        }
-        let text = text_of(alloc, field)?;
-        let lines = text_of(alloc, lines)?;
-        let mut device = MemDevice::new(alloc, &[])?;
-        let mut shelf = MemShelf::new(alloc, 3, &[])?;
-        shelf.add("a", text.bytes())?;
-        let mut out = MemSink::new(alloc, 3, &[])?;
-        let mut err = MemSink::new(alloc, 7, &[])?;
-        let status = emtool(
-            &words,
-            Grant::new(alloc),
-            &mut device,
-            &mut shelf,
-            &mut out,
-            &mut err,
-        );
-        assert!(rt; status == Status::Done);
-        assert_eq!(rt; out.bytes(), lines.bytes());
-    }
+    assert!(rt; is_answered(&rt, "map", "put 5 10/get 5/get 6/", "10/-/")?);
+    assert!(rt; is_answered(&rt, "queue", "push 4 1/pop/pop/", "4 1/-/")?);
+    assert!(rt; is_answered(&rt, "stab", "iv 0 5/stab 5/stab 6/", "0/-/")?);
     Ok(())
 }
