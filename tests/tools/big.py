@@ -10,7 +10,8 @@ tests/tools/big.py --plain KIND COUNT         compares the baselines with the pl
                                               program; those that sort also with blocks of 4 records and 3 frames
 
 Options, anywhere: --asks=PERCENT of the commands are gets, pops or stabs (25), also as 0.1; --keys=N, keys and points are below
-it (COUNT); --start=N, another file of the same kind (1); of `eval` --latches=N (32) and --steps=N, lines of the stimulus (8). A circuit
+it (COUNT); --start=N, another file of the same kind (1); of `map` --syncs=N lines `sync` (0), around each of which a stripe of keys is put and
+deleted; of `eval` --latches=N (32) and --steps=N, lines of the stimulus (8). A circuit
 with --latches=0 is evaluated 64 lines at once too, by the program with --wide and by its baseline.
 
 The program is the one that `rt ci` or `./emtool` built, or the one that EMTOOL names.
@@ -48,12 +49,24 @@ LATCHES, STEPS = 32, 8
 LANES = "-DLANES=64"
 
 
-def map_lines(count, asks, keys, draw):
-    """Of the commands that aren't gets, one in five is a del."""
+def map_lines(count, asks, keys, draw, syncs=0):
+    """Of the commands that aren't gets, one in five is a del. Around each of the syncs, which stand at equal distances, a stripe of
+    keys is put before it and deleted after it."""
     puts = asks + (1 - asks) * 4 / 5
+    every = count // syncs if syncs else count + 1
+    stripe = min(every // 4, keys // 4 + 1)
     for i in range(1, count + 1):
-        word, key = draw(), int(draw() * keys)
-        yield f"get {key}\n" if word < asks else f"put {key} {i}\n" if word < puts else f"del {key}\n"
+        place, part = i % every, i // every
+        low = part * stripe % keys
+        if syncs and place == 0:
+            yield "sync\n"
+        elif syncs and every - place <= stripe:
+            yield f"put {(low + every - place) % keys} {i}\n"
+        elif syncs and part and place <= stripe:
+            yield f"del {(low - stripe + place) % keys}\n"
+        else:
+            word, key = draw(), int(draw() * keys)
+            yield f"get {key}\n" if word < asks else f"put {key} {i}\n" if word < puts else f"del {key}\n"
 
 
 def queue_lines(count, asks, keys, draw):
@@ -155,13 +168,14 @@ def stimulus_lines(inputs=64, steps=STEPS):
         yield "".join(str((5 * i + 7 * t + t // 16) >> 3 & 1) for i in range(inputs)) + "\n"
 
 
-def write_files(kind, count, paths, asks=25, keys=None, start=1, latches=LATCHES, steps=STEPS):
+def write_files(kind, count, paths, asks=25, keys=None, start=1, latches=LATCHES, steps=STEPS, syncs=0):
     """Writes a command file, or a circuit and its stimulus."""
     if kind == "eval":
         texts = circuit_lines(count, latches=latches), stimulus_lines(steps=steps)
     else:
         lines = {"map": map_lines, "queue": queue_lines, "stab": stab_lines}[kind]
-        texts = (lines(count, asks / 100, keys or count, random.Random(start).random),)
+        more = {"syncs": syncs} if kind == "map" else {}
+        texts = (lines(count, asks / 100, keys or count, random.Random(start).random, **more),)
     for path, text in zip(paths, texts, strict=True):
         with open(path, "w") as file:
             file.writelines(text)
@@ -265,7 +279,7 @@ def main(words):
         words = [word for word in words if "=" not in word]
         mode = words.pop(0) if words[0] in ("--compare", "--plain") else None
         kind, count, paths = words[0], int(words[1]), words[2:]
-        known = {"latches", "steps"} if kind == "eval" else {"asks", "keys", "start"}
+        known = {"latches", "steps"} if kind == "eval" else {"asks", "keys", "start"} | ({"syncs"} if kind == "map" else set())
         fits = len(paths) == (0 if mode else len(names_of(kind)))
         if not fits or kind not in BASELINES or count < 1 or not set(options) <= known:
             raise ValueError

@@ -88,16 +88,20 @@ def texts(kind, start, count):
 
 
 def map_answers(lines):
-    """What a map in memory prints."""
-    held = {}
+    """What a map in memory prints: at each sync, and at the end, the answers that weren't printed."""
+    held, waiting = {}, []
     for line in lines:
-        word, key, *value = line.split()
+        word, *numbers = line.split()
         if word == "put":
-            held[key] = value[0]
+            held[numbers[0]] = numbers[1]
         elif word == "del":
-            held.pop(key, None)
+            held.pop(numbers[0], None)
+        elif word == "get":
+            waiting.append(held.get(numbers[0], "-"))
         else:
-            yield held.get(key, "-")
+            yield from waiting
+            waiting = []
+    yield from waiting
 
 
 def queue_answers(lines):

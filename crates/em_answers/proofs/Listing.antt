@@ -3,10 +3,10 @@ use Rattle.std.proofs.Common.{◌≡◌, ℕ, suc, ◌+◌, ◌*◌, ◌-◌, �
 use Rattle.em_record.specs.Shape.{IsShape, ShapeNumbers, fan_of}
 use Rattle.em_model.specs.Stab.{NumberedInterval, stab_answer_of, stab_answers, stab_answers_from, stab_step}
 use Rattle.em_model.specs.declared.command.Command.{Command}
-use Rattle.em_model.specs.declared.command.Command.TheVariants.{Put, Del, Get, Push, Pop, Interval, Stab}
+use Rattle.em_model.specs.declared.command.Command.TheVariants.{Put, Del, Get, Sync, Push, Pop, Interval, Stab}
 use Rattle.em_frames.specs.Pool.{GivenFrames, LentFrames, PoolCounts, SameFrames}
 use Rattle.em_space.specs.Held.{Within}
-use Rattle.em_space.specs.Queue.{CanServe, Pays}
+use Rattle.em_space.specs.Queue.{Pays}
 use Rattle.em_space.specs.Rig.{RigState, Cause, Goes, Touches}
 use Rattle.em_space.specs.declared.fault.EmFault.{EmFault}
 use Rattle.em_space.specs.declared.fault.EmFault.TheVariants as em
@@ -38,6 +38,7 @@ stabs_same xs ys [] = refl
 stabs_same xs ys (Put key value ∷ cs) = stabs_same xs ys cs
 stabs_same xs ys (Del key ∷ cs) = stabs_same xs ys cs
 stabs_same xs ys (Get key ∷ cs) = stabs_same xs ys cs
+stabs_same xs ys (Sync ∷ cs) = stabs_same xs ys cs
 stabs_same xs ys (Push key value ∷ cs) = stabs_same xs ys cs
 stabs_same xs ys (Pop ∷ cs) = stabs_same xs ys cs
 stabs_same xs ys (Interval low high ∷ cs) =
@@ -50,15 +51,16 @@ pub stabs_next : (c : Command) (cs : List Command)
 stabs_next (Put key value) cs = omega arith
 stabs_next (Del key) cs = omega arith
 stabs_next (Get key) cs = omega arith
+stabs_next Sync cs = omega arith
 stabs_next (Push key value) cs = omega arith
 stabs_next Pop cs = omega arith
 stabs_next (Interval low high) cs =
     let e = stabs_same (stab_step [] (Interval low high)) [] cs in omega (arith, e)
 stabs_next (Stab point) cs = omega arith
 
--- The frames of a call are free beside those of a service, also after calls that lent none.
+-- The frames of a call are free beside those of a service,
 pub serves_beside : (frames : ℕ) (p q : PoolCounts) → IsReady p → LentFrames frames p q
-    → frames ≤ 4 → CanServe q
+    → frames ≤ 4 → CanAnswer q
 serves_beside frames p q r l few =
     let f = ap (λ (x : ShapeNumbers). fan_of x) l.shape in
     record {
@@ -67,7 +69,7 @@ serves_beside frames p q r l few =
       rack = l.rack ∙ r.rack;
     }
 
--- So are those of the answers.
+-- also after calls that lent none.
 pub answers_beside : (frames : ℕ) (p q r : PoolCounts) → IsReady p → LentFrames frames p q
     → frames ≤ 4 → SameFrames q r → CanAnswer r
 answers_beside frames p q r ready l few s =
@@ -79,8 +81,8 @@ answers_beside frames p q r ready l few s =
       rack = s.rack ∙ l.rack ∙ ready.rack;
     }
 
-pub serves_same : (p q : PoolCounts) → CanServe p → SameFrames p q → CanServe q
-serves_same p q c s =
+pub answers_same : (p q : PoolCounts) → CanAnswer p → SameFrames p q → CanAnswer q
+answers_same p q c s =
     let f = ap (λ (x : ShapeNumbers). fan_of x) s.shape in
     record {
       singles = omega (arith, c.singles, s.free, f);
@@ -115,22 +117,24 @@ made_most (Some f) s t c u shape n w told =
     rw (shape, n) (omega (arith, most, u.used, u.none_ever))
 
 made_moved : (allowance : Option (ShapeNumbers → ℕ → ℕ)) (s t : RigState) (c : ServiceCounts)
-    → s.moves ≡ 0 → IfSome allowance (λ f. t.moves ≤ s.moves + c.spent)
-    → IfSome allowance (λ f. t.moves ≤ c.spent)
-made_moved None s t c none spent = tt
-made_moved (Some f) s t c none spent = omega (arith, none, spent)
+    → s.moves ≡ 0 → t.pool.shape ≡ s.pool.shape
+    → IfSome allowance (λ f. t.moves ≤ s.moves + c.spent s.pool.shape)
+    → IfSome allowance (λ f. t.moves ≤ c.spent t.pool.shape)
+made_moved None s t c none shape spent = tt
+made_moved (Some f) s t c none shape spent = rw shape (omega (arith, none, spent))
 
 made_within : (allowance : Option (ShapeNumbers → ℕ → ℕ)) (s t : RigState) (c : ServiceCounts)
-    → s.moves ≡ 0 → t.pool.shape ≡ s.pool.shape → c.n ≡ 0 → WithinAllowance allowance 0 0 s t
-    → IsTrue s.device.told → IfSome allowance (λ f. t.moves ≤ f t.pool.shape c.n)
-made_within None s t c none shape n w told = tt
-made_within (Some f) s t c none shape n w told =
-    let moves = w told in rw (shape, n) (omega (arith, none, moves))
+    → s.moves ≡ 0 → t.pool.shape ≡ s.pool.shape → c.n ≡ 0 → c.syncs ≡ 0
+    → WithinAllowance allowance 0 0 (λ shape. 0) s t
+    → IsTrue s.device.told → IfSome allowance (λ f. t.moves ≤ (c.syncs + 1) * f t.pool.shape c.n)
+made_within None s t c none shape n syncs w told = tt
+made_within (Some f) s t c none shape n syncs w told =
+    let moves = w told in rw (shape, n, syncs) (omega (arith, none, moves))
 
 pub alone_made : (allowance room : Option (ShapeNumbers → ℕ → ℕ)) (frames : ℕ) (held : List ℕ)
     (c : ServiceCounts) (s t : RigState) → IsUnused s → s.moves ≡ 0
     → MakesService allowance room frames held c s t → WithinRoom room 0 [] s t
-    → WithinAllowance allowance 0 0 s t → StandsAlone allowance room held c t
+    → WithinAllowance allowance 0 0 (λ shape. 0) s t → StandsAlone allowance room held c t
 alone_made allowance room frames held c s t u none m w a = record {
   paid = ⊎_elim
       (λ (h : 2 ^ 64 - 1 ≤ t.moves). inl h)
@@ -139,14 +143,14 @@ alone_made allowance room frames held c s t u none m w a = record {
       m.pays.is;
   used = λ told. made_used room s t held u.used (m.used (sym m.touches.told ∙ told));
   most = λ told. made_most room s t c u m.touches.shape m.n w (sym m.touches.told ∙ told);
-  moved = made_moved allowance s t c none m.spent;
+  moved = λ told. made_moved allowance s t c none m.touches.shape m.spent;
   within = λ told.
-      made_within allowance s t c none m.touches.shape m.n a (sym m.touches.told ∙ told);
+      made_within allowance s t c none m.touches.shape m.n m.syncs a (sym m.touches.told ∙ told);
 }
 
 -- before a service is made, none of its blocks is in use
 abbrev pub no_counts : ServiceCounts
-no_counts = record { n = 0; spent = 0; unstored = 0 }
+no_counts = record { n = 0; syncs = 0; spent = λ shape. 0; unstored = 0 }
 
 unused_used : (room : Option (ShapeNumbers → ℕ → ℕ)) (s : RigState) → s.used ≡ 0
     → IfSome room (λ f. s.used ≡ 0)
@@ -164,7 +168,7 @@ unused_moved None s n e = tt
 unused_moved (Some f) s n e = omega (arith, e)
 
 unused_within : (allowance : Option (ShapeNumbers → ℕ → ℕ)) (s : RigState) → s.moves ≡ 0
-    → IfSome allowance (λ f. s.moves ≤ f s.pool.shape 0)
+    → IfSome allowance (λ f. s.moves ≤ (0 + 1) * f s.pool.shape 0)
 unused_within None s e = tt
 unused_within (Some f) s e = omega (arith, e)
 
@@ -174,7 +178,7 @@ alone_unused allowance room s u none = record {
   paid = inr (omega (arith, u.used));
   used = λ told. unused_used room s u.used;
   most = λ told. unused_most room s u.none_ever;
-  moved = unused_moved allowance s 0 none;
+  moved = λ told. unused_moved allowance s 0 none;
   within = λ told. unused_within allowance s none;
 }
 
@@ -198,27 +202,34 @@ next_most (Some f) held s t c d rises is used before shape n w told =
     let more = rises s.pool.shape c.n (c.n + 1) is (omega arith) in
     rw (shape, n) (omega (arith, most, used, before, more))
 
-next_moved : (allowance : Option (ShapeNumbers → ℕ → ℕ)) (s t : RigState) (c d : ServiceCounts)
-    → IfSome allowance (λ f. s.moves ≤ c.spent)
-    → IfSome allowance (λ f. t.moves + c.spent ≤ s.moves + d.spent)
-    → IfSome allowance (λ f. t.moves ≤ d.spent)
-next_moved None s t c d before now = tt
-next_moved (Some f) s t c d before now = omega (arith, before, now)
+next_moved : (allowance : Option (ShapeNumbers → ℕ → ℕ)) (one : ℕ) (s t : RigState)
+    (c d : ServiceCounts) → t.pool.shape ≡ s.pool.shape → t.device.told ≡ s.device.told
+    → IfSome allowance (λ f. d.syncs ≡ c.syncs + one)
+    → ((0 < c.syncs → IsTrue s.device.told) → IfSome allowance (λ f. s.moves ≤ c.spent s.pool.shape))
+    → ((0 < one → IsTrue s.device.told) → IfSome allowance
+    (λ f. t.moves + c.spent s.pool.shape ≤ s.moves + d.spent s.pool.shape))
+    → (0 < d.syncs → IsTrue t.device.told) → IfSome allowance (λ f. t.moves ≤ d.spent t.pool.shape)
+next_moved None one s t c d shape told syncs before now tells = tt
+next_moved (Some f) one s t c d shape told syncs before now tells =
+    let first = before (λ p. sym told ∙ tells (omega (arith, syncs, p))) in
+    let last = now (λ p. sym told ∙ tells (omega (arith, syncs, p))) in
+    rw shape (omega (arith, first, last))
 
 next_within : (allowance : Option (ShapeNumbers → ℕ → ℕ)) (s t : RigState) (c d : ServiceCounts)
-    → IfSome allowance (λ f. s.moves ≤ c.spent) → t.pool.shape ≡ s.pool.shape → d.n ≡ c.n + 1
-    → WithinAllowance allowance (c.n + 1) c.spent s t → IsTrue s.device.told
-    → IfSome allowance (λ f. t.moves ≤ f t.pool.shape d.n)
-next_within None s t c d before shape n w told = tt
-next_within (Some f) s t c d before shape n w told =
-    let moves = w told in rw (shape, n) (omega (arith, before, moves))
+    (one : ℕ) → IfSome allowance (λ f. s.moves ≤ c.spent s.pool.shape) → t.pool.shape ≡ s.pool.shape
+    → d.n ≡ c.n + 1 → IfSome allowance (λ f. d.syncs ≡ c.syncs + one)
+    → WithinAllowance allowance (c.n + 1) (c.syncs + one) c.spent s t → IsTrue s.device.told
+    → IfSome allowance (λ f. t.moves ≤ (d.syncs + 1) * f t.pool.shape d.n)
+next_within None s t c d one before shape n syncs w told = tt
+next_within (Some f) s t c d one before shape n syncs w told =
+    let moves = w told in rw (shape, n, syncs) (omega (arith, before, moves))
 
-pub alone_next : (allowance room : Option (ShapeNumbers → ℕ → ℕ)) (held now : List ℕ)
+pub alone_next : (allowance room : Option (ShapeNumbers → ℕ → ℕ)) (one : ℕ) (held now : List ℕ)
     (c d : ServiceCounts) (s t : RigState) → IfSome room RisesBySize → IsShape s.pool.shape
     → StandsAlone allowance room held c s → Touches held s t
-    → TakesCommand allowance room held now c d s t → WithinRoom room (c.n + 1) held s t
-    → WithinAllowance allowance (c.n + 1) c.spent s t → StandsAlone allowance room now d t
-alone_next allowance room held now c d s t rises is a touches k w m = record {
+    → TakesCommand allowance room one held now c d s t → WithinRoom room (c.n + 1) held s t
+    → WithinAllowance allowance (c.n + 1) (c.syncs + one) c.spent s t → StandsAlone allowance room now d t
+alone_next allowance room one held now c d s t rises is a touches k w m = record {
   paid = ⊎_elim
       (λ (h : 2 ^ 64 - 1 ≤ s.moves). inl (let later = touches.moves in omega (arith, h, later)))
       (λ (h : s.used ≤ s.moves + c.unstored).
@@ -233,9 +244,10 @@ alone_next allowance room held now c d s t rises is a touches k w m = record {
   most = λ told.
       let z = sym touches.told ∙ told in
       next_most room held s t c d rises is (a.used z) (a.most z) touches.shape k.n w z;
-  moved = next_moved allowance s t c d a.moved k.spent;
+  moved = next_moved allowance one s t c d touches.shape touches.told k.syncs a.moved k.spent;
   within = λ told.
-      next_within allowance s t c d a.moved touches.shape k.n m (sym touches.told ∙ told);
+      let z = sym touches.told ∙ told in
+      next_within allowance s t c d one (a.moved (λ p. z)) touches.shape k.n k.syncs m z;
 }
 
 -- The blocks of a full device are at most the moves and two for each frame.

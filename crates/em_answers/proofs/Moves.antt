@@ -1,5 +1,5 @@
 -- A run whose moves are within its transfer cost, and its blocks within the room.
-use Rattle.std.proofs.Common.{◌≡◌, ℕ, ◌+◌, ◌-◌, ◌*◌, ◌<◌, ◌≤◌, ◌^◌, ◌⊎◌, Bool, List, [], Option, Some, None, IfSome, IsTrue, IsFalse, ap, subst, ◌∙◌, refl, arith, inl, inr, ⊎_elim}
+use Rattle.std.proofs.Common.{◌≡◌, ℕ, ◌+◌, ◌-◌, ◌*◌, ◌<◌, ◌≤◌, ◌^◌, ◌⊎◌, Bool, List, [], Some, IsTrue, IsFalse, ap, subst, ◌∙◌, refl, arith, inl, inr, ⊎_elim}
 use Rattle.em_record.specs.Cost.{blocks_of, cost, lev, room}
 use Rattle.em_record.specs.Count.{Rose}
 use Rattle.em_record.specs.Shape.{ShapeNumbers, IsShape}
@@ -9,7 +9,7 @@ use Rattle.em_io.specs.declared.shelf.Slot.TheVariants.{First}
 use Rattle.em_io.specs.declared.sink.Sink.{Ghosts as SinkGhosts}
 use Rattle.em_io.proofs.Sent.{part-of, sent-nothing}
 use Rattle.em_frames.specs.Device.{DeviceState}
-use Rattle.em_space.specs.Queue.{CanServe, IsRising, QueueCounts}
+use Rattle.em_space.specs.Queue.{CanServe}
 use Rattle.em_space.specs.Rig.{RigState, Cause, Goes, Sound, Touches}
 use Rattle.em_space.specs.declared.fault.EmFault.{EmFault}
 use Rattle.em_space.specs.declared.fault.EmFault.TheVariants as em
@@ -20,7 +20,8 @@ use Rattle.em_pqueue.specs.Calls.{IsNewQueue}
 use Rattle.em_pqueue.specs.ExtQueue.{counts_of as ext_counts}
 use Rattle.em_pqueue.specs.contracts.queue.ExtQueueQueue.TheImpl.{ghosts as ext}
 use Rattle.em_pqueue.specs.declared.queue.ExtQueue.{ExtQueue}
-use Rattle.em_answers.specs.Limits.{Limits, asked_by, by_cost, queue_limits}
+use Rattle.std.proofs.Math.Nat.{mul-le-mul_left}
+use Rattle.em_answers.specs.Limits.{Limits, asked_by, by_cost, queue_limits, syncs_in}
 use Rattle.em_answers.specs.FileDue.{output_text}
 use Rattle.em_ready.specs.Queues.{FailsToMake}
 use Rattle.em_answers.specs.Serve.{GivesUp, WithinCalls, IsAlone}
@@ -70,9 +71,10 @@ pub ended_by_cost : {took : List ℕ → List ℕ → List ℕ} (tells : Bool) (
     → Ended tells took (asked_by by_cost kind text) shape blocks old new s
 ended_by_cost tells kind text f most shape blocks old new s e few small none =
     let n = run_size kind text (new.stand.slot First).left in
-    let within : f shape n ≤ cost shape n = few n in
-    let kept : IsTrue tells → IsTrue old.device.told → new.device.moves ≤ cost shape n =
-    λ t d. let m : new.device.moves ≤ old.device.moves + f shape n = e.moves t d in
+    let y = syncs_in kind text (new.stand.slot First).left in
+    let within : (y + 1) * f shape n ≤ (y + 1) * cost shape n = mul-le-mul_left (y + 1) (few n) in
+    let kept : IsTrue tells → IsTrue old.device.told → new.device.moves ≤ (y + 1) * cost shape n =
+    λ t d. let m : new.device.moves ≤ old.device.moves + (y + 1) * f shape n = e.moves t d in
     omega (arith, m, within, none) in
     record {
       answers = e.answers;
@@ -130,7 +132,9 @@ module _ {H W : Type 0} {h : ShelfGhosts H} {w : SinkGhosts W} where
           ((h.stand shelf_after).slot First).left in
           let few : t.device.moves ≤ f r.pool.shape n =
           subst (λ (p : ShapeNumbers). t.device.moves ≤ f p n) a.shape (m z (a.told ∙ d)) in
-          omega (arith, few);
+          let y = syncs_in kind ((h.stand shelf).slot First).left ((h.stand shelf_after).slot First).left in
+          let more = more_times (f r.pool.shape n) y in
+          omega (arith, few, more);
       damaged = subst (λ (n : ℕ). IfEndsDamaged end (λ at. IsFalse r.device.told × (at < n))) a.blocks
           (subst (λ (b : Bool). IfEndsDamaged end (λ at. IsFalse b × (at < s.blocks))) a.told
           x.ended.damaged);
@@ -151,18 +155,6 @@ module _ {H W : Type 0} {h : ShelfGhosts H} {w : SinkGhosts W} where
     no_usage = x.no_usage;
     no_memory = x.no_memory;
   }
-
--- The moves of a queue that was made on a rig with none, and called.
-pub calls_within : (allowance : Option (ShapeNumbers → ℕ → ℕ → ℕ)) (c d : QueueCounts)
-    (shape first : ShapeNumbers) (s t u n : ℕ) → IfSome allowance IsRising
-    → IfSome allowance (λ f. d.spent ≤ f shape d.n d.k) → d.k ≤ d.n → d.n ≤ n → shape ≡ first
-    → t + c.spent ≡ s + d.spent → s ≤ c.spent → u ≡ t → IfSome allowance (λ f. u ≤ f first n n)
-calls_within None c d shape first s t u n rises spends k few same spent moved e = tt
-calls_within (Some f) c d shape first s t u n rises spends k few same spent moved e =
-    let within : d.spent ≤ f first d.n d.k =
-    subst (λ (p : ShapeNumbers). d.spent ≤ f p d.n d.k) same spends in
-    let more = rises first d.n n d.k n few (omega (arith, k, few)) in
-    omega (arith, within, more, spent, moved, e)
 
 -- a queue's share is within the transfer cost of its commands
 pub queue_few : (shape : ShapeNumbers) → IsShape shape → (n : ℕ)

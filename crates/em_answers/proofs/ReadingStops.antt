@@ -1,6 +1,6 @@
 -- Why the reading of a file into a service stopped, as the call says it that made the service.
-use Rattle.std.proofs.Common.{◌≡◌, ℕ, ◌*◌, ◌≤◌, List, [], length, sym, ◌∙◌, arith, Bool, IsTrue, Option, IfSome}
-use Rattle.em_record.specs.Shape.{ShapeNumbers}
+use Rattle.std.proofs.Common.{◌≡◌, ℕ, ◌+◌, ◌*◌, ◌≤◌, List, [], length, sym, subst, ◌∙◌, arith, Bool, IsTrue, Option, IfSome, Result, Ok, Err, IfErr, IsErrAnd}
+use Rattle.em_record.specs.Shape.{IsShape, ShapeNumbers}
 use Rattle.em_io.specs.Feed.{Fed, rest}
 use Rattle.em_io.specs.declared.shelf.Shelf.{Ghosts as ShelfGhosts}
 use Rattle.em_space.specs.Held.{Within}
@@ -15,10 +15,11 @@ use Rattle.em_chain.specs.Effects.{Unmoved}
 use Rattle.em_answers.specs.Limits.{Limits}
 use Rattle.em_lines.specs.CommandLine.{good_commands}
 use Rattle.em_services.specs.Service.{GivesFrames, RisesBySize, ServiceCounts, size_of, FullOverRoom}
-use Rattle.em_lines.specs.RunSize.{commands_taken}
-use Rattle.em_answers.specs.Reading.{IsFilled, StandsAlone, StopsReading, service_limits, StopCause}
+use Rattle.em_lines.specs.RunSize.{commands_taken, run_size}
+use Rattle.em_answers.specs.Reading.{FullAtSync, IsFilled, StandsAlone, StopsReading, SyncCause, service_limits, StopCause}
 use Rattle.em_ready.specs.Ready.{IsUnused}
-use Rattle.em_ends.specs.Stop.{Faults, IfStopsFull, reading}
+use Rattle.em_io.specs.declared.sink.Sink.{Ghosts as SinkGhosts}
+use Rattle.em_ends.specs.Stop.{Faults, IfStopsFull, fault_counts}
 use Rattle.em_ends.specs.declared.status.Malform.TheVariants.{Text, Aig}
 use Rattle.em_ends.specs.declared.stop.Stop.{Stop}
 use Rattle.em_ends.specs.declared.stop.Stop.TheVariants.{Fault, Read, Write, Em}
@@ -67,25 +68,85 @@ filled_unmoved limits tells kind text left u v (Em (em.Full used)) touches still
 }
 
 -- A stop of the reading is one of the call that made the service before and gave it up after.
-pub stops_around : {H : Type 0} (h : ShelfGhosts H)
-    (allowance room : Option (ShapeNumbers → ℕ → ℕ)) (kind : FileKind) (feed : Fed) (shelf shelf_after : H) (held : List ℕ) (s t u v : RigState)
+pub stops_around : {H W : Type 0} (h : ShelfGhosts H) (w : SinkGhosts W)
+    (allowance room : Option (ShapeNumbers → ℕ → ℕ)) (kind : FileKind) (feed : Fed) (shelf shelf_after : H)
+    (out out_after : W) (held : List ℕ) (s t u v : RigState)
     (stop : Stop) → Touches held s t → Touches [] u v → Unmoved u v
-    → StopsReading h (service_limits allowance room) kind feed shelf shelf_after t u stop
-    → StopsReading h (service_limits allowance room) kind feed shelf shelf_after s v stop
-stops_around h allowance room kind feed shelf shelf_after held s t u v stop before after still r = record {
-  cause = stop_around held h.tells kind (rest feed (h.stand shelf)) (reading (h.faults shelf))
-      (reading (h.faults shelf_after)) s t u v stop before after still r.cause;
+    → StopsReading h w (service_limits allowance room) kind feed shelf shelf_after out out_after t u stop
+    → StopsReading h w (service_limits allowance room) kind feed shelf shelf_after out out_after s v stop
+stops_around h w allowance room kind feed shelf shelf_after out out_after held s t u v stop before after still r = record {
+  cause = stop_around held h.tells kind (rest feed (h.stand shelf)) (fault_counts (h.faults shelf) (w.faults out))
+      (fault_counts (h.faults shelf_after) (w.faults out_after)) s t u v stop before after still r.cause;
   full = filled_unmoved (service_limits allowance room) h.tells kind (rest feed (h.stand shelf))
       ((h.stand shelf_after).slot feed.slot).left u v stop after still r.full;
 }
 
+-- A command stopped: the output failed while a sync was answered, or the rig gave up.
+command_cause : (tells : Bool) (kind : FileKind) (text : List ℕ) (read read_after write mid after : ℕ)
+    (held : List ℕ) (s t u : RigState) (stop : Stop) → Touches held s t → write ≤ mid
+    → SyncCause mid after t u stop
+    → StopCause tells kind text (fault_counts read write) (fault_counts read_after after) s u stop
+command_cause tells kind text read read_after write mid after held s t u (Fault malform place) before later cause
+    = absurd cause
+command_cause tells kind text read read_after write mid after held s t u Read before later cause = absurd cause
+command_cause tells kind text read read_after write mid after held s t u Write before later cause =
+    omega (arith, later, cause)
+command_cause tells kind text read read_after write mid after held s t u (Em fault) before later cause =
+    cause_after held s t u fault before cause
+
+command_full : (allowance room : Option (ShapeNumbers → ℕ → ℕ)) (tells : Bool) (kind : FileKind)
+    (text left held : List ℕ) (c : ServiceCounts) (s u : RigState) (faults after : ℕ) (stop : Stop)
+    → IfSome room RisesBySize → IsShape s.pool.shape → Touches held s u → StandsAlone allowance room held c s
+    → SyncCause faults after s u stop → IfStopsFull stop (FullAtSync room held c s u)
+    → (IsTrue tells → c.n + 1 ≤ run_size kind text left)
+    → IfStopsFull stop (IsFilled (service_limits allowance room) tells kind text left u)
+command_full allowance room tells kind text left held c s u faults after (Fault malform place) rises is touches a
+    cause full most = tt
+command_full allowance room tells kind text left held c s u faults after Read rises is touches a cause full most =
+    tt
+command_full allowance room tells kind text left held c s u faults after Write rises is touches a cause full most =
+    tt
+command_full allowance room tells kind text left held c s u faults after (Em em.DeviceFault) rises is touches a
+    cause full most = tt
+command_full allowance room tells kind text left held c s u faults after (Em (em.Damaged block)) rises is touches a
+    cause full most = tt
+command_full allowance room tells kind text left held c s u faults after (Em (em.Full used)) rises is touches a
+    cause full most =
+    filled_call allowance room (c.n + 1) tells kind text left held c s u (em.Full used) rises is touches a
+    full.pays cause (λ told. record { full = full.over; most = most told })
+
+pub stops_command : {T H W : Type 0} (h : ShelfGhosts H) (w : SinkGhosts W)
+    (allowance room : Option (ShapeNumbers → ℕ → ℕ)) (kind : FileKind) (feed : Fed) (shelf shelf_after : H)
+    (out mid out_after : W) (first held : List ℕ) (c : ServiceCounts) (s t u : RigState) (stop : Stop)
+    (result : Result T Stop) → IsErrAnd result (λ f. f ≡ stop) → IfSome room RisesBySize → Goes first s t
+    → Touches held t u → StandsAlone allowance room held c t → w.faults out ≤ w.faults mid
+    → SyncCause (w.faults mid) (w.faults out_after) t u stop → IfStopsFull stop (FullAtSync room held c t u)
+    → (IsTrue h.tells
+    → c.n + 1 ≤ run_size kind (rest feed (h.stand shelf)) ((h.stand shelf_after).slot feed.slot).left)
+    → IfErr result (StopsReading h w (service_limits allowance room) kind feed shelf shelf_after out out_after s u)
+stops_command h w allowance room kind feed shelf shelf_after out mid out_after first held c s t u stop (Ok x) is
+    rises goes touches a later cause full most = absurd is
+stops_command h w allowance room kind feed shelf shelf_after out mid out_after first held c s t u stop (Err f) is
+    rises goes touches a later cause full most =
+    let text = rest feed (h.stand shelf) in
+    let left = ((h.stand shelf_after).slot feed.slot).left in
+    let limits = service_limits allowance room in
+    let stops : StopsReading h w limits kind feed shelf shelf_after out out_after s u stop =
+    record {
+      cause = command_cause h.tells kind text (h.faults shelf) (h.faults shelf_after) (w.faults out) (w.faults mid)
+          (w.faults out_after) first s t u stop goes.touches later cause;
+      full = command_full allowance room h.tells kind text left held c t u (w.faults mid) (w.faults out_after) stop
+          rises goes.sound.shape touches a cause full most;
+    } in
+    subst (λ (x : Stop). StopsReading h w limits kind feed shelf shelf_after out out_after s u x) (sym is) stops
+
 -- The service wasn't made.
-pub stops_new : {H : Type 0} (h : ShelfGhosts H)
-    (allowance room : Option (ShapeNumbers → ℕ → ℕ)) (kind : FileKind) (feed : Fed) (shelf : H) (s u : RigState) (fault : EmFault)
+pub stops_new : {H W : Type 0} (h : ShelfGhosts H) (w : SinkGhosts W)
+    (allowance room : Option (ShapeNumbers → ℕ → ℕ)) (kind : FileKind) (feed : Fed) (shelf : H) (out : W) (s u : RigState) (fault : EmFault)
     → IfSome room RisesBySize → IsUnused s → s.moves ≡ 0 → Goes [] s u → FullOverRoom room 0 [] s fault
     → Pays 0 s.pool.shape.frames s u → Cause s u fault
-    → StopsReading h (service_limits allowance room) kind feed shelf shelf s u (Em fault)
-stops_new h allowance room kind feed shelf s u fault rises unused none goes full pays cause = record {
+    → StopsReading h w (service_limits allowance room) kind feed shelf shelf out out s u (Em fault)
+stops_new h w allowance room kind feed shelf out s u fault rises unused none goes full pays cause = record {
   cause = cause;
   full = filled_call allowance room 0 h.tells kind (rest feed (h.stand shelf))
       ((h.stand shelf).slot feed.slot).left [] no_counts s u fault rises unused.sound.shape goes.touches
@@ -94,8 +155,9 @@ stops_new h allowance room kind feed shelf s u fault rises unused none goes full
 }
 
 -- The answers weren't made.
-pub stops_answers : {H : Type 0} (h : ShelfGhosts H)
-    (allowance room : Option (ShapeNumbers → ℕ → ℕ)) (kind : FileKind) (feed : Fed) (shelf shelf_after : H) (frames : ℕ) (held now : List ℕ)
+pub stops_answers : {H W : Type 0} (h : ShelfGhosts H) (w : SinkGhosts W)
+    (allowance room : Option (ShapeNumbers → ℕ → ℕ)) (kind : FileKind) (feed : Fed) (shelf shelf_after : H)
+    (out out_after : W) (frames : ℕ) (held now : List ℕ)
     (c : ServiceCounts) (s t u v : RigState) (fault : EmFault) → IfSome room RisesBySize
     → Touches [] s t → Within s [] held → Goes held t u → StandsAlone allowance room now c u
     → GivesFrames frames now u v → Pays c.unstored (2 * u.pool.shape.frames) u v → Cause u v fault
@@ -104,8 +166,8 @@ pub stops_answers : {H : Type 0} (h : ShelfGhosts H)
     → (IsTrue h.tells → c.n ≡ length (good_commands kind (rest feed (h.stand shelf))))
     → (IsTrue h.tells
     → FullOverRoom room (size_of kind (good_commands kind (rest feed (h.stand shelf)))) now u fault)
-    → StopsReading h (service_limits allowance room) kind feed shelf shelf_after s v (Em fault)
-stops_answers h allowance room kind feed shelf shelf_after frames held now c s t u v fault rises made fresh calls
+    → StopsReading h w (service_limits allowance room) kind feed shelf shelf_after out out_after s v (Em fault)
+stops_answers h w allowance room kind feed shelf shelf_after out out_after frames held now c s t u v fault rises made fresh calls
     alone gives pays cause taken len full =
     let text = rest feed (h.stand shelf) in
     let left = ((h.stand shelf_after).slot feed.slot).left in

@@ -1,6 +1,6 @@
 -- What a command file is due: the text on the output, and the status.
-use Rattle.std.specs.Prelude.{ℕ, List, [], Option, Some, None}
-use Rattle.em_answers.specs.Answer.{text_for}
+use Rattle.std.specs.Prelude.{ℕ, List, Option, Some, None}
+use Rattle.em_answers.specs.Answer.{synced_text, text_for}
 use Rattle.em_lines.specs.CommandLine.{first_fault, good_commands}
 use Rattle.em_ends.specs.declared.status.Malform.TheVariants.{Text}
 use Rattle.em_ends.specs.declared.status.Status.{Status}
@@ -18,15 +18,16 @@ status_for (Some fault) = Malformed (Text fault.0) fault.1
 abbrev pub due_status : FileKind → List ℕ → Status
 due_status kind text = status_for (first_fault kind text)
 
--- the answers' text; nothing where a line is faulty
-abbrev pub text_unless : Option (TextKind × ℕ) → List ℕ → List ℕ
-text_unless None answers = answers
-text_unless (Some fault) answers = []
+-- the text of all answers; of those that were printed before a faulty line if there is one
+abbrev pub text_unless : Option (TextKind × ℕ) → (all before : List ℕ) → List ℕ
+text_unless None all before = all
+text_unless (Some fault) all before = before
 
--- The text that is due on the output. A queue answers each pop at once, and so prints the answers
--- before a faulty line; a map and an interval list answer after the whole file.
+-- The text that is due on the output. A queue answers each pop at once, and so prints the answers before a faulty
+-- line; a map answers at each sync and at the end; an interval list answers after the whole file.
 abbrev pub output_text : FileKind → List ℕ → List ℕ
 output_text Map text = text_unless (first_fault Map text) (text_for Map (good_commands Map text))
+    (synced_text Map (good_commands Map text))
 output_text Queue text = text_for Queue (good_commands Queue text)
-output_text Stab text =
-    text_unless (first_fault Stab text) (text_for Stab (good_commands Stab text))
+output_text Stab text = text_unless (first_fault Stab text) (text_for Stab (good_commands Stab text))
+    (synced_text Stab (good_commands Stab text))

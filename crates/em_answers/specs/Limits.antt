@@ -1,17 +1,19 @@
 -- What a command file asks of a run, by the limits of the structure that answers it.
-use Rattle.std.specs.Prelude.{ℕ, List, false, Option, Some, None}
+use Rattle.std.specs.Prelude.{ℕ, ◌+◌, ◌*◌, List, false, Option, Some, None}
 use Rattle.em_record.specs.Cost.{cost, room}
 use Rattle.em_record.specs.Shape.{ShapeNumbers}
 use Rattle.em_io.specs.Shelf.{SlotState}
 use Rattle.em_io.specs.declared.shelf.Slot.{Slot}
 use Rattle.em_io.specs.declared.shelf.Slot.TheVariants.{First}
 use Rattle.em_answers.specs.FileDue.{due_status, output_text}
-use Rattle.em_lines.specs.RunSize.{run_size}
+use Rattle.em_lines.specs.RunSize.{run_size, syncs_taken}
 use Rattle.em_lines.specs.declared.text.FileKind.{FileKind}
+use Rattle.em_lines.specs.declared.text.FileKind.TheVariants.{Map, Queue, Stab}
 use Rattle.em_ends.specs.Asked.{Asked}
 
--- The most moves of a command file's run, and the blocks that are enough for it, each if its structure keeps
--- to a number: by the shape and the size of the run. Both are said of a device that tells.
+-- The most moves of a command file's run, for the end and for each sync that was taken, and the blocks that are enough
+-- for it, each if its structure keeps to a number: by the shape and the size of the run. Both are said of a device that
+-- tells.
 pub record Limits : Type 0 where
   pub moves : Option (ShapeNumbers → ℕ → ℕ)
   pub room : Option (ShapeNumbers → ℕ → ℕ)
@@ -26,13 +28,26 @@ abbrev pub sized : Option (ShapeNumbers → ℕ → ℕ) → ((Slot → SlotStat
 sized None size = None
 sized (Some f) size = Some (λ shape slots. f shape (size slots))
 
+-- how many syncs were taken of a text of this kind, where this much of it is left: only a map's file has any
+abbrev pub syncs_in : FileKind → (text left : List ℕ) → ℕ
+syncs_in Map text left = syncs_taken text left
+syncs_in Queue text left = 0
+syncs_in Stab text left = 0
+
+-- a number by size as one by how far each slot was read: as often as syncs were taken, and once more
+abbrev pub for_each : Option (ShapeNumbers → ℕ → ℕ) → (syncs size : (Slot → SlotState) → ℕ)
+    → Option (ShapeNumbers → (Slot → SlotState) → ℕ)
+for_each None syncs size = None
+for_each (Some f) syncs size = Some (λ shape slots. (syncs slots + 1) * f shape (size slots))
+
 -- what a command file asks of a run with these limits
 abbrev pub asked_by : Limits → FileKind → List ℕ → Asked
 asked_by limits kind text = record {
   status = due_status kind text;
   status_told = false;
   output = output_text kind text;
-  moves = sized limits.moves (λ slots. run_size kind text (slots First).left);
+  moves = for_each limits.moves (λ slots. syncs_in kind text (slots First).left)
+      (λ slots. run_size kind text (slots First).left);
   room = sized limits.room (λ slots. run_size kind text (slots First).left);
 }
 

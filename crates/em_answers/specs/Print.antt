@@ -59,9 +59,15 @@ pub record Looks (s : RigState) (r : Reader) : Type 0 where
   pub reader : LooksAt s r
   pub free : 0 < s.pool.free
 
+-- No block was changed, taken or released.
+pub record KeepsBlocks (s t : RigState) : Type 0 where
+  pub goes : Goes [] s t
+  pub used : t.used ≡ s.used
+  pub most : t.most ≡ s.most
+
 -- Records were read, which changed no block, and the reader's frame is the pool's.
 pub record ReadsOn (s t : RigState) (r : Reader) : Type 0 where
-  pub goes : Goes [] s t
+  pub keeps : KeepsBlocks s t
   pub frame : ReaderHasFrame t r
 
 -- A stop of a call that only prints: the output's count of faults rose, or a call on the rig

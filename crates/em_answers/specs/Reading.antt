@@ -1,14 +1,17 @@
--- A command file that is read into a service, and why the reading of a file stops.
+-- A command file that is given to a service, and why its run stops.
 use Rattle.std.specs.Prelude.{◌≡◌, ℕ, ◌+◌, ◌*◌, ◌-◌, ◌<◌, ◌≤◌, ◌^◌, ◌⊎◌, Bool, IsTrue, List, [], length, Option, Some, None, IfSome}
 use Rattle.em_io.specs.Feed.{Fed, rest}
 use Rattle.em_io.specs.declared.shelf.Shelf.{Ghosts as ShelfGhosts}
+use Rattle.em_io.specs.declared.sink.Sink.{Ghosts as SinkGhosts}
 use Rattle.em_record.specs.Shape.{ShapeNumbers, payload_of}
+use Rattle.em_space.specs.Queue.{Pays}
 use Rattle.em_space.specs.Rig.{RigState, Cause}
+use Rattle.em_space.specs.declared.fault.EmFault.TheVariants as em
 use Rattle.em_chain.specs.Counts.{ceiling}
-use Rattle.em_answers.specs.Limits.{Limits}
-use Rattle.em_services.specs.Service.{ServiceCounts}
+use Rattle.em_answers.specs.Limits.{Limits, syncs_in}
+use Rattle.em_services.specs.Service.{FullOverRoom, ServiceCounts}
 use Rattle.em_lines.specs.RunSize.{run_size}
-use Rattle.em_ends.specs.Stop.{IfStopsFull, reading, Faults}
+use Rattle.em_ends.specs.Stop.{IfStopsFull, fault_counts, Faults}
 use Rattle.em_ends.specs.declared.stop.Stop.{Stop}
 use Rattle.em_lines.specs.declared.text.FileKind.{FileKind}
 use Rattle.em_record.specs.Count.{Rose}
@@ -18,17 +21,20 @@ use Rattle.em_ends.specs.declared.stop.Stop.TheVariants.{Fault, Read, Write, Em}
 
 -- The service, which holds these blocks, is alone on the rig: each block in use was moved or isn't stored
 -- yet. If it states a room and the device tells, all blocks in use are its own, and at no moment more than
--- that. If it states an allowance, all moves are its own, and within that, if the device tells.
+-- that. If it states an allowance, and the device tells or no sync came, all moves are its own or those of the lists that it
+-- gave at syncs; and within that for each sync and once more, if the device tells.
 pub record StandsAlone (allowance room : Option (ShapeNumbers → ℕ → ℕ)) (held : List ℕ)
     (c : ServiceCounts) (s : RigState) : Type 0 where
   pub paid : (2 ^ 64 - 1 ≤ s.moves) ⊎ (s.used ≤ s.moves + c.unstored)
   pub used : IsTrue s.device.told → IfSome room (λ f. s.used ≡ length held)
   pub most : IsTrue s.device.told → IfSome room (λ f. s.most ≤ f s.pool.shape c.n)
-  pub moved : IfSome allowance (λ f. s.moves ≤ c.spent)
-  pub within : IsTrue s.device.told → IfSome allowance (λ f. s.moves ≤ f s.pool.shape c.n)
+  pub moved : (0 < c.syncs → IsTrue s.device.told)
+      → IfSome allowance (λ f. s.moves ≤ c.spent s.pool.shape)
+  pub within : IsTrue s.device.told
+      → IfSome allowance (λ f. s.moves ≤ (c.syncs + 1) * f s.pool.shape c.n)
 
--- the most moves of a run over a service that states an allowance: those of the service, and one for each
--- block of the answers, which are packed
+-- the most moves of a run over a service that states an allowance, for the end and for each sync: those of the service, and
+-- one for each block of the answers, which are packed
 abbrev pub moves_within : Option (ShapeNumbers → ℕ → ℕ) → Option (ShapeNumbers → ℕ → ℕ)
 moves_within None = None
 moves_within (Some f) = Some (λ shape size. f shape size + ceiling size (payload_of shape))
@@ -37,13 +43,14 @@ moves_within (Some f) = Some (λ shape size. f shape size + ceiling size (payloa
 abbrev pub service_limits : (allowance room : Option (ShapeNumbers → ℕ → ℕ)) → Limits
 service_limits allowance room = record { moves = moves_within allowance; room = room }
 
--- All moves on a rig that moved none at first are within the allowance of a service for the size of what
--- was read of a text, if it states one and the device tells.
+-- All moves on a rig that moved none at first are within the allowance of a service for the size of what was read of a
+-- text, for each sync and once more, if it states one and the device tells.
 abbrev pub KeepsAllowance : Option (ShapeNumbers → ℕ → ℕ) → FileKind → (text left : List ℕ) → RigState
     → RigState → Type 0
 KeepsAllowance None kind text left old new = Unit {0}
 KeepsAllowance (Some f) kind text left old new =
-    IsTrue old.device.told → new.moves ≤ f old.pool.shape (run_size kind text left)
+    IsTrue old.device.told
+    → new.moves ≤ (syncs_in kind text left + 1) * f old.pool.shape (run_size kind text left)
 
 -- What a full device says, where this much of the text is left: its blocks are at most the moves and
 -- two for each frame, and fewer than are enough for a run of this size with these limits.
@@ -69,11 +76,26 @@ StopCause tells kind text faults after old new Read = Rose faults.read after.rea
 StopCause tells kind text faults after old new Write = Rose faults.write after.write
 StopCause tells kind text faults after old new (Em fault) = Cause old new fault
 
--- Why the reading of a file stopped, and what a full device says then.
-pub record StopsReading {H : Type 0} (h : ShelfGhosts H) (limits : Limits)
-    (kind : FileKind) (feed : Fed) (shelf shelf_after : H) (old new : RigState) (stop : Stop)
-    : Type 0 where
-  pub cause : StopCause h.tells kind (rest feed (h.stand shelf)) (reading (h.faults shelf))
-      (reading (h.faults shelf_after)) old new stop
+-- Why the run of a file over a service stopped, and what a full device says then.
+pub record StopsReading {H W : Type 0} (h : ShelfGhosts H) (w : SinkGhosts W) (limits : Limits)
+    (kind : FileKind) (feed : Fed) (shelf shelf_after : H) (out out_after : W) (old new : RigState)
+    (stop : Stop) : Type 0 where
+  pub cause : StopCause h.tells kind (rest feed (h.stand shelf))
+      (fault_counts (h.faults shelf) (w.faults out))
+      (fault_counts (h.faults shelf_after) (w.faults out_after)) old new stop
   pub full : IfStopsFull stop (IsFilled limits h.tells kind (rest feed (h.stand shelf))
       ((h.stand shelf_after).slot feed.slot).left new)
+
+-- A sync was answered and its answers printed, or it stopped: the output's count of faults rose, or the rig gave up.
+abbrev pub SyncCause : ℕ → ℕ → RigState → RigState → Stop → Type 0
+SyncCause faults after old new (Fault kind place) = ⊥
+SyncCause faults after old new Read = ⊥
+SyncCause faults after old new Write = Rose faults after
+SyncCause faults after old new (Em fault) = Cause old new fault
+
+-- What a full device says of a sync: its blocks that aren't stored, and that the service's room and the blocks of others
+-- are more than all.
+pub record FullAtSync (room : Option (ShapeNumbers → ℕ → ℕ)) (held : List ℕ) (c : ServiceCounts)
+    (old new : RigState) (used : ℕ) : Type 0 where
+  pub pays : Pays c.unstored (2 * old.pool.shape.frames) old new
+  pub over : FullOverRoom room (c.n + 1) held old (em.Full used)

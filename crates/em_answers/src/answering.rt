@@ -10,8 +10,7 @@ ghost use Rattle.em_answers.specs.FileRun.{Runs, RunsWithin};
 ghost use Rattle.em_lines.specs.RunSize.{commands_taken};
 ghost use Rattle.em_answers.specs.Reading.{service_limits};
 
-use crate::print::print_answers;
-use crate::read::read_answers;
+use crate::read::answer_file;
 use crate::serving::serve;
 use em_ends::{Status, Stop, status_of};
 use em_frames::Device;
@@ -23,7 +22,8 @@ use em_segment::Stab;
 use em_services::Service;
 use em_space::{Queue, Rig};
 
-/// Reads the commands of the open slot into a new service of type S, and prints their answers.
+/// Answers the commands of the open slot by a new service of type S, and prints the answers at each sync and at the
+/// end.
 pub fn run_service<D: Device, H: Shelf, W: Sink, S: Service>(
     rig: &mut Rig<'_, D>,
     shelf: &mut H,
@@ -40,11 +40,8 @@ pub fn run_service<D: Device, H: Shelf, W: Sink, S: Service>(
         shelf.old out.old shelf.new out.new result }
 {
     let mut feed = Feed::new(Slot::First);
-    match read_answers::<D, H, S>(rig, &mut feed, shelf) {
-        Ok(answers) => match print_answers(S::KIND, rig, &answers, out) {
-            Ok(()) => Status::Done,
-            Err(stop) => status_of(stop),
-        },
+    match answer_file::<D, H, W, S>(rig, &mut feed, shelf, out) {
+        Ok(()) => Status::Done,
         Err(stop) => status_of(stop),
     }
 }

@@ -1,6 +1,6 @@
 //! Answers that are printed, one line for each:
 //!
-//!     map, stab   records -> lines -> a printer's buffer -> the output, in pieces of 4096 bytes
+//!     map, stab   records -> lines -> a printer's buffer -> the output, in pieces of 4096 bytes, at a sync and at the end
 //!     queue       a pop -> its line -> a printer's buffer -> the output, before more of the input is read
 //!
 //! Kept here: at each exit of `print_answers` what was printed before was sent, unless the output failed (at a
@@ -9,12 +9,12 @@
 ghost use Rattle.std.specs.Prelude.{◌≡◌, ◌+◌, ◌<◌, ◌≤◌, ◌++◌, ◌∷◌, [], None, decimal, option_to_list, IfNone, IfOk, IsTrue, OnOk};
 ghost use Rattle.em_record.specs.Count.{HasCause};
 ghost use Rattle.em_io.specs.Sink.{Sent, SentPart};
-ghost use Rattle.em_space.specs.Rig.{Sound, Goes};
+ghost use Rattle.em_space.specs.Rig.{Sound};
 ghost use Rattle.em_space.specs.Seen.{seen};
 ghost use Rattle.em_chain.specs.Chain.{IsChain, chain_items};
 ghost use Rattle.em_chain.specs.Reader.{owed, reader_items};
 ghost use Rattle.em_answers.specs.Answer.{answer_line, further_words, map_text, numbers_line, popped_line, stab_text};
-ghost use Rattle.em_answers.specs.Print.{IsBehind, Looks, PrintStops, PrintsInto, ReadsOn, ReadsWithin, answer_in, answers_in, groups_from, intervals_at, popped_in, records_text};
+ghost use Rattle.em_answers.specs.Print.{IsBehind, KeepsBlocks, Looks, PrintStops, PrintsInto, ReadsOn, ReadsWithin, answer_in, answers_in, groups_from, intervals_at, popped_in, records_text};
 ghost use Rattle.em_ends.specs.Stop.{Prints};
 
 use em_chain::{Chain, Reader};
@@ -25,7 +25,7 @@ use em_lines::FileKind;
 use em_record::{Failed, Record};
 use em_space::Rig;
 
-/// What a command file is answered by: the records of the answers, and how many stabs there were.
+/// What a part of a command file is answered by: the records of the answers, and how many stabs there were.
 #[derive(Drop)]
 pub struct Answers {
     pub records: Chain,
@@ -206,8 +206,8 @@ fn print_records<D: Device, W: Sink>(
     }
 }
 
-/// Prints the answers of a map or stab file. The lines leave in pieces; what is due before a stop of the rig
-/// is sent then.
+/// Prints the answers of a map or stab file, or of a part of it. All lines leave here, in pieces; what is due before a
+/// stop of the rig is sent then.
 pub fn print_answers<D: Device, W: Sink>(
     kind: FileKind,
     rig: &mut Rig<'_, D>,
@@ -217,7 +217,7 @@ pub fn print_answers<D: Device, W: Sink>(
     requires sound { Sound (seen D.state rig.old) }
     requires is { IsChain (seen D.state rig.old) answers.now.records }
     requires free { 1 < (seen D.state rig.old).pool.free }
-    ensures goes { Goes [] (seen D.state rig.old) (seen D.state rig.new) }
+    ensures keeps { KeepsBlocks (seen D.state rig.old) (seen D.state rig.new) }
     ensures prints { IsTrue (seen D.state rig.old).device.told → Prints W.took
         (records_text kind answers.now.stabs
         (chain_items (seen D.state rig.old) answers.now.records))

@@ -1,24 +1,34 @@
-// A map or stab file is read whole, and then answered.
-ghost use Rattle.std.specs.Prelude.{◌≡◌, ◌≤◌, true, [], length, IfErr, IfOk, IsTrue, OnOk};
+// A map or stab file is given to a service command by command. At a sync the answers that are due are printed, and at the
+// end of the file the others.
+ghost use Rattle.std.specs.Prelude.{◌≡◌, ◌+◌, ◌*◌, ◌++◌, ◌∷◌, ◌<◌, ◌≤◌, ◌^◌, true, [], List, length, IfErr, IfOk, IsTrue, OnOk};
 ghost use Rattle.em_io.specs.Feed.{rest};
 ghost use Rattle.em_model.specs.Stab.{stab_answers, stab_answer_of};
+ghost use Rattle.em_model.specs.Sync.{since_sync, up_to_sync};
+ghost use Rattle.em_model.specs.declared.command.Command as commands;
+ghost use Rattle.em_model.specs.declared.command.Command.TheVariants as variants;
 ghost use Rattle.em_space.specs.Held.{Within};
-ghost use Rattle.em_space.specs.Queue.{CanServe};
 ghost use Rattle.em_space.specs.Rig.{Goes, Sound};
 ghost use Rattle.em_space.specs.Seen.{seen};
-ghost use Rattle.em_chain.specs.Chain.{IsChain, chain_items, payload_in};
-ghost use Rattle.em_chain.specs.Counts.{ceiling};
 ghost use Rattle.em_lines.specs.CommandLine.{good_commands};
+ghost use Rattle.em_lines.specs.Kind.{IsOfKind};
 ghost use Rattle.em_lines.specs.Reads.{Reads};
 ghost use Rattle.em_ready.specs.Ready.{IsReady, IsUnused};
 ghost use Rattle.em_lines.specs.RunSize.{commands_taken, run_size};
-ghost use Rattle.em_answers.specs.Reading.{KeepsAllowance, StandsAlone, StopsReading, service_limits, ReadsAll};
-ghost use Rattle.em_services.specs.Service.{records_for};
+ghost use Rattle.em_chain.specs.Chain.{IsChain, chain_items, payload_in};
+ghost use Rattle.em_chain.specs.Counts.{ceiling};
+ghost use Rattle.em_answers.specs.Answer.{synced_text, text_at};
+ghost use Rattle.em_answers.specs.FileDue.{output_text};
+ghost use Rattle.em_answers.specs.Print.{records_text};
+ghost use Rattle.em_answers.specs.Reading.{FullAtSync, KeepsAllowance, StandsAlone, StopsReading, SyncCause, moves_within, service_limits, ReadsAll};
+ghost use Rattle.em_answers.specs.Serve.{Answers as AnswersAll};
+ghost use Rattle.em_ends.specs.Stop.{IfStopsFull, Prints};
+ghost use Rattle.em_services.specs.Service.{CanAnswer, TakesCommand, WithinAllowance, WithinRoom, records_for, syncs_for};
 
-use crate::print::Answers;
+use crate::print::{Answers, print_answers};
+use em_chain::discard;
 use em_ends::Stop;
 use em_frames::Device;
-use em_io::{Feed, Shelf};
+use em_io::{Feed, Shelf, Sink};
 use em_lines::{LineStop, take_line};
 use em_model::Command;
 use em_services::Service;
@@ -35,21 +45,117 @@ fn stabs_in(command: Command) -> u64
     }
 }
 
-/// Reads all commands of a file into a service that has none, up to the first fault, on a rig on which
-/// the service is alone. Answers the number of stabs.
-fn read_all<D: Device, H: Shelf, S: Service>(
+/// A sync of a file: the answers that are due are printed, and their list is released.
+fn answer_sync<D: Device, W: Sink, S: Service>(
+    rig: &mut Rig<'_, D>,
+    service: &mut S,
+    out: &mut W,
+) -> Result<(), Stop>
+    requires sound { Sound (seen D.state rig.old) }
+    requires is { S.IsService service.old (seen D.state rig.old) }
+    requires free { CanAnswer (seen D.state rig.old).pool }
+    requires few { (S.counts service.old).n < 2 ^ 40 }
+    requires kind { IsOfKind S.KIND variants.Sync }
+    ensures goes { Goes (S.blocks service.old (seen D.state rig.old))
+        (seen D.state rig.old) (seen D.state rig.new) }
+    ensures frames { S.HasItsFrames service.new (seen D.state rig.new) }
+    ensures is { OnOk result (S.IsService service.new (seen D.state rig.new)) }
+    ensures has { OnOk result ((before cs : List commands.Command)
+        → S.Has service.old (seen D.state rig.old) before cs
+        → S.Has service.new (seen D.state rig.new) (before ++ cs ++ variants.Sync ∷ []) []) }
+    ensures takes { OnOk result (TakesCommand S.allowance S.room 1
+        (S.blocks service.old (seen D.state rig.old)) (S.blocks service.new (seen D.state rig.new))
+        (S.counts service.old) (S.counts service.new)
+        (seen D.state rig.old) (seen D.state rig.new)) }
+    ensures room { WithinRoom S.room ((S.counts service.old).n + 1)
+        (S.blocks service.old (seen D.state rig.old))
+        (seen D.state rig.old) (seen D.state rig.new) }
+    ensures moves { WithinAllowance S.allowance ((S.counts service.old).n + 1)
+        ((S.counts service.old).syncs + 1) (S.counts service.old).spent
+        (seen D.state rig.old) (seen D.state rig.new) }
+    ensures prints { IsTrue (seen D.state rig.old).device.told → (before cs : List commands.Command)
+        → S.Has service.old (seen D.state rig.old) before cs
+        → Prints W.took (records_text S.KIND 0 (records_for S.KIND before cs))
+        (W.state out.old) (W.state out.new) result }
+    ensures later { W.faults out.old ≤ W.faults out.new }
+    ensures full { IfErr result (λ stop. IfStopsFull stop (FullAtSync S.room
+        (S.blocks service.old (seen D.state rig.old)) (S.counts service.old)
+        (seen D.state rig.old) (seen D.state rig.new))) }
+    ensures cause { IfErr result (SyncCause (W.faults out.old) (W.faults out.new)
+        (seen D.state rig.old) (seen D.state rig.new)) }
+{
+    let records = service.sync(rig)?;
+    let answers = Answers { records, stabs: 0 };
+    print_answers(S::KIND, rig, &answers, out)?;
+    discard(rig, answers.records)?;
+    Ok(())
+}
+
+/// Gives a service the next command of its file; at a sync the answers that are due are printed.
+fn give<D: Device, W: Sink, S: Service>(
+    rig: &mut Rig<'_, D>,
+    service: &mut S,
+    command: Command,
+    out: &mut W,
+) -> Result<(), Stop>
+    requires sound { Sound (seen D.state rig.old) }
+    requires is { S.IsService service.old (seen D.state rig.old) }
+    requires free { CanAnswer (seen D.state rig.old).pool }
+    requires few { (S.counts service.old).n < 2 ^ 40 }
+    requires kind { IsOfKind S.KIND command }
+    ensures goes { Goes (S.blocks service.old (seen D.state rig.old))
+        (seen D.state rig.old) (seen D.state rig.new) }
+    ensures frames { S.HasItsFrames service.new (seen D.state rig.new) }
+    ensures is { OnOk result (S.IsService service.new (seen D.state rig.new)) }
+    ensures has { OnOk result ((given : List commands.Command)
+        → S.Has service.old (seen D.state rig.old) (up_to_sync given) (since_sync given)
+        → S.Has service.new (seen D.state rig.new) (up_to_sync (given ++ command ∷ []))
+        (since_sync (given ++ command ∷ []))) }
+    ensures takes { OnOk result (TakesCommand S.allowance S.room (syncs_for S.KIND (command ∷ []))
+        (S.blocks service.old (seen D.state rig.old)) (S.blocks service.new (seen D.state rig.new))
+        (S.counts service.old) (S.counts service.new)
+        (seen D.state rig.old) (seen D.state rig.new)) }
+    ensures room { WithinRoom S.room ((S.counts service.old).n + 1)
+        (S.blocks service.old (seen D.state rig.old))
+        (seen D.state rig.old) (seen D.state rig.new) }
+    ensures moves { WithinAllowance S.allowance ((S.counts service.old).n + 1)
+        ((S.counts service.old).syncs + syncs_for S.KIND (command ∷ [])) (S.counts service.old).spent
+        (seen D.state rig.old) (seen D.state rig.new) }
+    ensures prints { IsTrue (seen D.state rig.old).device.told → (given : List commands.Command)
+        → S.Has service.old (seen D.state rig.old) (up_to_sync given) (since_sync given)
+        → Prints W.took (text_at S.KIND given command) (W.state out.old) (W.state out.new) result }
+    ensures later { W.faults out.old ≤ W.faults out.new }
+    ensures full { IfErr result (λ stop. IfStopsFull stop (FullAtSync S.room
+        (S.blocks service.old (seen D.state rig.old)) (S.counts service.old)
+        (seen D.state rig.old) (seen D.state rig.new))) }
+    ensures cause { IfErr result (SyncCause (W.faults out.old) (W.faults out.new)
+        (seen D.state rig.old) (seen D.state rig.new)) }
+{
+    if let Command::Sync = command {
+        return answer_sync(rig, service, out);
+    }
+    match service.take(rig, command) {
+        Ok(()) => Ok(()),
+        Err(fault) => Err(Stop::Em(fault)),
+    }
+}
+
+/// Gives all commands of a file to a service that has none, up to the first fault, on a rig on which the service is
+/// alone. At each sync the answers that are due are printed. Answers the number of stabs.
+fn read_all<D: Device, H: Shelf, W: Sink, S: Service>(
     rig: &mut Rig<'_, D>,
     service: &mut S,
     feed: &mut Feed,
     shelf: &mut H,
+    out: &mut W,
 ) -> Result<u64, Stop>
     requires sound { Sound (seen D.state rig.old) }
     requires is { S.IsService service.old (seen D.state rig.old) }
-    requires none { S.Has service.old (seen D.state rig.old) [] }
+    requires none { S.Has service.old (seen D.state rig.old) [] [] }
     requires alone { StandsAlone S.allowance S.room
         (S.blocks service.old (seen D.state rig.old)) (S.counts service.old)
         (seen D.state rig.old) }
-    requires free { CanServe (seen D.state rig.old).pool }
+    requires free { CanAnswer (seen D.state rig.old).pool }
     requires ready { ((H.stand shelf.old).slot feed.old.slot).ready ≡ true }
     requires place { feed.old.place ≡ 0 }
     ensures goes { Goes (S.blocks service.old (seen D.state rig.old))
@@ -64,18 +170,24 @@ fn read_all<D: Device, H: Shelf, S: Service>(
         (S.counts service.new) (seen D.state rig.new)) }
     ensures reads { Reads H.tells feed.old (H.stand shelf.old) feed.new (H.stand shelf.new) }
     ensures later { H.faults shelf.old ≤ H.faults shelf.new }
+    ensures write_later { W.faults out.old ≤ W.faults out.new }
     ensures whole { IsTrue H.tells → OnOk result (ReadsAll S.KIND
         (rest feed.old (H.stand shelf.old)) (rest feed.new (H.stand shelf.new))) }
     ensures taken { IsTrue H.tells → OnOk result ((S.counts service.new).n
         ≤ commands_taken S.KIND (rest feed.old (H.stand shelf.old))
         ((H.stand shelf.new).slot feed.old.slot).left) }
     ensures has { IsTrue H.tells → OnOk result (S.Has service.new (seen D.state rig.new)
-        (good_commands S.KIND (rest feed.old (H.stand shelf.old)))) }
+        (up_to_sync (good_commands S.KIND (rest feed.old (H.stand shelf.old))))
+        (since_sync (good_commands S.KIND (rest feed.old (H.stand shelf.old))))) }
     ensures stabs { IsTrue H.tells → IfOk result (λ n. n
         ≡ length (stab_answers (good_commands S.KIND (rest feed.old (H.stand shelf.old))))) }
-    ensures stop { IfErr result (StopsReading H.Shelf
-        (service_limits S.allowance S.room)
-        S.KIND feed.old shelf.old shelf.new (seen D.state rig.old) (seen D.state rig.new)) }
+    ensures synced { IsTrue H.tells → IsTrue (seen D.state rig.old).device.told
+        → AnswersAll W.took
+        (synced_text S.KIND (good_commands S.KIND (rest feed.old (H.stand shelf.old))))
+        (W.state out.old) (W.state out.new) result }
+    ensures stop { IfErr result (StopsReading H.Shelf W.Sink
+        (service_limits S.allowance S.room) S.KIND feed.old shelf.old shelf.new out.old out.new
+        (seen D.state rig.old) (seen D.state rig.new)) }
     ensures moves { IsTrue H.tells → KeepsAllowance S.allowance S.KIND
         (rest feed.old (H.stand shelf.old)) ((H.stand shelf.new).slot feed.old.slot).left
         (seen D.state rig.old) (seen D.state rig.new) }
@@ -91,21 +203,20 @@ fn read_all<D: Device, H: Shelf, S: Service>(
         let Some(command) = next else {
             return Ok(stabs);
         };
-        if let Err(fault) = service.take(rig, command) {
-            return Err(Stop::Em(fault));
-        }
+        give(rig, service, command, out)?;
         stabs += stabs_in(command);
         number += 1;
     }
 }
 
-/// Reads all commands of a file into a new service of type S, and has them answered, on a rig of which
-/// no block is or was in use. The service is given up.
+/// Gives all commands of a file to a new service of type S, on a rig of which no block is or was in use. At each
+/// sync the answers that are due are printed; those of the others are handed out. The service is given up.
 #[tactic(auto, using(crate::proofs::Listing::serves_beside, crate::proofs::Listing::answers_beside, crate::proofs::Listing::alone_made, crate::proofs::Listing::ended_service, crate::proofs::Listing::left_service))]
-pub fn read_answers<D: Device, H: Shelf, S: Service>(
+fn read_answers<D: Device, H: Shelf, W: Sink, S: Service>(
     rig: &mut Rig<'_, D>,
     feed: &mut Feed,
     shelf: &mut H,
+    out: &mut W,
 ) -> Result<Answers, Stop>
     requires unused { IsUnused (seen D.state rig.old) }
     requires none_moved { (seen D.state rig.old).moves ≡ 0 }
@@ -116,20 +227,26 @@ pub fn read_answers<D: Device, H: Shelf, S: Service>(
     ensures is { IfOk result (λ a. IsChain (seen D.state rig.new) a.records) }
     ensures reads { Reads H.tells feed.old (H.stand shelf.old) feed.new (H.stand shelf.new) }
     ensures later { H.faults shelf.old ≤ H.faults shelf.new }
+    ensures write_later { W.faults out.old ≤ W.faults out.new }
     ensures whole { IsTrue H.tells → OnOk result (ReadsAll S.KIND
         (rest feed.old (H.stand shelf.old)) (rest feed.new (H.stand shelf.new))) }
     ensures records { IsTrue H.tells → IsTrue (seen D.state rig.old).device.told
-        → IfOk result (λ a. chain_items (seen D.state rig.new) a.records
-        ≡ records_for S.KIND (good_commands S.KIND (rest feed.old (H.stand shelf.old)))) }
+        → IfOk result (λ a. chain_items (seen D.state rig.new) a.records ≡ records_for S.KIND
+        (up_to_sync (good_commands S.KIND (rest feed.old (H.stand shelf.old))))
+        (since_sync (good_commands S.KIND (rest feed.old (H.stand shelf.old))))) }
     ensures stabs { IsTrue H.tells → IfOk result (λ a. a.stabs
         ≡ length (stab_answers (good_commands S.KIND (rest feed.old (H.stand shelf.old))))) }
     ensures blocks { IsTrue H.tells → IsTrue (seen D.state rig.old).device.told
         → IfOk result (λ a. a.records.blocks ≤ ceiling
         (run_size S.KIND (rest feed.old (H.stand shelf.old))
         ((H.stand shelf.new).slot feed.old.slot).left) (payload_in (seen D.state rig.old))) }
-    ensures stop { IfErr result (StopsReading H.Shelf
-        (service_limits S.allowance S.room)
-        S.KIND feed.old shelf.old shelf.new (seen D.state rig.old) (seen D.state rig.new)) }
+    ensures synced { IsTrue H.tells → IsTrue (seen D.state rig.old).device.told
+        → AnswersAll W.took
+        (synced_text S.KIND (good_commands S.KIND (rest feed.old (H.stand shelf.old))))
+        (W.state out.old) (W.state out.new) result }
+    ensures stop { IfErr result (StopsReading H.Shelf W.Sink
+        (service_limits S.allowance S.room) S.KIND feed.old shelf.old shelf.new out.old out.new
+        (seen D.state rig.old) (seen D.state rig.new)) }
     ensures moves { IsTrue H.tells → KeepsAllowance S.allowance S.KIND
         (rest feed.old (H.stand shelf.old)) ((H.stand shelf.new).slot feed.old.slot).left
         (seen D.state rig.old) (seen D.state rig.new) }
@@ -138,7 +255,7 @@ pub fn read_answers<D: Device, H: Shelf, S: Service>(
         Ok(service) => service,
         Err(fault) => return Err(Stop::Em(fault)),
     };
-    match read_all(rig, &mut service, feed, shelf) {
+    match read_all(rig, &mut service, feed, shelf, out) {
         Ok(stabs) => match service.answers(rig) {
             Ok(records) => Ok(Answers { records, stabs }),
             Err(fault) => Err(Stop::Em(fault)),
@@ -148,4 +265,37 @@ pub fn read_answers<D: Device, H: Shelf, S: Service>(
             Err(stop)
         }
     }
+}
+
+/// Answers a file by a new service of type S, on a rig of which no block is or was in use: its commands are given to
+/// the service, and the answers printed at each sync and at the end. The service is given up.
+pub fn answer_file<D: Device, H: Shelf, W: Sink, S: Service>(
+    rig: &mut Rig<'_, D>,
+    feed: &mut Feed,
+    shelf: &mut H,
+    out: &mut W,
+) -> Result<(), Stop>
+    requires unused { IsUnused (seen D.state rig.old) }
+    requires none_moved { (seen D.state rig.old).moves ≡ 0 }
+    requires free { IsReady (seen D.state rig.old).pool }
+    requires ready { ((H.stand shelf.old).slot feed.old.slot).ready ≡ true }
+    requires place { feed.old.place ≡ 0 }
+    ensures goes { Goes [] (seen D.state rig.old) (seen D.state rig.new) }
+    ensures reads { Reads H.tells feed.old (H.stand shelf.old) feed.new (H.stand shelf.new) }
+    ensures later { H.faults shelf.old ≤ H.faults shelf.new }
+    ensures write_later { W.faults out.old ≤ W.faults out.new }
+    ensures whole { IsTrue H.tells → OnOk result (ReadsAll S.KIND
+        (rest feed.old (H.stand shelf.old)) (rest feed.new (H.stand shelf.new))) }
+    ensures answers { IsTrue H.tells → IsTrue (seen D.state rig.old).device.told
+        → AnswersAll W.took (output_text S.KIND (rest feed.old (H.stand shelf.old)))
+        (W.state out.old) (W.state out.new) result }
+    ensures stop { IfErr result (StopsReading H.Shelf W.Sink
+        (service_limits S.allowance S.room) S.KIND feed.old shelf.old shelf.new out.old out.new
+        (seen D.state rig.old) (seen D.state rig.new)) }
+    ensures moves { IsTrue H.tells → KeepsAllowance (moves_within S.allowance) S.KIND
+        (rest feed.old (H.stand shelf.old)) ((H.stand shelf.new).slot feed.old.slot).left
+        (seen D.state rig.old) (seen D.state rig.new) }
+{
+    let answers = read_answers::<D, H, W, S>(rig, feed, shelf, out)?;
+    print_answers(S::KIND, rig, &answers, out)
 }

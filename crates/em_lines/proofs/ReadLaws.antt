@@ -1,16 +1,20 @@
 -- Reading a text line by line: what a line adds, and how the lines read are counted.
 use Rattle.std.proofs.Common.{◌≡◌, ℕ, zero, suc, ◌+◌, ◌-◌, ◌<◌, ◌≤◌, ◌^◌, Bool, IsTrue, true, false, cond, List, [], ◌∷◌, ◌++◌, length, Ok, refl, sym, subst, ap, ◌∙◌, arith, append_assoc, zero-add, ⊎_elim, inl, inr, ◌⊎◌}
 use Rattle.std.specs.Prelude.{Some, ◌==◌, take}
+use Rattle.std.proofs.Math.Seq.{take-append_seam}
 use Rattle.std.specs.List.{count_by, onto_first}
-use Rattle.std.proofs.lemmas.List.{length-append}
+use Rattle.std.proofs.lemmas.List.{length-append, length-take}
 use Rattle.std.proofs.lemmas.List.Sums.{sum_by-cons}
 use Rattle.std.proofs.Math.Nat.{add_assoc}
 use Rattle.std.proofs.lemmas.Bool.{cond-false, cond-true, le-ltb, lt-ltb, cases_lt}
 use Rattle.em_io.specs.declared.shelf.Slot.{Slot}
 use Rattle.em_io.specs.Feed.{Fed, rest}
 use Rattle.em_io.specs.Shelf.{Stand}
+use Rattle.em_model.specs.Sync.{syncs_of}
 use Rattle.em_model.specs.declared.command.Command.{Command}
+use Rattle.em_model.proofs.SyncLaws.{syncs-take, syncs_few}
 use Rattle.em_lines.specs.declared.text.FileKind.{FileKind}
+use Rattle.em_lines.specs.declared.text.FileKind.TheVariants.{Map}
 use Rattle.em_lines.specs.declared.text.TextKind.TheVariants.{TooLong}
 use Rattle.em_lines.specs.declared.text.LineStop.{LineStop}
 use Rattle.em_lines.specs.declared.text.LineStop.TheVariants as stop
@@ -20,7 +24,7 @@ use Rattle.em_lines.specs.CommandLine.{command_of, numbered, before_parsed, pars
 use Rattle.em_lines.specs.Stops.{StopsBy, IfFault}
 use Rattle.em_lines.specs.LineTaken.{LineTaken}
 use Rattle.em_lines.specs.Reads.{Reads}
-use Rattle.em_lines.specs.RunSize.{lines_given, commands_taken}
+use Rattle.em_lines.specs.RunSize.{lines_given, commands_taken, syncs_taken}
 use Rattle.em_lines.proofs.LineLemmas.{lines_of-line_at}
 
 -- The first line of a text.
@@ -301,3 +305,19 @@ pub counted_read : {tells : Bool} (k : FileKind) {text : List ℕ} {f g h : Fed}
     → Counted k text (rest g b) count → count ≤ commands_taken k text (c.slot f.slot).left
 counted_read k {text} {f} {g} {h} {a} {b} {c} {count} p q told counted =
     counted_left k text (rest g b) h c f.slot count counted (q.slot ∙ p.slot) (q.shorter told)
+
+-- The syncs among the commands of a map that were read are among those of the run,
+pub syncs_read : (text left : List ℕ) (cs rest : List Command) → good_commands Map text ≡ cs ++ rest
+    → length cs ≤ commands_taken Map text left → syncs_of cs ≤ syncs_taken text left
+syncs_read text left cs rest good h =
+    let front : take (length cs) (good_commands Map text) ≡ cs =
+    ap (take (length cs)) good ∙ take-append_seam cs rest in
+    let more = syncs-take (length cs) (commands_taken Map text left) (good_commands Map text) h in
+    omega (arith, more, ap syncs_of front)
+
+-- and are no more than its commands.
+pub syncs_taken_few : (text left : List ℕ) → syncs_taken text left ≤ commands_taken Map text left
+syncs_taken_few text left =
+    let good = good_commands Map text in
+    let few = syncs_few (take (commands_taken Map text left) good) in
+    omega (arith, few, length-take (commands_taken Map text left) good)

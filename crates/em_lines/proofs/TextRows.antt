@@ -1,11 +1,11 @@
 -- Worked texts: what the definitions of command files say of them.
-use Rattle.std.specs.Prelude.{◌≡◌, [], ◌∷◌, codes, map, refl, Some, None, Ok, Err}
+use Rattle.std.specs.Prelude.{◌≡◌, [], ◌∷◌, codes, drop, map, refl, Some, None, Ok, Err}
 use Rattle.em_model.specs.declared.command.Command.TheVariants as command
 use Rattle.em_lines.specs.declared.text.FileKind.TheVariants.{Map, Queue, Stab}
 use Rattle.em_lines.specs.declared.text.TextKind.TheVariants.{BadNumber, TooLarge, BadSeparator, Unknown, EmptyLine, LowAboveHigh, TooLong}
 use Rattle.em_lines.specs.Lines.{lines_of, parts_of}
 use Rattle.em_lines.specs.CommandLine.{command_of, numbered, first_fault, good_commands}
-use Rattle.em_lines.specs.RunSize.{lines_given}
+use Rattle.em_lines.specs.RunSize.{lines_given, syncs_taken}
 
 -- How a text is cut.
 
@@ -52,6 +52,26 @@ no_fault_of_a_map_text :
     first_fault Map (codes "put 5 10\nget 5\nput 5 11\nget 5\ndel 5\nget 5\n") ≡ None
 no_fault_of_a_map_text = refl
 
+the_commands_of_a_text_with_a_sync :
+    good_commands Map (codes "put 1 5\nget 1\nsync\ndel 1\nget 1\n")
+    ≡ command.Put 1 5 ∷ command.Get 1 ∷ command.Sync ∷ command.Del 1 ∷ command.Get 1 ∷ []
+the_commands_of_a_text_with_a_sync = refl
+
+the_commands_before_a_fault_after_a_sync :
+    good_commands Map (codes "put 1 5\nget 1\nsync\nget 1\nget x\n")
+    ≡ command.Put 1 5 ∷ command.Get 1 ∷ command.Sync ∷ command.Get 1 ∷ []
+the_commands_before_a_fault_after_a_sync = refl
+
+a_fault_after_a_sync :
+    first_fault Map (codes "put 1 5\nget 1\nsync\nget 1\nget x\n") ≡ Some (BadNumber, 5)
+a_fault_after_a_sync = refl
+
+a_sync_with_an_operand : first_fault Map (codes "sync 1\n") ≡ Some (BadSeparator, 1)
+a_sync_with_an_operand = refl
+
+a_sync_without_newline : good_commands Map (codes "sync") ≡ command.Sync ∷ []
+a_sync_without_newline = refl
+
 the_commands_of_a_stab_text :
     good_commands Stab (codes "stab 5\niv 5 5\niv 7 18446744073709551615\n")
     ≡ command.Stab 5 ∷ command.Interval 5 5 ∷ command.Interval 7 18446744073709551615 ∷ []
@@ -86,6 +106,12 @@ a_line_and_an_empty_line = refl
 none_of_the_empty_text : lines_given 0 [] ≡ 0
 none_of_the_empty_text = refl
 
+-- Syncs of a text whose front was taken.
+
+syncs_of_a_front : map (λ k. syncs_taken (codes "sync\nget 1\nsync\n") (drop k (codes "sync\nget 1\nsync\n")))
+    (0 ∷ 4 ∷ 5 ∷ 11 ∷ 15 ∷ 16 ∷ []) ≡ 0 ∷ 0 ∷ 1 ∷ 1 ∷ 1 ∷ 2 ∷ []
+syncs_of_a_front = refl
+
 -- Lines.
 
 digits_21 : command_of Map (codes "get 000000000000000000001") ≡ Err BadNumber
@@ -112,6 +138,21 @@ a_return_in_a_word = refl
 
 a_space_behind_the_last_operand : command_of Queue (codes "pop ") ≡ Err BadSeparator
 a_space_behind_the_last_operand = refl
+
+a_space_behind_a_sync : command_of Map (codes "sync ") ≡ Err BadSeparator
+a_space_behind_a_sync = refl
+
+a_return_in_a_sync : command_of Map (codes "sync\r") ≡ Err Unknown
+a_return_in_a_sync = refl
+
+a_word_longer_than_sync : command_of Map (codes "syncs") ≡ Err Unknown
+a_word_longer_than_sync = refl
+
+a_sync_of_a_queue : command_of Queue (codes "sync") ≡ Err Unknown
+a_sync_of_a_queue = refl
+
+a_sync_of_intervals : command_of Stab (codes "sync") ≡ Err Unknown
+a_sync_of_intervals = refl
 
 a_third_operand : command_of Map (codes "put 1 2 3") ≡ Err BadSeparator
 a_third_operand = refl

@@ -58,13 +58,14 @@ in_order (command.Interval low high) =
     if nat_lt high low then Err LowAboveHigh else Ok (command.Interval low high)
 in_order other = Ok other
 
--- the command of a map file, from its word and the parts after it: `put K V`, `del K` or `get K`
+-- the command of a map file, from its word and the parts after it: `put K V`, `del K`, `get K` or `sync`
 abbrev pub map_command_of : List ℕ → List (List ℕ) → Result Command TextKind
 map_command_of word parts =
     if bytes_eq word (codes "put") then with_operands command.Put parts
     else (if bytes_eq word (codes "del") then with_operand command.Del parts
     else (if bytes_eq word (codes "get") then with_operand command.Get parts
-    else Err Unknown))
+    else (if bytes_eq word (codes "sync") then at_end parts command.Sync
+    else Err Unknown)))
 
 -- the command of a queue file: `push K V` or `pop`
 abbrev pub queue_command_of : List ℕ → List (List ℕ) → Result Command TextKind

@@ -10,6 +10,7 @@ abbrev pub IsOfKind : FileKind → Command → Type 0
 IsOfKind kind.Map (command.Put key value) = Unit {0}
 IsOfKind kind.Map (command.Del key) = Unit {0}
 IsOfKind kind.Map (command.Get key) = Unit {0}
+IsOfKind kind.Map command.Sync = Unit {0}
 IsOfKind kind.Queue (command.Push key value) = Unit {0}
 IsOfKind kind.Queue command.Pop = Unit {0}
 IsOfKind kind.Stab (command.Interval low high) = low ≤ high

@@ -2,6 +2,7 @@
 use Rattle.std.specs.Prelude.{ℕ, ◌+◌, ◌-◌, List, ◌==◌, length, take, min, nat_lt, if◌then◌else◌}
 use Rattle.std.specs.List.{count_by, sum_by}
 use Rattle.em_model.specs.Stab.{stab_answers}
+use Rattle.em_model.specs.Sync.{syncs_of}
 use Rattle.em_model.specs.declared.command.Command.{Command}
 use Rattle.em_lines.specs.declared.text.FileKind.{FileKind}
 use Rattle.em_lines.specs.declared.text.FileKind.TheVariants.{Map, Queue, Stab}
@@ -20,6 +21,10 @@ lines_given given text =
 abbrev pub commands_taken : FileKind → List ℕ → List ℕ → ℕ
 commands_taken kind text left =
     min (lines_given (length text - length left) text) (length (good_commands kind text))
+
+-- how many syncs were taken of a map's text, where this much of it is left on the shelf
+abbrev pub syncs_taken : List ℕ → List ℕ → ℕ
+syncs_taken text left = syncs_of (take (commands_taken Map text left) (good_commands Map text))
 
 -- how many numbers of intervals the answers to some commands have together
 abbrev pub pairs_reported : List Command → ℕ

@@ -66,6 +66,8 @@ fn map_command<H: Shelf>(feed: &mut Feed, shelf: &mut H, word: &[u8]) -> Result<
     } else if word == b"get".as_slice() {
         let key = read_operand(feed, shelf)?;
         read_end(feed, shelf, Command::Get { key })
+    } else if word == b"sync".as_slice() {
+        read_end(feed, shelf, Command::Sync)
     } else {
         Err(LineStop::Fault(TextKind::Unknown))
     }

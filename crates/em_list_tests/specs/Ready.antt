@@ -6,8 +6,10 @@ use Rattle.em_space.specs.Queue.{CanServe}
 use Rattle.em_space.specs.Rig.{RigState, Sound}
 use Rattle.em_space.specs.declared.fault.EmFault.{EmFault}
 use Rattle.em_plain.specs.CommandList.{HasListFrame, IsCommandList, list_len}
+use Rattle.em_plain.specs.ScanMap.{IsScanMap, MapHasFrame}
 use Rattle.em_plain.specs.ScanQueue.{IsScanQueue, QueueHasFrame, queue_blocks}
 use Rattle.em_plain.specs.declared.command_list.CommandList.{CommandList}
+use Rattle.em_plain.specs.declared.scan_map.ScanMap.{ScanMap}
 use Rattle.em_plain.specs.declared.scan_queue.ScanQueue.{ScanQueue}
 use Rattle.em_sorting.specs.Pushes.{CanServeBeside}
 
@@ -64,3 +66,18 @@ pub record KeepsList {T : Type 0} (more : ℕ) (s t : RigState) (l m : CommandLi
   pub frame : HasListFrame t m
   pub is : OnOk result (IsCommandList t m)
   pub len : OnOk result (list_len m ≤ list_len l + more)
+
+-- The same of a map.
+pub record ReadyMap (more : ℕ) (s : RigState) (m : ScanMap) : Type 0 where
+  pub sound : Sound s
+  pub is : IsScanMap s m
+  pub free : 6 ≤ s.pool.free
+  pub few : list_len m.list + more ≤ 2 ^ 40
+
+pub record KeepsMap {T : Type 0} (more : ℕ) (s t : RigState) (m n : ScanMap)
+    (result : Result T EmFault) : Type 0 where
+  pub sound : Sound t
+  pub frames : SameFrames s.pool t.pool
+  pub frame : MapHasFrame t n
+  pub is : OnOk result (IsScanMap t n)
+  pub len : OnOk result (list_len n.list ≤ list_len m.list + more)

@@ -2,7 +2,7 @@
 ghost use Rattle.std.specs.Prelude.{◌≤◌, ◌^◌, length};
 ghost use Rattle.em_space.specs.Rig.{Sound};
 ghost use Rattle.em_space.specs.Seen.{seen};
-ghost use Rattle.em_list_tests.specs.Ready.{Keeps, KeepsList, ReadyList};
+ghost use Rattle.em_list_tests.specs.Ready.{Keeps, KeepsMap, ReadyMap};
 
 use em_devices::takes;
 use em_frames::Device;
@@ -12,9 +12,9 @@ use em_space::{EmFault, Rig};
 
 /// Gives a map a command on the key `a`: with 0 in `c` a get, with 1 a put of the value `b`, with 2 a del.
 fn note<D: Device>(rig: &mut Rig<'_, D>, map: &mut ScanMap, command: Record) -> Result<(), EmFault>
-    requires ready { ReadyList 1 (seen D.state rig.old) map.old.list }
-    ensures kept { KeepsList 1 (seen D.state rig.old) (seen D.state rig.new)
-        map.old.list map.new.list result }
+    requires ready { ReadyMap 1 (seen D.state rig.old) map.old }
+    ensures kept { KeepsMap 1 (seen D.state rig.old) (seen D.state rig.new)
+        map.old map.new result }
 {
     match command.c {
         0 => map.get(rig, command.a),
@@ -30,9 +30,9 @@ fn note_all<D: Device>(
     map: &mut ScanMap,
     commands: &[Record],
 ) -> Result<(), EmFault>
-    requires ready { ReadyList (length commands.now) (seen D.state rig.old) map.old.list }
-    ensures kept { KeepsList (length commands.now) (seen D.state rig.old) (seen D.state rig.new)
-        map.old.list map.new.list result }
+    requires ready { ReadyMap (length commands.now) (seen D.state rig.old) map.old }
+    ensures kept { KeepsMap (length commands.now) (seen D.state rig.old) (seen D.state rig.new)
+        map.old map.new result }
 {
     for command in commands {
         note(rig, map, *command)?;

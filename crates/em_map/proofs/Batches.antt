@@ -1,12 +1,15 @@
 -- The calls of a batch, from those of its tree.
-use Rattle.std.specs.Prelude.{◌≡◌, Bool, ℕ, ◌+◌, ◌-◌, ◌<◌, ◌≤◌, ◌^◌, max, List, [], ◌∷◌, ◌++◌, length, IsTrue, Result, Ok, Err, None, option_to_list}
+use Rattle.std.specs.Prelude.{◌≡◌, Bool, ℕ, ◌+◌, ◌-◌, ◌<◌, ◌≤◌, ◌^◌, max, List, [], ◌∷◌, ◌++◌, IsTrue, Result, Ok, Err, None, option_to_list}
 use Rattle.std.proofs.Common.{sym, ap, subst, ◌∙◌, refl, arith}
 use Rattle.std.specs.List.Sorted.{IsPermutation}
 use Rattle.std.proofs.lemmas.List.{length-append}
 use Rattle.std.proofs.lemmas.List.Sorted.{IsPermutation-refl, IsPermutation-trans}
 use Rattle.em_record.specs.declared.record.Record.{Record}
-use Rattle.em_model.specs.Map.{no_keys}
+use Rattle.em_model.specs.MapAnswers.{answers_after}
+use Rattle.em_model.specs.Sync.{syncs_of}
 use Rattle.em_model.specs.declared.command.Command.{Command}
+use Rattle.em_model.specs.declared.command.Command.TheVariants.{Put, Del, Get, Sync, Push, Pop, Interval, Stab}
+use Rattle.em_model.proofs.SyncLaws.{syncs-append}
 use Rattle.em_settle.specs.Keys.{of_key, record_at}
 use Rattle.em_settle.specs.Map.{IsMapKept, IsMapOp, map_key_of, map_step_of}
 use Rattle.em_space.specs.Rig.{RigState, Sound, Touches}
@@ -14,7 +17,6 @@ use Rattle.em_space.specs.declared.fault.EmFault.{EmFault}
 use Rattle.em_chain.specs.Chain.{chain_items}
 use Rattle.em_chain.specs.declared.chain.Chain.{Chain}
 use Rattle.em_tree_cost.specs.Books.{TreeCounts, count_push}
-use Rattle.em_tree_cost.specs.Shares.{batch_share, tree_share}
 use Rattle.em_tree_model.specs.Meaning.{nothing, tree_answers, tree_contents}
 use Rattle.em_tree_model.specs.Owed.{owed}
 use Rattle.em_tree_model.specs.Ranges.{IsTree, least_record}
@@ -26,15 +28,14 @@ use Rattle.em_settle.specs.States.{stored_after}
 use Rattle.em_tree.specs.Calls.{ChangesTrunk, CountsCall, FinishCosts, FinishesTrunk, IsNewTrunk, PushesOp}
 use Rattle.em_trunk.specs.Meaning.{IsLater}
 use Rattle.em_trunk.specs.Trunk.{given_by, model_of}
-use Rattle.em_map.specs.Batch.{BatchCosts, CountsCommand, FinishesBatch, HasCommands, IsBatch, IsNewBatch, TakesTo, trunk_of}
-use Rattle.em_model.specs.MapAnswers.{answer_records}
-use Rattle.em_map.specs.Commands.{map_op, map_ops}
+use Rattle.em_map.specs.Batch.{BatchCosts, CountsCommand, FinishesBatch, HasCommands, IsBatch, IsNewBatch, TakesTo, contents_after, trunk_of}
+use Rattle.em_map.specs.Commands.{map_op, map_ops, ops_after}
 use Rattle.em_map.specs.Contents.{UpTo, WaitsUpTo, key_record}
 use Rattle.em_map.specs.declared.batch.Batch.{Batch}
-use Rattle.em_map.proofs.Contents.{answers_are}
+use Rattle.em_map.proofs.Contents.{answers_follow}
 use Rattle.em_map.proofs.Numbers.{waits_below, waits_next}
 use Rattle.em_map.proofs.Ordered.{in_order_of}
-use Rattle.em_map.proofs.Pushed.{answers_next, contents_next, ops_next}
+use Rattle.em_map.proofs.Pushed.{all_next, answers_next, contents_both, contents_next, ops_next}
 use Rattle.em_map.proofs.Shares.{within_batch}
 
 -- The next operation is above all that waits for its key, and above the stored record.
@@ -78,9 +79,9 @@ told_before : {held : List ℕ} {s t : RigState} → Touches held s t → IsTrue
 told_before touches told = subst (λ (z : Bool). IsTrue z) touches.told told
 
 -- A new tree is that of a batch with no command.
-pub is_new : {s t : RigState} (b : Batch) → b.calls ≡ 0
+pub is_new : {s t : RigState} (b : Batch) → b.calls ≡ 0 → b.syncs ≡ 0
     → IsNewTrunk map_key_of IsMapOp IsMapKept s t (trunk_of b) → IsNewBatch s t b
-is_new {s = s} {t = t} b e n =
+is_new {s = s} {t = t} b e f n =
     let model = model_of t (trunk_of b) in
     let back : IsTrue t.device.told → IsTrue s.device.told = told_before n.session.touches in
     let is : IsTrue t.device.told → IsTree map_key_of model least_record None =
@@ -88,22 +89,34 @@ is_new {s = s} {t = t} b e n =
     record {
       is = record {
         is = n.is;
-        pushed = ap (λ (c : TreeCounts). c.n) n.counts ∙ sym e;
+        pushed = let k = ap (λ (c : TreeCounts). c.n) n.counts in omega (arith, k, e, f);
         longest = let k = ap (λ (c : TreeCounts). c.k) n.counts in omega (arith, k);
         few = omega (arith, e);
-        unsettled = ap (λ (c : TreeCounts). c.y) n.counts;
+        settled = ap (λ (c : TreeCounts). c.y) n.counts ∙ sym f;
         unreset = ap (λ (c : TreeCounts). c.z) n.counts;
         waits = λ told. subst (λ k. WaitsUpTo k model) (sym e)
             (no_numbers model (is told) (n.stored (back told)) (n.waiting (back told)));
       };
       tree = n;
       none = record {
-        calls = e;
+        calls = omega (arith, e);
+        syncs = omega (arith, f);
         contents = λ told. no_contents model (is told) (n.stored (back told)) (n.waiting (back told));
         answers = λ told. no_answers model (is told) (n.stored (back told)) (n.waiting (back told))
             (given_by t (trunk_of b)) (n.given (back told));
       };
     }
+
+-- a command with an operation is no sync
+op_no_sync : (n : ℕ) (c : Command) (op : Record) → map_op n c ≡ op ∷ [] → syncs_of (c ∷ []) ≡ 0
+op_no_sync n (Put k v) op e = refl
+op_no_sync n (Del k) op e = refl
+op_no_sync n (Get k) op e = refl
+op_no_sync n Sync op e = absurd (cc)
+op_no_sync n (Push k v) op e = refl
+op_no_sync n Pop op e = refl
+op_no_sync n (Interval low high) op e = refl
+op_no_sync n (Stab point) op e = refl
 
 -- what a push leaves of a tree's numbers
 module _ {s t : RigState} (b d : Batch) (is : IsBatch s b)
@@ -111,8 +124,8 @@ module _ {s t : RigState} (b d : Batch) (is : IsBatch s b)
   pushed_more : (trunk_of d).pushed ≡ (trunk_of b).pushed + 1
   pushed_more = ap (λ (z : TreeCounts). z.n) c.counts
 
-  none_settled : (trunk_of d).settled ≡ 0
-  none_settled = ap (λ (z : TreeCounts). z.y) c.counts ∙ is.unsettled
+  settled_same : (trunk_of d).settled ≡ b.syncs
+  settled_same = ap (λ (z : TreeCounts). z.y) c.counts ∙ is.settled
 
   none_reset : (trunk_of d).resets ≡ 0
   none_reset = ap (λ (z : TreeCounts). z.z) c.counts ∙ is.unreset
@@ -124,35 +137,34 @@ module _ {s t : RigState} (b d : Batch) (is : IsBatch s b)
       omega (arith, e, is.longest, is.is.running.numbers.since_most)
 
   -- The numbers of a call that gives a command.
-  pub counts_command : Sound s → d.calls ≡ b.calls + 1 → CountsCommand s t b d
-  counts_command sound e =
-      let now : (trunk_of d).pushed ≡ d.calls = omega (arith, pushed_more, is.pushed, e) in record {
-        calls = e;
-        tree = c;
-        share = λ told. subst (λ n. (trunk_of d).spent ≤ batch_share s.pool.shape n) now
-            (within_batch s.pool.shape (trunk_of d).pushed (trunk_of d).longest (trunk_of d).resets
-            (trunk_of d).settled (trunk_of d).spent sound.shape
-            (omega (arith, longest_more, pushed_more, is.pushed)) none_reset (omega (arith, none_settled))
-            (c.share told).within);
-      }
+  pub counts_command : Sound s → d.calls ≡ b.calls + 1 → d.syncs ≡ b.syncs → CountsCommand s t b d
+  counts_command sound e f = record {
+    calls = e;
+    syncs = f;
+    tree = c;
+    share = λ told. within_batch s.pool.shape (trunk_of d).pushed d.calls (trunk_of d).longest
+        (trunk_of d).resets (trunk_of d).settled d.syncs (trunk_of d).spent d.syncs sound.shape
+        (omega (arith, pushed_more, is.pushed, e)) (omega (arith, longest_more, e)) none_reset
+        (omega (arith, settled_same, f)) (c.share told).within (omega arith);
+  }
 
   -- What such a call did.
   pub takes_command : (command : Command) (op : Record) → b.calls < 2 ^ 40 → d.calls ≡ b.calls + 1
-      → map_op (b.calls + 1) command ≡ op ∷ [] → op.b ≡ b.calls + 1
+      → d.syncs ≡ b.syncs → map_op (b.calls + 1) command ≡ op ∷ [] → op.b ≡ b.calls + 1
       → (r : Result (Unit {0}) EmFault)
       → PushesOp map_key_of map_step_of IsMapOp IsMapKept op s t (trunk_of b) (trunk_of d) r
       → TakesTo command s t b d r
-  takes_command command op few e ops number (Ok x) p =
+  takes_command command op few e f ops number (Ok x) p =
       let back : IsTrue t.device.told → IsTrue s.device.told = told_before p.session.touches in
       let old = model_of s (trunk_of b) in
       let new = model_of t (trunk_of d) in
       record {
         is = record {
           is = p.is;
-          pushed = omega (arith, pushed_more, is.pushed, e);
+          pushed = omega (arith, pushed_more, is.pushed, e, f);
           longest = omega (arith, longest_more, e);
           few = omega (arith, few, e);
-          unsettled = none_settled;
+          settled = settled_same ∙ sym f;
           unreset = none_reset;
           waits = λ told. subst (λ n. WaitsUpTo n new) (sym e)
               (waits_next b.calls op number old new
@@ -160,47 +172,59 @@ module _ {s t : RigState} (b d : Batch) (is : IsBatch s b)
         };
         tree = subst (λ zs. ChangesTrunk map_key_of map_step_of IsMapOp IsMapKept zs s t (trunk_of b)
             (trunk_of d)) (sym ops) p;
-        commands = λ cs h. let next : map_ops (cs ++ command ∷ []) ≡ map_ops cs ++ op ∷ [] =
-            ops_next cs command b.calls h.calls ∙ ap (λ zs. map_ops cs ++ zs) ops in
+        commands = λ before cs h.
+            let all : map_ops (before ++ (cs ++ command ∷ [])) ≡ map_ops (before ++ cs) ++ op ∷ [] =
+            all_next before cs command b.calls h.calls ∙ ap (λ zs. map_ops (before ++ cs) ++ zs) ops in
+            let next : ops_after before (cs ++ command ∷ []) ≡ ops_after before cs ++ op ∷ [] =
+            ops_next before cs command b.calls h.calls ∙ ap (λ zs. ops_after before cs ++ zs) ops in
             record {
               calls = omega (arith, e, h.calls, length-append cs (command ∷ []));
-              contents = λ told. contents_next (tree_contents map_key_of map_step_of old)
-                  (tree_contents map_key_of map_step_of new) [] [] (map_ops cs) (op ∷ []) (map_ops (cs ++ command ∷ []))
-                  (h.contents (back told)) next (p.meaning (back told)).contents;
-              answers = λ told. answers_next (tree_contents map_key_of map_step_of old)
+              syncs = omega (
+                arith,
+                f,
+                h.syncs,
+                syncs-append cs (command ∷ []),
+                op_no_sync (b.calls + 1) command op ops,
+              );
+              contents = λ told. contents_next nothing (tree_contents map_key_of map_step_of old)
+                  (tree_contents map_key_of map_step_of new) [] [] (map_ops (before ++ cs)) (op ∷ [])
+                  (map_ops (before ++ (cs ++ command ∷ [])))
+                  (h.contents (back told)) all (p.meaning (back told)).contents;
+              answers = λ told. answers_next (contents_after before) (tree_contents map_key_of map_step_of old)
                   (tree_contents map_key_of map_step_of new)
                   (tree_answers map_key_of map_step_of (given_by s (trunk_of b)) old)
-                  (tree_answers map_key_of map_step_of (given_by t (trunk_of d)) new) (map_ops cs) (op ∷ []) (map_ops (cs ++ command ∷ []))
-                  (h.contents (back told)) next (h.answers (back told)) (p.meaning (back told)).answers;
+                  (tree_answers map_key_of map_step_of (given_by t (trunk_of d)) new) (ops_after before cs)
+                  (op ∷ []) (ops_after before (cs ++ command ∷ []))
+                  (λ q. h.contents (back told) q ∙ contents_both before cs q) next (h.answers (back told))
+                  (p.meaning (back told)).answers;
             };
       }
-  takes_command command op few e ops number (Err fault) p = p
+  takes_command command op few e f ops number (Err fault) p = p
 
 -- The answers of a batch that was finished.
 pub finishes_batch : (s t : RigState) (b : Batch) (r : Result Chain EmFault)
     → FinishesTrunk map_key_of map_step_of s t (trunk_of b) r → FinishesBatch s t b r
 finishes_batch s t b (Ok c) f =
-    let all : IsTrue s.device.told → (cs : List Command) → HasCommands s b cs
-    → IsPermutation (answer_records cs) (chain_items t c) = λ told cs h.
-    subst (λ zs. IsPermutation zs (chain_items t c))
-    (answers_are 1 cs nothing no_keys (λ k. refl))
+    let all : IsTrue s.device.told → (before cs : List Command) → HasCommands s b before cs
+    → IsPermutation (answers_after before cs) (chain_items t c) = λ told before cs h.
+    subst (λ zs. IsPermutation zs (chain_items t c)) (answers_follow before cs)
     (IsPermutation-trans _ _ _ (h.answers told) (f.answers told)) in
     record {
       tree = f;
       answers = all;
-      ordered = λ told cs h. in_order_of cs (chain_items t c) (all told cs h);
+      ordered = λ told before cs h. in_order_of before cs (chain_items t c) (all told before cs h);
     }
 finishes_batch s t b (Err fault) f = f
 
 -- All calls of a batch that was finished are within its share.
 pub batch_costs : {s t : RigState} (b : Batch) → Sound s → IsBatch s b
     → FinishCosts s t (trunk_of b) → BatchCosts s t b
-batch_costs {s = s} {t = t} b sound is f =
-    record {
-      later = f.later;
-      share = λ told. subst (λ k. (trunk_of b).spent + (t.moves - s.moves) ≤ batch_share s.pool.shape k)
-          is.pushed
-          (within_batch s.pool.shape (trunk_of b).pushed (trunk_of b).longest (trunk_of b).resets
-          ((trunk_of b).settled + 1) ((trunk_of b).spent + (t.moves - s.moves)) sound.shape
-          (omega (arith, is.longest, is.pushed)) is.unreset (omega (arith, is.unsettled)) (f.share told).within);
-    }
+batch_costs {s = s} {t = t} b sound is f = record {
+  later = f.later;
+  share = λ told.
+      let all = within_batch s.pool.shape (trunk_of b).pushed b.calls (trunk_of b).longest (trunk_of b).resets
+      ((trunk_of b).settled + 1) b.syncs ((trunk_of b).spent + (t.moves - s.moves)) b.syncs sound.shape
+      (omega (arith, is.pushed)) is.longest is.unreset (omega (arith, is.settled)) (f.share told).within
+      (omega arith) in
+      omega (arith, all);
+}

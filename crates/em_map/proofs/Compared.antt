@@ -10,15 +10,6 @@ is_less m n Less h k = refl
 is_less m n Equal h k = absurd (omega (arith, h, k))
 is_less m n Greater h k = absurd (omega (arith, h, k))
 
-is_greater : (m n : ℕ) (r : Ordering) → MatchOrdering r (m < n) (m ≡ n) (n < m) → n < m → r ≡ Greater
-is_greater m n Less h k = absurd (omega (arith, h, k))
-is_greater m n Equal h k = absurd (omega (arith, h, k))
-is_greater m n Greater h k = refl
-
 -- a lesser number compares as less
 pub less : (m n : ℕ) → m < n → nat_cmp m n ≡ Less
 less m n h = is_less m n (nat_cmp m n) (ranked m n (nat_cmp m n) refl) h
-
--- and a greater one as greater
-pub greater : (m n : ℕ) → n < m → nat_cmp m n ≡ Greater
-greater m n h = is_greater m n (nat_cmp m n) (ranked m n (nat_cmp m n) refl) h

@@ -1,17 +1,19 @@
 -- The contents and answers of a map's operations are those of the plain map.
-use Rattle.std.specs.Prelude.{Bool, true, false, cond, ℕ, ◌≡◌, ◌+◌, ◌==◌, if◌then◌else◌, List, [], ◌∷◌, ◌++◌, Option, Some, None, option_to_list}
+use Rattle.std.specs.Prelude.{Bool, true, false, cond, ℕ, ◌≡◌, ◌+◌, ◌==◌, if◌then◌else◌, List, [], ◌∷◌, ◌++◌, length, Option, Some, None, option_to_list}
 use Rattle.std.proofs.Common.{sym, ap, ◌∙◌, refl, ⊎_elim}
 use Rattle.std.proofs.lemmas.Bool.{cases_Bool, cond-true, cond-false, eqb-true, eqb-false}
 use Rattle.em_record.specs.declared.record.Record.{Record}
 use Rattle.em_model.specs.Map.{Map, no_keys, with_key, map_step, state_after, map_answers_from}
 use Rattle.em_model.specs.declared.command.Command.{Command}
-use Rattle.em_model.specs.declared.command.Command.TheVariants.{Put, Del, Get, Push, Pop, Interval, Stab}
+use Rattle.em_model.specs.declared.command.Command.TheVariants.{Put, Del, Get, Sync, Push, Pop, Interval, Stab}
 use Rattle.em_settle.specs.Keys.{has_key}
 use Rattle.em_settle.specs.Map.{map_answer, map_key_of, map_record, map_step_of}
 use Rattle.em_settle.specs.States.{Stored, with_op, with_ops, answers_to}
 use Rattle.em_settle.proofs.Keys.{key_is, key_at, other_key}
-use Rattle.em_map.specs.Commands.{map_op, map_ops_from}
-use Rattle.em_model.specs.MapAnswers.{answer_record, answers_of, get_numbers, with_numbers}
+use Rattle.em_map.specs.Commands.{map_op, map_ops_from, ops_after}
+use Rattle.em_model.specs.MapAnswers.{answer_record, answers_after, answers_of}
+use Rattle.em_tree_model.specs.Meaning.{nothing}
+use Rattle.em_map.specs.Batch.{contents_after}
 use Rattle.em_map.specs.Contents.{KeepsMap, key_record, value_record}
 
 -- an operation changes the stored record of its own key alone
@@ -69,6 +71,7 @@ keeps_map n (Put k v ∷ cs) stored m h =
 keeps_map n (Del k ∷ cs) stored m h =
     keeps_map (n + 1) cs _ (with_key m k None) (after_del n k stored m h)
 keeps_map n (Get k ∷ cs) stored m h = keeps_map (n + 1) cs _ m (after_get n k stored m h)
+keeps_map n (Sync ∷ cs) stored m h = keeps_map (n + 1) cs stored m h
 keeps_map n (Push k v ∷ cs) stored m h = keeps_map (n + 1) cs stored m h
 keeps_map n (Pop ∷ cs) stored m h = keeps_map (n + 1) cs stored m h
 keeps_map n (Interval low high ∷ cs) stored m h = keeps_map (n + 1) cs stored m h
@@ -96,7 +99,18 @@ answers_are n (Get k ∷ cs) stored m h =
     (answer_is n k (m k))
     ∙ ap (λ rs. answer_record n (m k) ∷ rs)
     (answers_are (n + 1) cs _ m (after_get n k stored m h)))
+answers_are n (Sync ∷ cs) stored m h = answers_are (n + 1) cs stored m h
 answers_are n (Push k v ∷ cs) stored m h = answers_are (n + 1) cs stored m h
 answers_are n (Pop ∷ cs) stored m h = answers_are (n + 1) cs stored m h
 answers_are n (Interval low high ∷ cs) stored m h = answers_are (n + 1) cs stored m h
 answers_are n (Stab point ∷ cs) stored m h = answers_are (n + 1) cs stored m h
+
+-- The contents that commands leave are the map after them,
+pub keeps_after : (cs : List Command) → KeepsMap (contents_after cs) (state_after no_keys cs)
+keeps_after cs = keeps_map 1 cs nothing no_keys (λ k. refl)
+
+-- and the answers to commands after others are those of the gets among them, numbered on.
+pub answers_follow : (before cs : List Command)
+    → answers_to map_key_of map_step_of (contents_after before) (ops_after before cs) ≡ answers_after before cs
+answers_follow before cs =
+    answers_are (1 + length before) cs (contents_after before) (state_after no_keys before) (keeps_after before)

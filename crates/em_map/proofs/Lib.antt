@@ -1,9 +1,11 @@
 mod Compared
 mod Contents
+mod Live
 mod Numbers
 mod Ordered
 mod Pushed
 pub mod Rooms
-mod Shares
+pub mod Shares
 mod Batches
+mod Syncs
 pub mod Stays

@@ -88,6 +88,22 @@ module _ (n : ℕ) (op : Record) (next : op.b ≡ n + 1) (t u : Tree)
         (front_of k (n + 1) (a (key_record k)).first (waiting_at map_key_of u (key_record k)) (came k)));
   }
 
+-- No operation was pushed, but a number was passed over.
+module _ (n : ℕ) (t u : Tree) (a : (q : Record) → Advances map_key_of map_step_of t u [] q) (w : WaitsUpTo n t) where
+  rest : (k : ℕ) → UpTo k (n + 1) ((a (key_record k)).first ++ waiting_at map_key_of u (key_record k))
+  rest k = subst (UpTo k (n + 1)) (a (key_record k)).parts
+      (together k (n + 1) (waiting_at map_key_of t (key_record k)) []
+      (wider k n (n + 1) (omega arith) (waiting_at map_key_of t (key_record k)) (w.waiting k)) tt)
+
+  pub waits_still : WaitsUpTo (n + 1) u
+  waits_still = record {
+    waiting = λ k. back_of k (n + 1) (a (key_record k)).first (waiting_at map_key_of u (key_record k)) (rest k);
+    stored = λ k. subst (λ r. UpTo k (n + 1) (option_to_list r)) (sym (a (key_record k)).left)
+        (left_after k (n + 1) (stored_at map_key_of t (key_record k)) (a (key_record k)).first
+        (wider k n (n + 1) (omega arith) (option_to_list (stored_at map_key_of t (key_record k))) (w.stored k))
+        (front_of k (n + 1) (a (key_record k)).first (waiting_at map_key_of u (key_record k)) (rest k)));
+  }
+
 -- What waits for the next operation's key, and what is stored under it, is below the operation.
 pub waits_below : (n : ℕ) (op : Record) → op.b ≡ n + 1 → (t : Tree) → WaitsUpTo n t
     → AllUnder (waiting_at map_key_of t (map_key_of op)) op

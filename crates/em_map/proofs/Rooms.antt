@@ -1,16 +1,16 @@
 -- The room of a batch is that of its tree, and of the answers that it has given.
-use Rattle.std.specs.Prelude.{◌≡◌, ℕ, zero, suc, ◌+◌, ◌<◌, ◌≤◌, max, List, [], ◌∷◌, length, IsTrue, IfErr, Some, None, Result, Ok, Err}
-use Rattle.std.proofs.Common.{ap, refl, subst, arith}
+use Rattle.std.specs.Prelude.{◌≡◌, ℕ, zero, suc, ◌+◌, ◌<◌, ◌≤◌, max, List, length, IsTrue, IfErr, Result, Ok, Err}
+use Rattle.std.proofs.Common.{ap, subst, arith}
 use Rattle.std.proofs.lemmas.List.{length-append, length-drop}
 use Rattle.std.specs.List.Sorted.{IsPermutation}
 use Rattle.em_record.specs.Shape.{IsShape, payload_of}
 use Rattle.em_record.specs.declared.record.Record.{Record}
 use Rattle.em_record.proofs.Order.{length_order}
 use Rattle.em_record.proofs.OrderLaws.{order_permutation}
-use Rattle.em_model.specs.Map.{Map, no_keys, with_key}
-use Rattle.em_model.specs.MapAnswers.{answer_records, answers_of}
+use Rattle.em_model.specs.Map.{no_keys, state_after}
+use Rattle.em_model.specs.MapAnswers.{answers_after}
 use Rattle.em_model.specs.declared.command.Command.{Command}
-use Rattle.em_model.specs.declared.command.Command.TheVariants.{Put, Del, Get, Push, Pop, Interval, Stab}
+use Rattle.em_model.proofs.AnswerLaws.{answers_few}
 use Rattle.em_settle.specs.Map.{map_key_of, map_step_of}
 use Rattle.em_space.specs.Rig.{IfFull, RigState}
 use Rattle.em_space.specs.declared.fault.EmFault.{EmFault}
@@ -19,7 +19,7 @@ use Rattle.em_chain.specs.List.{items_in}
 use Rattle.em_chain.specs.Counts.{ceiling}
 use Rattle.em_chain.specs.Writer.{writer_contents}
 use Rattle.em_chain.proofs.Sessions.{ceiling_rises}
-use Rattle.em_tree_model.specs.Meaning.{nothing, tree_answers}
+use Rattle.em_tree_model.specs.Meaning.{tree_answers}
 use Rattle.em_tree_model.specs.Owed.{owed}
 use Rattle.em_tree_cost.specs.Shares.{tree_room}
 use Rattle.em_tree_cost.proofs.Rising.{tree_room_rises}
@@ -30,7 +30,7 @@ use Rattle.em_trunk.specs.declared.trunk.Trunk.{Trunk}
 use Rattle.em_trunk.proofs.Rooms.{answers_blocks}
 use Rattle.em_map.specs.Batch.{HasCommands, IsBatch, trunk_of}
 use Rattle.em_map.specs.declared.batch.Batch.{Batch}
-use Rattle.em_map.proofs.Contents.{answers_are}
+use Rattle.em_map.proofs.Contents.{answers_follow}
 
 -- More numbers have no less room,
 pub within_more : {s t : RigState} {v : Trunk} (j k : ℕ) → j ≤ k → WithinRoom j s t v → WithinRoom k s t v
@@ -74,19 +74,8 @@ push_few s b i =
     let k = i.is.running.numbers.since_most in
     omega (arith, n, k)
 
--- no more answers are due than commands came
-answers_few : (n : ℕ) (cs : List Command) (m : Map) → length (answers_of n m cs) ≤ length cs
-answers_few n [] m = omega arith
-answers_few n (Put k v ∷ cs) m = let l = answers_few (n + 1) cs (with_key m k (Some v)) in omega (arith, l)
-answers_few n (Del k ∷ cs) m = let l = answers_few (n + 1) cs (with_key m k None) in omega (arith, l)
-answers_few n (Get k ∷ cs) m = let l = answers_few (n + 1) cs m in omega (arith, l)
-answers_few n (Push k v ∷ cs) m = let l = answers_few (n + 1) cs m in omega (arith, l)
-answers_few n (Pop ∷ cs) m = let l = answers_few (n + 1) cs m in omega (arith, l)
-answers_few n (Interval lo hi ∷ cs) m = let l = answers_few (n + 1) cs m in omega (arith, l)
-answers_few n (Stab point ∷ cs) m = let l = answers_few (n + 1) cs m in omega (arith, l)
-
 -- Of the answers that are due some were given,
-module _ (s : RigState) (b : Batch) (cs : List Command) (i : IsBatch s b) (h : HasCommands s b cs)
+module _ (s : RigState) (b : Batch) (before cs : List Command) (i : IsBatch s b) (h : HasCommands s b before cs)
     (told : IsTrue s.device.told) where
   given_length : length (given_by s (trunk_of b)) ≡ (trunk_of b).answers.count
   given_length =
@@ -95,24 +84,22 @@ module _ (s : RigState) (b : Batch) (cs : List Command) (i : IsBatch s b) (h : H
       let n = length-drop w.skip (items_in (writer_contents s w)) in
       omega (arith, count, n)
 
-  given_few : (trunk_of b).answers.count ≤ b.calls
+  pub given_few : (trunk_of b).answers.count ≤ length cs
   given_few =
       let given = given_by s (trunk_of b) in
-      let rest = owed map_key_of map_step_of (model_of s (trunk_of b)) in
-      let all : IsPermutation (answer_records cs)
-      (tree_answers map_key_of map_step_of given (model_of s (trunk_of b))) =
+      let due = answers_after before cs in
+      let all : IsPermutation due (tree_answers map_key_of map_step_of given (model_of s (trunk_of b))) =
       subst (λ (rs : List Record). IsPermutation rs
       (tree_answers map_key_of map_step_of given (model_of s (trunk_of b))))
-      (answers_are 1 cs nothing no_keys (λ k. refl)) (h.answers told) in
-      let same = ap (λ (rs : List Record). length rs) (order_permutation (answer_records cs)
+      (answers_follow before cs) (h.answers told) in
+      let same = ap (λ (rs : List Record). length rs) (order_permutation due
       (tree_answers map_key_of map_step_of given (model_of s (trunk_of b))) all) in
-      let few = answers_few 1 cs no_keys in
-      let due = length_order (answer_records cs) in
+      let few = answers_few (1 + length before) (state_after no_keys before) cs in
+      let all_due = length_order due in
       let both = length_order (tree_answers map_key_of map_step_of given (model_of s (trunk_of b))) in
-      let parts = length-append given rest in
-      let calls = h.calls in
+      let parts = length-append given (owed map_key_of map_step_of (model_of s (trunk_of b))) in
       let count = given_length in
-      omega (arith, same, few, due, both, parts, calls, count)
+      omega (arith, same, few, all_due, both, parts, count)
 
   -- in packed blocks.
   pub given_blocks : IsShape s.pool.shape
@@ -121,5 +108,5 @@ module _ (s : RigState) (b : Batch) (cs : List Command) (i : IsBatch s b) (h : H
       let blocks = answers_blocks i.is.running is told in
       let low = is.block_low in
       let rises = ceiling_rises (trunk_of b).answers.count b.calls (payload_of s.pool.shape)
-      (omega (arith, low)) given_few in
+      (omega (arith, low)) (let few = given_few in let calls = h.calls in omega (arith, few, calls)) in
       omega (arith, blocks, rises)

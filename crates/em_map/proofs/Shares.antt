@@ -1,28 +1,48 @@
--- The moves of a tree that was finished at most once are within a batch's share.
-use Rattle.std.proofs.Common.{◌≡◌, ℕ, zero, suc, ◌+◌, ◌*◌, ◌≤◌, subst, arith}
-use Rattle.std.proofs.Math.Nat.{mul-le-mul}
+-- The moves of a tree that was settled at each sync, and finished at most once, are within a batch's share.
+use Rattle.std.proofs.Common.{◌≡◌, ℕ, ◌+◌, ◌*◌, ◌≤◌, refl, subst, arith}
+use Rattle.std.proofs.Math.Nat.{mul-le-mul, mul-le-mul_left, mul-le-mul_right}
 use Rattle.em_record.specs.Cost.{blocks_of}
 use Rattle.em_record.specs.Shape.{IsShape, ShapeNumbers}
+use Rattle.em_tree_cost.specs.Fusing.{synced_share}
 use Rattle.em_tree_cost.specs.Shares.{batch_share, floors_of, tree_share}
-use Rattle.em_tree_cost.proofs.Services.{batch_within}
+use Rattle.em_tree_cost.proofs.Fusing.{synced_within}
+use Rattle.em_tree_cost.proofs.Rising.{div_ceil_rises, floors_rise}
 
--- one settling more allows more moves
-one_settling : (shape : ShapeNumbers) (n k y : ℕ) → y ≤ 1
-    → tree_share shape n k 0 y ≤ tree_share shape n k 0 1
-one_settling shape n k zero h =
-    mul-le-mul {n₁ = 160 * (blocks_of shape n + 1) + 64 * 0 + 64 * 0 * (blocks_of shape k + 1)}
+-- more operations and settlings allow no fewer moves
+settlings_rise : (shape : ShapeNumbers) (m n k y x : ℕ) → m ≤ n → y ≤ x
+    → tree_share shape m k 0 y ≤ tree_share shape n k 0 x
+settlings_rise shape m n k y x h l =
+    let b = div_ceil_rises shape.block m n h in
+    let s : y * (blocks_of shape k + 1) ≤ x * (blocks_of shape k + 1) = mul-le-mul_right (blocks_of shape k + 1) l in
+    mul-le-mul {n₁ = 160 * (blocks_of shape m + 1) + 64 * 0 + 64 * y * (blocks_of shape k + 1)}
     {m₁ = floors_of shape k}
-    {n₂ = 160 * (blocks_of shape n + 1) + 64 * 0 + 64 * 1 * (blocks_of shape k + 1)}
-    {m₂ = floors_of shape k} (omega arith) (omega arith)
-one_settling shape n k (suc zero) h = omega arith
-one_settling shape n k (suc (suc y)) h = absurd (omega (arith, h))
+    {n₂ = 160 * (blocks_of shape n + 1) + 64 * 0 + 64 * x * (blocks_of shape k + 1)}
+    {m₂ = floors_of shape k} (omega (arith, b, s)) (omega arith)
 
--- A batch of n commands is within its share.
-pub within_batch : (shape : ShapeNumbers) (n k z y spent : ℕ) → IsShape shape → k ≤ n → z ≡ 0
-    → y ≤ 1 → spent ≤ tree_share shape n k z y → spent ≤ batch_share shape n
-within_batch shape n k z y spent is h none few share =
-    let S : ℕ → Type 0 = λ x. spent ≤ tree_share shape n k x y in
+-- A batch of n calls, of which x are syncs, is within its share: p operations were pushed into its tree, and `more` moves
+-- came beside those of the tree.
+pub within_batch : (shape : ShapeNumbers) (p n k z y x spent more : ℕ) → IsShape shape → p ≤ n → k ≤ n → z ≡ 0
+    → y ≤ x + 1 → spent ≤ tree_share shape p k z y → more ≤ x → spent + more ≤ synced_share shape n x
+within_batch shape p n k z y x spent more is h l none few share few_more =
+    let S : ℕ → Type 0 = λ q. spent ≤ tree_share shape p k q y in
     let s = subst S none share in
-    let most = one_settling shape n k y few in
-    let all = batch_within shape n k spent 0 is h (omega (arith, s, most)) (omega arith) in
-    omega (arith, all)
+    let rises = settlings_rise shape p n k y (x + 1) h few in
+    let u : x * 1 ≤ x * (blocks_of shape n + 1) = mul-le-mul_left x (omega arith) in
+    let m : more ≤ 24 * (x + 1) * (blocks_of shape n + 1) = omega (arith, few_more, u) in
+    synced_within shape n k x spent more is l (omega (arith, s, rises)) m
+
+-- a batch without a sync
+pub unsynced_share : (shape : ShapeNumbers) (n : ℕ) → synced_share shape n 0 ≡ batch_share shape n
+unsynced_share shape n = refl
+
+-- more calls and syncs allow no fewer moves
+pub synced_share_rises : (shape : ShapeNumbers) (m n x y : ℕ) → m ≤ n → x ≤ y
+    → synced_share shape m x ≤ synced_share shape n y
+synced_share_rises shape m n x y h l =
+    let b = div_ceil_rises shape.block m n h in
+    let f = floors_rise shape m n h in
+    let s : 248 * (x + 1) * (blocks_of shape m + 1) ≤ 248 * (y + 1) * (blocks_of shape n + 1) =
+    mul-le-mul {n₁ = 248 * (x + 1)} {m₁ = blocks_of shape m + 1} {n₂ = 248 * (y + 1)} {m₂ = blocks_of shape n + 1}
+    (omega (arith, l)) (omega (arith, b)) in
+    mul-le-mul {n₁ = 248 * (x + 1) * (blocks_of shape m + 1)} {m₁ = floors_of shape m}
+    {n₂ = 248 * (y + 1) * (blocks_of shape n + 1)} {m₂ = floors_of shape n} s f

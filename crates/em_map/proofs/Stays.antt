@@ -1,21 +1,21 @@
 -- A batch stays, with its commands, over calls that leave its tree as it is.
-use Rattle.std.specs.Prelude.{◌≡◌, ◌+◌, ◌≤◌, ℕ, Bool, List, IsTrue}
+use Rattle.std.specs.Prelude.{◌≡◌, ◌+◌, ◌≤◌, ◌++◌, ℕ, Bool, List, IsTrue}
 use Rattle.std.proofs.Common.{sym, ap, subst, ◌∙◌}
 use Rattle.std.specs.List.Sorted.{IsPermutation}
 use Rattle.em_record.specs.Shape.{ShapeNumbers}
 use Rattle.em_record.specs.declared.record.Record.{Record}
 use Rattle.em_model.specs.declared.command.Command.{Command}
 use Rattle.em_settle.specs.Map.{IsMapKept, IsMapOp, map_key_of, map_step_of}
-use Rattle.em_settle.specs.States.{answers_to, with_ops}
+use Rattle.em_settle.specs.States.{answers_to}
 use Rattle.em_frames.specs.Pool.{singles_of}
 use Rattle.em_space.specs.Held.{Apart}
 use Rattle.em_space.specs.Rig.{RigState, Touches}
-use Rattle.em_tree_model.specs.Meaning.{nothing, tree_answers, tree_contents}
+use Rattle.em_tree_model.specs.Meaning.{tree_answers, tree_contents}
 use Rattle.em_tree_model.specs.Tree.{Tree}
 use Rattle.em_trunk.specs.Trunk.{IsTrunk, given_by, model_of}
 use Rattle.em_trunk.proofs.Stays.{TrunkStays, trunk_stays}
-use Rattle.em_map.specs.Batch.{BatchHasFrames, HasCommands, IsBatch, batch_blocks, trunk_of}
-use Rattle.em_map.specs.Commands.{map_ops}
+use Rattle.em_map.specs.Batch.{BatchHasFrames, HasCommands, IsBatch, batch_blocks, contents_after, trunk_of}
+use Rattle.em_map.specs.Commands.{ops_after}
 use Rattle.em_map.specs.Contents.{WaitsUpTo}
 use Rattle.em_map.specs.declared.batch.Batch.{Batch}
 
@@ -31,23 +31,24 @@ module _ (s t : RigState) (b : Batch) (same : t.device.told ≡ s.device.told)
     pushed = i.pushed;
     longest = i.longest;
     few = i.few;
-    unsettled = i.unsettled;
+    settled = i.settled;
     unreset = i.unreset;
     waits = λ told. subst (λ x. WaitsUpTo b.calls x) (sym (model (back told))) (i.waits (back told));
   }
 
   pub commands_stay : (IsTrue s.device.told → given_by t (trunk_of b) ≡ given_by s (trunk_of b))
-      → (cs : List Command) → HasCommands s b cs → HasCommands t b cs
-  commands_stay given cs h =
-      let owing = answers_to map_key_of map_step_of nothing (map_ops cs) in
+      → (before cs : List Command) → HasCommands s b before cs → HasCommands t b before cs
+  commands_stay given before cs h =
+      let owing = answers_to map_key_of map_step_of (contents_after before) (ops_after before cs) in
       let P : Tree → Type 0 = λ x. (q : Record) → tree_contents map_key_of map_step_of x q
-      ≡ with_ops map_key_of map_step_of nothing (map_ops cs) q in
+      ≡ contents_after (before ++ cs) q in
       let Q : Tree → Type 0 = λ x. IsPermutation owing
       (tree_answers map_key_of map_step_of (given_by s (trunk_of b)) x) in
       let R : List Record → Type 0 = λ zs. IsPermutation owing
       (tree_answers map_key_of map_step_of zs (model_of t (trunk_of b))) in
       record {
         calls = h.calls;
+        syncs = h.syncs;
         contents = λ told. subst P (sym (model (back told))) (h.contents (back told));
         answers = λ told. subst R (sym (given (back told)))
             (subst Q (sym (model (back told))) (h.answers (back told)));
@@ -57,7 +58,7 @@ module _ (s t : RigState) (b : Batch) (same : t.device.told ≡ s.device.told)
 pub record BatchStays (s t : RigState) (b : Batch) : Type 0 where
   pub is : IsBatch t b
   pub blocks : IsTrue s.device.told → batch_blocks t b ≡ batch_blocks s b
-  pub commands : (cs : List Command) → HasCommands s b cs → HasCommands t b cs
+  pub commands : (before cs : List Command) → HasCommands s b before cs → HasCommands t b before cs
 
 module _ (held : List ℕ) (s t : RigState) (b : Batch) (touches : Touches held s t)
     (out : t.pool.free + 2 ≤ singles_of t.pool.shape) where

@@ -1,23 +1,30 @@
 -- A batch over its tree, and what its calls leave.
 use Rattle.std.specs.Prelude.{◌≡◌, ℕ, ◌+◌, ◌-◌, ◌≤◌, ◌<◌, ◌^◌, List, [], ◌∷◌, ◌++◌, length, IsTrue, Result, Ok, Err}
 use Rattle.std.specs.List.Sorted.{IsPermutation}
+use Rattle.em_record.specs.Cost.{room}
 use Rattle.em_record.specs.Order.{in_order}
 use Rattle.em_record.specs.declared.record.Record.{Record}
+use Rattle.em_model.specs.Live.{live_pairs}
+use Rattle.em_model.specs.MapAnswers.{answers_after}
+use Rattle.em_model.specs.Sync.{syncs_of}
 use Rattle.em_model.specs.declared.command.Command.{Command}
+use Rattle.em_model.specs.declared.command.Command.TheVariants.{Sync}
 use Rattle.em_settle.specs.Map.{IsMapKept, IsMapOp, map_key_of, map_step_of}
-use Rattle.em_settle.specs.States.{answers_to, with_ops}
+use Rattle.em_settle.specs.States.{Stored, answers_to, with_ops}
+use Rattle.em_frames.specs.Pool.{SameFrames}
+use Rattle.em_space.specs.Ledger.{Session}
+use Rattle.em_space.specs.Queue.{Pays}
 use Rattle.em_space.specs.Rig.{RigState}
 use Rattle.em_space.specs.declared.fault.EmFault.{EmFault}
-use Rattle.em_chain.specs.Chain.{chain_items}
+use Rattle.em_chain.specs.Chain.{IsChain, IsPacked, chain_blocks, chain_items}
 use Rattle.em_chain.specs.declared.chain.Chain.{Chain}
 use Rattle.em_tree_model.specs.Meaning.{nothing, tree_answers, tree_contents}
-use Rattle.em_tree_cost.specs.Books.{count_push}
-use Rattle.em_tree_cost.specs.Shares.{batch_share}
+use Rattle.em_tree_cost.specs.Books.{count_push, count_settle}
+use Rattle.em_tree_cost.specs.Fusing.{synced_share}
 use Rattle.em_tree.specs.Calls.{ChangesTrunk, CountsCall, FinishedTrunk, IsNewTrunk, StopsFinishing, StopsTrunk}
-use Rattle.em_trunk.specs.Trunk.{IsTrunk, TrunkHasFrames, given_by, model_of, trunk_blocks, trunk_unstored}
+use Rattle.em_trunk.specs.Trunk.{IsTrunk, TrunkHasFrames, counts_of, given_by, model_of, trunk_blocks, trunk_unstored}
 use Rattle.em_trunk.specs.declared.trunk.Trunk.{Trunk}
-use Rattle.em_model.specs.MapAnswers.{answer_records}
-use Rattle.em_map.specs.Commands.{map_op, map_ops}
+use Rattle.em_map.specs.Commands.{map_op, map_ops, ops_after}
 use Rattle.em_map.specs.Contents.{WaitsUpTo}
 use Rattle.em_map.specs.declared.batch.Batch.{Batch}
 
@@ -32,44 +39,53 @@ batch_blocks s b = trunk_blocks s (trunk_of b)
 abbrev pub batch_unstored : Batch → ℕ
 batch_unstored b = trunk_unstored (trunk_of b)
 
+-- at least as many moves as its calls made: those of its tree, and one of each sync for the chain that it handed out
+abbrev pub batch_spent : Batch → ℕ
+batch_spent b = (trunk_of b).spent + b.syncs
+
 -- its two frames are the pool's: what is left to ask after a fault
 abbrev pub BatchHasFrames : RigState → Batch → Type 0
 BatchHasFrames s b = TrunkHasFrames s (trunk_of b)
 
--- What ties a batch to its rig: each call was pushed into its tree, which was never settled or reset and counts
--- no operation that wasn't called, and what waits there has the numbers of these calls.
+-- What ties a batch to its rig: each call but the syncs was pushed into its tree, which each sync settled, which was never
+-- reset and counts no operation that wasn't called; and what waits there has the numbers of these calls.
 pub record IsBatch (s : RigState) (b : Batch) : Type 0 where
   pub is : IsTrunk map_key_of IsMapOp IsMapKept s (trunk_of b)
-  pub pushed : (trunk_of b).pushed ≡ b.calls
+  pub pushed : (trunk_of b).pushed + b.syncs ≡ b.calls
   pub longest : (trunk_of b).longest ≤ b.calls
   pub few : b.calls ≤ 2 ^ 40
-  pub unsettled : (trunk_of b).settled ≡ 0
+  pub settled : (trunk_of b).settled ≡ b.syncs
   pub unreset : (trunk_of b).resets ≡ 0
   pub waits : IsTrue s.device.told → WaitsUpTo b.calls (model_of s (trunk_of b))
 
--- The calls of a batch were these commands: its tree has the contents of their operations, and has given
--- or owes their answers.
-pub record HasCommands (s : RigState) (b : Batch) (cs : List Command) : Type 0 where
-  pub calls : b.calls ≡ length cs
+-- the contents that some commands leave
+abbrev pub contents_after : List Command → Stored
+contents_after cs = with_ops map_key_of map_step_of nothing (map_ops cs)
+
+-- The calls of a batch were these commands, of which the first are those up to and with the last sync: its tree has the
+-- contents of all their operations, and has given or owes the answers of those after the last sync.
+pub record HasCommands (s : RigState) (b : Batch) (before cs : List Command) : Type 0 where
+  pub calls : b.calls ≡ length before + length cs
+  pub syncs : b.syncs ≡ syncs_of before + syncs_of cs
   pub contents : IsTrue s.device.told → (q : Record)
-      → tree_contents map_key_of map_step_of (model_of s (trunk_of b)) q
-      ≡ with_ops map_key_of map_step_of nothing (map_ops cs) q
+      → tree_contents map_key_of map_step_of (model_of s (trunk_of b)) q ≡ contents_after (before ++ cs) q
   pub answers : IsTrue s.device.told
-      → IsPermutation (answers_to map_key_of map_step_of nothing (map_ops cs))
+      → IsPermutation (answers_to map_key_of map_step_of (contents_after before) (ops_after before cs))
       (tree_answers map_key_of map_step_of (given_by s (trunk_of b)) (model_of s (trunk_of b)))
 
 -- A batch with no command.
 pub record IsNewBatch (s t : RigState) (b : Batch) : Type 0 where
   pub is : IsBatch t b
   pub tree : IsNewTrunk map_key_of IsMapOp IsMapKept s t (trunk_of b)
-  pub none : HasCommands t b []
+  pub none : HasCommands t b [] []
 
 -- One command more was pushed into the tree.
 pub record TakesCommand (c : Command) (s t : RigState) (b d : Batch) : Type 0 where
   pub is : IsBatch t d
   pub tree : ChangesTrunk map_key_of map_step_of IsMapOp IsMapKept (map_op (b.calls + 1) c) s t
       (trunk_of b) (trunk_of d)
-  pub commands : (cs : List Command) → HasCommands s b cs → HasCommands t d (cs ++ c ∷ [])
+  pub commands : (before cs : List Command) → HasCommands s b before cs
+      → HasCommands t d before (cs ++ c ∷ [])
 
 -- what a call that gives a command did, by its result
 abbrev pub TakesTo : {T : Type 0} → Command → RigState → RigState → Batch → Batch → Result T EmFault
@@ -81,16 +97,51 @@ TakesTo c s t b d (Err fault) = StopsTrunk s t (trunk_of b) (trunk_of d) fault
 -- within the batch's share.
 pub record CountsCommand (s t : RigState) (b d : Batch) : Type 0 where
   pub calls : d.calls ≡ b.calls + 1
+  pub syncs : d.syncs ≡ b.syncs
   pub tree : CountsCall (count_push 0) s t (trunk_of b) (trunk_of d)
-  pub share : IsTrue s.device.told → (trunk_of d).spent ≤ batch_share s.pool.shape d.calls
+  pub share : IsTrue s.device.told → batch_spent d ≤ synced_share s.pool.shape d.calls d.syncs
 
--- All gets were answered, each once.
+-- All gets since the last sync were answered, each once, and the batch goes on from there. It holds no more blocks than the
+-- room of the pairs that it has, beside the chain that it handed out.
+pub record SyncedBatch (s t : RigState) (b d : Batch) (c : Chain) : Type 0 where
+  pub is : IsBatch t d
+  pub chain : IsChain t c
+  pub packed : IsTrue s.device.told → IsPacked t c
+  pub session : Session (batch_blocks s b) s t (chain_blocks t c ++ batch_blocks t d)
+  pub frames : SameFrames s.pool t.pool
+  pub pays : Pays (batch_unstored b) (batch_unstored d) s t
+  pub loses : IsTrue s.device.told → t.used + length (batch_blocks s b)
+      ≡ s.used + length (chain_blocks t c ++ batch_blocks t d)
+  pub commands : (before cs : List Command) → HasCommands s b before cs
+      → HasCommands t d (before ++ cs ++ Sync ∷ []) []
+  pub answers : IsTrue s.device.told → (before cs : List Command) → HasCommands s b before cs
+      → IsPermutation (answers_after before cs) (chain_items t c)
+  pub ordered : IsTrue s.device.told → (before cs : List Command) → HasCommands s b before cs
+      → in_order (chain_items t c) ≡ answers_after before cs
+  pub held : IsTrue s.device.told → (before cs : List Command) → HasCommands s b before cs
+      → length (batch_blocks t d) ≤ room t.pool.shape (live_pairs (before ++ cs))
+
+-- what a sync did, by its result
+abbrev pub SyncsBatch : RigState → RigState → Batch → Batch → Result Chain EmFault → Type 0
+SyncsBatch s t b d (Ok c) = SyncedBatch s t b d c
+SyncsBatch s t b d (Err fault) = StopsTrunk s t (trunk_of b) (trunk_of d) fault
+
+-- The numbers after a sync, at each exit: it was counted, the tree counted one settling, and all calls so far are within the
+-- batch's share.
+pub record CountsSync (s t : RigState) (b d : Batch) : Type 0 where
+  pub calls : d.calls ≡ b.calls + 1
+  pub syncs : d.syncs ≡ b.syncs + 1
+  pub counts : counts_of (trunk_of d) ≡ count_settle 0 (record (counts_of (trunk_of b)) { spent = (trunk_of d).spent })
+  pub moves : t.moves + batch_spent b ≤ s.moves + batch_spent d
+  pub share : IsTrue s.device.told → batch_spent d ≤ synced_share s.pool.shape d.calls d.syncs
+
+-- All gets since the last sync were answered, each once.
 pub record FinishedBatch (s t : RigState) (b : Batch) (c : Chain) : Type 0 where
   pub tree : FinishedTrunk map_key_of map_step_of s t (trunk_of b) c
-  pub answers : IsTrue s.device.told → (cs : List Command) → HasCommands s b cs
-      → IsPermutation (answer_records cs) (chain_items t c)
-  pub ordered : IsTrue s.device.told → (cs : List Command) → HasCommands s b cs
-      → in_order (chain_items t c) ≡ answer_records cs
+  pub answers : IsTrue s.device.told → (before cs : List Command) → HasCommands s b before cs
+      → IsPermutation (answers_after before cs) (chain_items t c)
+  pub ordered : IsTrue s.device.told → (before cs : List Command) → HasCommands s b before cs
+      → in_order (chain_items t c) ≡ answers_after before cs
 
 -- what `finish` did, by its result
 abbrev pub FinishesBatch : RigState → RigState → Batch → Result Chain EmFault → Type 0
@@ -101,4 +152,4 @@ FinishesBatch s t b (Err fault) = StopsFinishing s t (trunk_of b) fault
 pub record BatchCosts (s t : RigState) (b : Batch) : Type 0 where
   pub later : s.moves ≤ t.moves
   pub share : IsTrue s.device.told
-      → (trunk_of b).spent + (t.moves - s.moves) ≤ batch_share s.pool.shape b.calls
+      → batch_spent b + (t.moves - s.moves) ≤ synced_share s.pool.shape b.calls b.syncs

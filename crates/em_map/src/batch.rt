@@ -4,6 +4,8 @@
 //!     del K     (K, n, 1, 0)
 //!     get K     (K, n, 2, 0)   answered by (n, 1, V, 0), or by (n, 0, 0, 0) if K has no value
 //!
+//!     sync      no operation, but it has a number: the tree is settled, and its answers are handed out
+//!
 //! Kept here: numbers rise, so that each operation is above all that wait for its key. Left to the
 //! tree: where operations wait, and when they are settled.
 
@@ -29,8 +31,8 @@ const DEL: u64 = 1;
 
 const GET: u64 = 2;
 
-/// A map from numbers to numbers that answers all its gets at once, in `finish`. Each call is an
-/// operation in a buffer tree. Calls are numbered from 1.
+/// A map from numbers to numbers that answers its gets together, in `sync` and in `finish`. Each other call is
+/// an operation in a buffer tree. Calls are numbered from 1.
 ///
 /// It holds two frames and can't be dropped. After a fault only `abandon` may be called. Over a device that
 /// tells, its blocks after n commands, inside a call too, are within 12 · (q(n) + 1) + m · (2 + lev(q(n)))
@@ -39,12 +41,14 @@ pub struct Batch {
     tree: Tree<MapSettle>,
     /// Commands so far.
     calls: u64,
+    /// Syncs among them.
+    syncs: u64,
 }
 
 impl Batch {
-    ghost use Rattle.em_map.specs.Batch.{BatchCosts, BatchHasFrames, CountsCommand, FinishesBatch, IsBatch, IsNewBatch, TakesTo, trunk_of};
+    ghost use Rattle.em_map.specs.Batch.{BatchCosts, BatchHasFrames, CountsCommand, CountsSync, FinishesBatch, IsBatch, IsNewBatch, SyncsBatch, TakesTo, trunk_of};
     ghost use Rattle.em_map.specs.Commands.{map_op};
-    ghost use Rattle.em_tree.specs.Calls.{StopsNewTrunk};
+    ghost use Rattle.em_tree.specs.Calls.{FullIfUntrim, StopsNewTrunk};
     ghost use Rattle.em_tree.specs.Pushing.{NeedsMore};
     ghost use Rattle.em_trunk.specs.Room.{FullOverRoom, WithinRoom};
     ghost use Rattle.em_trunk.specs.Lists.{LeavesTrunk};
@@ -57,7 +61,11 @@ impl Batch {
         ensures stops { IfErr result (StopsNewTrunk (seen D.state rig.old) (seen D.state rig.new)) }
     {
         let tree = Tree::new(rig, MapSettle {})?;
-        Ok(Batch { tree, calls: 0 })
+        Ok(Batch {
+            tree,
+            calls: 0,
+            syncs: 0,
+        })
     }
 
     /// Gives the key this value. It is one push into the tree.
@@ -105,7 +113,7 @@ impl Batch {
         self.push(rig, key, DEL, 0)
     }
 
-    /// Asks for the value of a key, which `finish` answers. It is one push into the tree.
+    /// Asks for the value of a key, which the next `sync` answers, or `finish`. It is one push into the tree.
     pub fn get<D: Device>(&mut self, rig: &mut Rig<'_, D>, key: u64) -> Result<(), EmFault>
         requires sound { Sound (seen D.state rig.old) }
         requires is { IsBatch (seen D.state rig.old) self.old }
@@ -132,7 +140,31 @@ impl Batch {
         &self.tree
     }
 
-    /// The answers of the gets in any order, each once: `(number, 1, V, 0)` if the key had the value V
+    /// Settles the tree, makes it as small as its pairs allow, and hands out the answers of the gets since the last
+    /// sync, in any order, each once, as those of `finish`. It has a number, as each call has. `Full` comes only if
+    /// all blocks are in use then, and, over a device that tells, an operation waited or the tree wasn't as small.
+    pub fn sync<D: Device>(&mut self, rig: &mut Rig<'_, D>) -> Result<Chain, EmFault>
+        requires sound { Sound (seen D.state rig.old) }
+        requires is { IsBatch (seen D.state rig.old) self.old }
+        requires free { CanServe (seen D.state rig.old).pool }
+        requires few { self.old.calls < 2 ^ 40 }
+        ensures syncs { SyncsBatch (seen D.state rig.old) (seen D.state rig.new)
+            self.old self.new result }
+        ensures counts { CountsSync (seen D.state rig.old) (seen D.state rig.new)
+            self.old self.new }
+        ensures needs { IfErr result (FullIfUntrim (seen D.state rig.old) (trunk_of self.old)) }
+        ensures room { IsTrue (seen D.state rig.old).device.told → WithinRoom self.old.calls
+            (seen D.state rig.old) (seen D.state rig.new) (trunk_of self.old) }
+        ensures over { IfErr result (λ fault. IsTrue (seen D.state rig.old).device.told
+            → FullOverRoom self.old.calls (seen D.state rig.old) (trunk_of self.old) fault) }
+    {
+        self.calls += 1;
+        self.syncs += 1;
+        self.tree.settle_all(rig)?;
+        self.tree.take_answers(rig)
+    }
+
+    /// The answers of the gets since the last sync, in any order, each once: `(number, 1, V, 0)` if the key had the value V
     /// by the calls before, and `(number, 0, 0, 0)` if it had none. `Full` comes only if all blocks are in use,
     /// and a command was given (`full`).
     pub fn finish<D: Device>(self, rig: &mut Rig<'_, D>) -> Result<Chain, EmFault>
@@ -147,7 +179,11 @@ impl Batch {
         ensures over { IfErr result (λ fault. IsTrue (seen D.state rig.old).device.told
             → FullOverRoom self.calls (seen D.state rig.old) (trunk_of self) fault) }
     {
-        let Batch { tree, calls: _ } = self;
+        let Batch {
+            tree,
+            calls: _,
+            syncs: _,
+        } = self;
         tree.finish(rig)
     }
 
@@ -157,7 +193,11 @@ impl Batch {
         requires frames { BatchHasFrames (seen D.state rig.old) self }
         ensures leaves { LeavesTrunk (seen D.state rig.old) (seen D.state rig.new) }
     {
-        let Batch { tree, calls: _ } = self;
+        let Batch {
+            tree,
+            calls: _,
+            syncs: _,
+        } = self;
         tree.abandon(rig);
     }
 

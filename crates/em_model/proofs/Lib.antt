@@ -1,6 +1,9 @@
+pub mod AnswerLaws
 pub mod Ascending
+pub mod LiveLaws
 pub mod MapLaws
 pub mod QueueLaws
 pub mod Ordered
 mod Rows
 pub mod StabLaws
+pub mod SyncLaws

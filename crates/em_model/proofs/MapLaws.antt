@@ -2,7 +2,7 @@
 use Rattle.std.proofs.Common.{◌≡◌, ℕ, ◌<◌, List, [], ◌∷◌, ◌++◌, length, take, drop, get_or, refl, sym, ap, ◌∙◌, arith, append_assoc, Option, Some, None, suc, zero, ◌+◌, add-one}
 use Rattle.std.specs.Prelude.{◌==◌, if◌then◌else◌}
 use Rattle.em_model.specs.declared.command.Command.{Command}
-use Rattle.em_model.specs.declared.command.Command.TheVariants.{Put, Del, Get, Push, Pop, Interval, Stab}
+use Rattle.em_model.specs.declared.command.Command.TheVariants.{Put, Del, Get, Sync, Push, Pop, Interval, Stab}
 use Rattle.em_model.specs.Map.{Map, with_key, map_step, state_after, answer_of, map_answers_from, value_from}
 
 pub value_from-append : (key : ℕ) (before : Option ℕ) (xs ys : List Command)
@@ -13,6 +13,7 @@ value_from-append key before (Put k v ∷ xs) ys =
 value_from-append key before (Del k ∷ xs) ys =
     value_from-append key (if key == k then None else before) xs ys
 value_from-append key before (Get k ∷ xs) ys = value_from-append key before xs ys
+value_from-append key before (Sync ∷ xs) ys = value_from-append key before xs ys
 value_from-append key before (Push k v ∷ xs) ys = value_from-append key before xs ys
 value_from-append key before (Pop ∷ xs) ys = value_from-append key before xs ys
 value_from-append key before (Interval low high ∷ xs) ys = value_from-append key before xs ys
@@ -25,6 +26,7 @@ state_after-value m [] q = refl
 state_after-value m (Put k v ∷ cs) q = state_after-value (with_key m k (Some v)) cs q
 state_after-value m (Del k ∷ cs) q = state_after-value (with_key m k None) cs q
 state_after-value m (Get k ∷ cs) q = state_after-value m cs q
+state_after-value m (Sync ∷ cs) q = state_after-value m cs q
 state_after-value m (Push k v ∷ cs) q = state_after-value m cs q
 state_after-value m (Pop ∷ cs) q = state_after-value m cs q
 state_after-value m (Interval low high ∷ cs) q = state_after-value m cs q
@@ -63,6 +65,7 @@ pub answer_of-other : (m : Map) (c : Command) → ((key : ℕ) → c ≡ Get key
 answer_of-other m (Put key value) h = refl
 answer_of-other m (Del key) h = refl
 answer_of-other m (Get key) h = absurd (h key refl)
+answer_of-other m Sync h = refl
 answer_of-other m (Push key value) h = refl
 answer_of-other m Pop h = refl
 answer_of-other m (Interval low high) h = refl

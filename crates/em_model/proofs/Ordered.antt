@@ -5,12 +5,12 @@ use Rattle.std.specs.Ordering.{is_lt, nat_cmp, ordering_then}
 use Rattle.em_record.specs.Order.{AtLeast, IsAscending, is_below}
 use Rattle.em_record.specs.declared.record.Record.{Record}
 use Rattle.em_model.specs.Ascending.{Ascend}
-use Rattle.em_model.specs.Map.{map_answers}
+use Rattle.em_model.specs.Map.{map_answers_from, no_keys, state_after}
 use Rattle.em_model.specs.Stab.{NumberedInterval, holders_of, stab_answers_from, stab_step}
 use Rattle.em_model.specs.declared.command.Command.{Command}
-use Rattle.em_model.specs.declared.command.Command.TheVariants.{Put, Del, Get, Push, Pop, Interval, Stab}
+use Rattle.em_model.specs.declared.command.Command.TheVariants.{Put, Del, Get, Sync, Push, Pop, Interval, Stab}
 use Rattle.em_model.proofs.StabLaws.{AreNumbered, holders_ascend, numbered_step}
-use Rattle.em_model.specs.MapAnswers.{answer_record, answer_records, get_numbers, with_numbers}
+use Rattle.em_model.specs.MapAnswers.{answer_record, answer_records, answers_after, get_numbers, with_numbers}
 use Rattle.em_model.specs.StabAnswers.{pair_record, pairs_from, stab_pairs}
 
 -- a record isn't below one with a lesser word a, nor below one with the same and a lesser word b
@@ -88,6 +88,7 @@ pairs_ascend n intervals [] a = tt
 pairs_ascend n intervals (Put key value ∷ cs) a = pairs_ascend n intervals cs a
 pairs_ascend n intervals (Del key ∷ cs) a = pairs_ascend n intervals cs a
 pairs_ascend n intervals (Get key ∷ cs) a = pairs_ascend n intervals cs a
+pairs_ascend n intervals (Sync ∷ cs) a = pairs_ascend n intervals cs a
 pairs_ascend n intervals (Push key value ∷ cs) a = pairs_ascend n intervals cs a
 pairs_ascend n intervals (Pop ∷ cs) a = pairs_ascend n intervals cs a
 pairs_ascend n intervals (Interval low high ∷ cs) a =
@@ -139,13 +140,20 @@ gets_ascend n (Get key ∷ cs) low high l h =
     (l, gets_ascend (n + 1) cs (n + 1) high (omega arith) (omega arith))
 gets_ascend n (Put key value ∷ cs) low high l h = gets_ascend (n + 1) cs low high (omega arith) (omega arith)
 gets_ascend n (Del key ∷ cs) low high l h = gets_ascend (n + 1) cs low high (omega arith) (omega arith)
+gets_ascend n (Sync ∷ cs) low high l h = gets_ascend (n + 1) cs low high (omega arith) (omega arith)
 gets_ascend n (Push key value ∷ cs) low high l h = gets_ascend (n + 1) cs low high (omega arith) (omega arith)
 gets_ascend n (Pop ∷ cs) low high l h = gets_ascend (n + 1) cs low high (omega arith) (omega arith)
 gets_ascend n (Interval least most ∷ cs) low high l h = gets_ascend (n + 1) cs low high (omega arith) (omega arith)
 gets_ascend n (Stab point ∷ cs) low high l h = gets_ascend (n + 1) cs low high (omega arith) (omega arith)
 
--- The answers of a map ascend, by the numbers of their gets.
+-- The answers to commands that come after others ascend, by the numbers of their gets,
+pub answers_after_ascend : (before cs : List Command) → IsAscending (answers_after before cs)
+answers_after_ascend before cs =
+    numbered_ascend (1 + length before) (get_numbers (1 + length before) cs)
+    (map_answers_from (state_after no_keys before) cs) (1 + length before + length cs)
+    (gets_ascend (1 + length before) cs (1 + length before) (1 + length before + length cs) (omega arith)
+    (omega arith))
+
+-- and so do those of all.
 pub answer_records_ascend : (cs : List Command) → IsAscending (answer_records cs)
-answer_records_ascend cs =
-    numbered_ascend 1 (get_numbers 1 cs) (map_answers cs) (1 + length cs)
-    (gets_ascend 1 cs 1 (1 + length cs) (omega arith) (omega arith))
+answer_records_ascend cs = answers_after_ascend [] cs

@@ -5,7 +5,7 @@ use Rattle.std.specs.List.{All, Contains}
 use Rattle.std.proofs.lemmas.Grind.{common_steps}
 use Rattle.std.proofs.lemmas.Bool.Decides.{nat_tests}
 use Rattle.em_model.specs.declared.command.Command.{Command}
-use Rattle.em_model.specs.declared.command.Command.TheVariants.{Put, Del, Get, Push, Pop, Interval, Stab}
+use Rattle.em_model.specs.declared.command.Command.TheVariants.{Put, Del, Get, Sync, Push, Pop, Interval, Stab}
 use Rattle.em_model.specs.Queue.{Item, Queue, AreInOrder, no_items, number_of, queue_after, goes_before, least, least_of, without_number, without_least, queue_step, queue_answer_of, queue_answers_from}
 use Rattle.em_model.specs.Ascending.{Ascend}
 use Rattle.em_model.proofs.Ascending.{Ascend-filter, Ascend-push}
@@ -81,6 +81,7 @@ one_step : (q : Queue) (c : Command) → AreInOrder q → AreInOrder (queue_step
 one_step q (Put key value) a = a
 one_step q (Del key) a = a
 one_step q (Get key) a = a
+one_step q Sync a = a
 one_step q (Push key value) a =
     let new : Item = record { key = key; number = q.pushes + 1; value = value } in
     Ascend-push number_of 1 q.waiting new (q.pushes + 1) refl a

@@ -1,10 +1,13 @@
 -- Worked rows: lists of commands and their answers, which the definitions compute.
 use Rattle.std.proofs.Common.{◌≡◌, [], ◌∷◌, refl, Some, None}
-use Rattle.em_model.specs.declared.command.Command.TheVariants.{Put, Del, Get, Push, Pop, Interval, Stab}
+use Rattle.em_model.specs.declared.command.Command.TheVariants.{Put, Del, Get, Sync, Push, Pop, Interval, Stab}
+use Rattle.em_model.specs.Live.{live_keys}
 use Rattle.em_model.specs.Map.{map_answers}
 use Rattle.em_model.specs.Queue.{queue_answers}
 use Rattle.em_model.specs.Stab.{stab_answers}
+use Rattle.em_model.specs.MapAnswers.{answer_record, answers_after}
 use Rattle.em_model.specs.StabAnswers.{pair_record, stab_pairs}
+use Rattle.em_model.specs.Sync.{since_sync, synced_answers, syncs_of, up_to_sync}
 
 -- a get answers the last put before it, and none after a del
 map_of_one_key :
@@ -18,6 +21,36 @@ map_of_the_ends :
     ∷ Get 0 ∷ [])
     ≡ None ∷ Some 8 ∷ Some 7 ∷ []
 map_of_the_ends = refl
+
+-- a sync changes no answer
+map_with_sync : map_answers (Put 1 5 ∷ Get 1 ∷ Sync ∷ Del 1 ∷ Get 1 ∷ []) ≡ Some 5 ∷ None ∷ []
+map_with_sync = refl
+
+-- the last sync cuts the commands
+cut_at_last : up_to_sync (Get 1 ∷ Sync ∷ Get 2 ∷ Sync ∷ Get 3 ∷ []) ≡ Get 1 ∷ Sync ∷ Get 2 ∷ Sync ∷ []
+cut_at_last = refl
+
+since_last : since_sync (Get 1 ∷ Sync ∷ Get 2 ∷ Sync ∷ Get 3 ∷ []) ≡ Get 3 ∷ []
+since_last = refl
+
+two_syncs : syncs_of (Get 1 ∷ Sync ∷ Get 2 ∷ Sync ∷ Get 3 ∷ []) ≡ 2
+two_syncs = refl
+
+-- without a sync nothing is printed before the end
+cut_nowhere : up_to_sync (Put 1 5 ∷ Get 1 ∷ []) ≡ []
+cut_nowhere = refl
+
+-- of these commands a faulty line after them prints the answers before the sync alone
+printed_at_fault : synced_answers (Put 1 5 ∷ Get 1 ∷ Sync ∷ Get 1 ∷ []) ≡ Some 5 ∷ []
+printed_at_fault = refl
+
+-- a sync has a number, as each command has
+numbered_on : answers_after (Put 1 5 ∷ Get 1 ∷ Sync ∷ []) (Get 1 ∷ []) ≡ answer_record 4 (Some 5) ∷ []
+numbered_on = refl
+
+-- a key that is cleared, or set again, has no pair or one
+live_after_five : live_keys (Put 1 5 ∷ Put 2 6 ∷ Del 1 ∷ Put 2 7 ∷ Put 3 8 ∷ []) ≡ 2 ∷ 3 ∷ []
+live_after_five = refl
 
 -- elements of one key leave in the order of their pushes, whatever their values
 queue_of_one_key :
@@ -53,9 +86,9 @@ map_of_others : map_answers (Push 5 1 ∷ Interval 5 5 ∷ Get 5 ∷ Pop ∷ Sta
 map_of_others = refl
 
 queue_of_others :
-    queue_answers (Put 5 1 ∷ Interval 5 5 ∷ Get 5 ∷ Pop ∷ Del 5 ∷ Stab 5 ∷ []) ≡ None ∷ []
+    queue_answers (Put 5 1 ∷ Interval 5 5 ∷ Get 5 ∷ Sync ∷ Pop ∷ Del 5 ∷ Stab 5 ∷ []) ≡ None ∷ []
 queue_of_others = refl
 
 stab_of_others :
-    stab_answers (Put 5 1 ∷ Push 5 1 ∷ Get 5 ∷ Pop ∷ Del 5 ∷ Stab 5 ∷ []) ≡ [] ∷ []
+    stab_answers (Put 5 1 ∷ Push 5 1 ∷ Get 5 ∷ Pop ∷ Sync ∷ Del 5 ∷ Stab 5 ∷ []) ≡ [] ∷ []
 stab_of_others = refl

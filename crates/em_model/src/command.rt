@@ -8,6 +8,8 @@ pub enum Command {
     Del { key: u64 },
     /// Map: asks for the value of the key.
     Get { key: u64 },
+    /// Map: asks for the answers of all gets that weren't answered yet, and changes none.
+    Sync,
     /// Queue: adds an element after all earlier ones of its key.
     Push { key: u64, value: u64 },
     /// Queue: asks for the element of least key, of those the first pushed, and removes it.

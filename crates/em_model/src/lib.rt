@@ -6,8 +6,10 @@ mod command;
 mod map;
 mod queue;
 mod stab;
+mod sync;
 
 pub use command::Command;
 pub use map::map_answers_of;
 pub use queue::{Item, queue_answers_of};
 pub use stab::{NumberedInterval, stab_answers_of};
+pub use sync::synced;

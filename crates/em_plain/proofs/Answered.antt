@@ -48,7 +48,7 @@ pub ending : {s a b : RigState} {l : CommandList} {c : Chain} → Sound s
 ending h g f k o = record { sound = h; gives = g; finishes = f; spends = k; goes = o }
 
 -- the answers of the list
-records_are : {s a b : RigState} {l : CommandList} {c : Chain} (asks : Asks) → Ending s a b l c
+pub records_are : {s a b : RigState} {l : CommandList} {c : Chain} (asks : Asks) → Ending s a b l c
     → IsTrue s.device.told
     → records_in asks (chain_items a c) ≡ records_for asks (list_commands s l)
 records_are asks e z = ap (records_in asks) (e.finishes.items z)
@@ -58,7 +58,7 @@ pub commands_stay : {s a b : RigState} {l : CommandList} {c : Chain} → Ending 
     → ChainStays a b c
 commands_stay {a = a} {b = b} {c = c} e = chain_kept a b c e.goes e.finishes.is
 
-ending_gives : {s a b : RigState} {l : CommandList} {c : Chain} → Ending s a b l c
+pub ending_gives : {s a b : RigState} {l : CommandList} {c : Chain} → Ending s a b l c
     → GivesFrame (list_blocks s l) s b
 ending_gives {s} {a} {b} {l} {c} e = record {
   sound = e.goes.sound;
@@ -67,7 +67,7 @@ ending_gives {s} {a} {b} {l} {c} e = record {
 }
 
 -- The chain was released, or some of it.
-ending_released : {s a b t : RigState} {l : CommandList} {c : Chain} → Ending s a b l c
+pub ending_released : {s a b t : RigState} {l : CommandList} {c : Chain} → Ending s a b l c
     → Goes (chain_blocks b c) b t → GivesFrame (list_blocks s l) s t
 ending_released {s} {a} {b} {t} {l} {c} e g =
     let h = ending_gives e in
@@ -167,7 +167,7 @@ list_written {s = s} {a = a} {b = b} {t = t} {l = l} {c = c} {d = d} asks result
       );
     }
 
-list_told : {s a b : RigState} {l : CommandList} {c d : Chain} (asks : Asks) → Ending s a b l c
+pub list_told : {s a b : RigState} {l : CommandList} {c d : Chain} (asks : Asks) → Ending s a b l c
     → (k : Written (most_in asks c.count) a b (records_in asks (chain_items a c)) d)
     → IsTrue s.device.told → length k.written ≤ length (records_for asks (list_commands s l))
 list_told asks h k z =
@@ -273,7 +273,7 @@ list_full k (Err DeviceFault) a m = tt
 list_full k (Err (Full n)) a m = omega (arith, a.full, m)
 list_full k (Err (Damaged n)) a m = tt
 
-no_cause : (fault : EmFault) (s t : RigState) (n : ℕ) → Cause s t fault
+pub no_cause : (fault : EmFault) (s t : RigState) (n : ℕ) → Cause s t fault
     → OnFull fault (s.blocks < n) → n ≤ s.blocks → t.device.told ≡ s.device.told
     → IsTrue s.device.told → (Rose s.device.faults t.device.faults → ⊥) → ⊥
 no_cause DeviceFault s t n c f l e z r = r c

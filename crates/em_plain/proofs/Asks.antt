@@ -6,20 +6,20 @@ use Rattle.em_plain.specs.Command.{command_in}
 use Rattle.em_plain.specs.StabPairs.{stabs_in}
 use Rattle.em_plain.specs.declared.answers.Asks.{Asks}
 use Rattle.em_plain.specs.declared.answers.Asks.TheVariants.{Gets, Stabs}
-use Rattle.em_plain.proofs.AnswerLists.{answers_longer, answers_more}
+use Rattle.em_plain.proofs.AnswerLists.{answers_longer, answers_more, answers_none}
 use Rattle.em_plain.proofs.StabLists.{pairs_longer, pairs_more}
 
 -- one command more
 pub records_more : (asks : Asks) (items : List Record) (x : Record)
     → records_in asks (items ++ x ∷ []) ≡ records_in asks items
     ++ answer_to asks (length items) (stabs_in items) items (command_in x)
-records_more Gets items x = answers_more items x
+records_more (Gets answered) items x = answers_more answered items x
 records_more Stabs items x = pairs_more items x
 
 -- the first commands have no more answers than all
 pub records_longer : (asks : Asks) (xs ys : List Record)
     → length (records_in asks xs) ≤ length (records_in asks (xs ++ ys))
-records_longer Gets xs ys = answers_longer xs ys
+records_longer (Gets answered) xs ys = answers_longer answered xs ys
 records_longer Stabs xs ys = pairs_longer xs ys
 
 pub records_next : (asks : Asks) (number stab : ℕ) (items all : List Record) (x : Record)
@@ -29,5 +29,5 @@ records_next asks number stab items all x n s t =
     rw (t, s, ← n) (records_more asks items x)
 
 pub records_none : (asks : Asks) → records_in asks [] ≡ []
-records_none Gets = refl
+records_none (Gets answered) = answers_none answered
 records_none Stabs = refl

@@ -3,7 +3,7 @@ use Rattle.std.proofs.Common.{◌≡◌, List, [], ◌∷◌, ◌++◌, refl, ap
 use Rattle.std.proofs.lemmas.List.{map-append}
 use Rattle.em_record.specs.declared.record.Record.{Record}
 use Rattle.em_model.specs.declared.command.Command.{Command}
-use Rattle.em_model.specs.declared.command.Command.TheVariants.{Put, Del, Get, Push, Pop, Interval, Stab}
+use Rattle.em_model.specs.declared.command.Command.TheVariants.{Put, Del, Get, Sync, Push, Pop, Interval, Stab}
 use Rattle.em_plain.specs.Command.{record_of, command_in, commands_in}
 
 -- a record stands for the command that it was made of
@@ -15,6 +15,7 @@ command_in-record_of (Push key value) = refl
 command_in-record_of Pop = refl
 command_in-record_of (Interval low high) = refl
 command_in-record_of (Stab point) = refl
+command_in-record_of Sync = refl
 
 -- one command more
 pub commands_in-more : (items : List Record) (c : Command)

@@ -1,10 +1,12 @@
 pub mod Adds
+pub mod Anew
 pub mod AnswerLists
 pub mod Answered
 pub mod Asks
 pub mod Calls
 pub mod Commands
 pub mod Frames
+pub mod Kept
 pub mod Lacks
 pub mod Least
 pub mod Looks
@@ -12,4 +14,5 @@ pub mod Notes
 pub mod Restarts
 pub mod Scans
 pub mod StabLists
+pub mod Synced
 pub mod Written

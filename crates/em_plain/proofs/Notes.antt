@@ -62,6 +62,7 @@ notes_by s t l m c y i few g a k =
       within = within_grows s (list_blocks s l) (list_blocks t m) a.grown;
       len = ac;
       used = k.used;
+      more = k.more;
       pays = pays_first l.writer.blocks m.writer.blocks k.owes_first k.owes some;
     }
 

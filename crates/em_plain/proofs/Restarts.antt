@@ -30,7 +30,7 @@ use Rattle.em_plain.proofs.Frames.{given_lent, same_given}
 use Rattle.em_plain.proofs.Least.{none_read}
 
 -- with no record there is no block
-none_full : (s : RigState) (w : Writer) → IsWriter s w → filled s w ≡ w.count → w.count ≡ 0
+pub none_full : (s : RigState) (w : Writer) → IsWriter s w → filled s w ≡ w.count → w.count ≡ 0
     → w.blocks ≡ 0
 none_full s w i full none = none_by w.blocks (λ e. i.last.fill_low (i.last.some e))
   where

@@ -6,7 +6,7 @@ use Rattle.em_record.specs.declared.record.Record.{Record}
 use Rattle.em_model.specs.Stab.{NumberedInterval, holds_point, holders_of, stab_step, stab_answer_of, stab_answers_from, stab_answers, intervals_after}
 use Rattle.em_model.proofs.StabLaws.{stab_answers_from-append}
 use Rattle.em_model.specs.declared.command.Command.{Command}
-use Rattle.em_model.specs.declared.command.Command.TheVariants.{Put, Del, Get, Push, Pop, Interval, Stab}
+use Rattle.em_model.specs.declared.command.Command.TheVariants.{Put, Del, Get, Sync, Push, Pop, Interval, Stab}
 use Rattle.em_plain.specs.Command.{command_in, commands_in}
 use Rattle.em_model.specs.StabAnswers.{pair_record, pairs_from}
 use Rattle.em_plain.specs.StabPairs.{intervals_in, holder_pairs, pair_with, next_interval, pairs_of, next_stab, stabs_in, pairs_in}
@@ -28,6 +28,7 @@ count_step : (is : List NumberedInterval) (c : Command)
 count_step is (Put key value) = refl
 count_step is (Del key) = refl
 count_step is (Get key) = refl
+count_step is Sync = refl
 count_step is (Push key value) = refl
 count_step is Pop = refl
 count_step is (Interval low high) = length-append is _
@@ -65,6 +66,7 @@ holders_step : (stab point : ℕ) (is : List NumberedInterval) (c : Command)
 holders_step stab point is (Put key value) = sym (append-nil _)
 holders_step stab point is (Del key) = sym (append-nil _)
 holders_step stab point is (Get key) = sym (append-nil _)
+holders_step stab point is Sync = sym (append-nil _)
 holders_step stab point is (Push key value) = sym (append-nil _)
 holders_step stab point is Pop = sym (append-nil _)
 holders_step stab point is (Interval low high) =
@@ -115,6 +117,7 @@ lot_of : (n : ℕ) (earlier : List Record) (c : Command)
 lot_of n earlier (Put key value) = refl
 lot_of n earlier (Del key) = refl
 lot_of n earlier (Get key) = refl
+lot_of n earlier Sync = refl
 lot_of n earlier (Push key value) = refl
 lot_of n earlier Pop = refl
 lot_of n earlier (Interval low high) = refl
@@ -125,6 +128,7 @@ stabs_of : (n : ℕ) (earlier : List Record) (c : Command)
 stabs_of n earlier (Put key value) = omega arith
 stabs_of n earlier (Del key) = omega arith
 stabs_of n earlier (Get key) = omega arith
+stabs_of n earlier Sync = omega arith
 stabs_of n earlier (Push key value) = omega arith
 stabs_of n earlier Pop = omega arith
 stabs_of n earlier (Interval low high) = omega arith
@@ -172,6 +176,7 @@ pub pair_other : (stab point n : ℕ) (c : Command)
 pair_other stab point n (Put key value) h = refl
 pair_other stab point n (Del key) h = refl
 pair_other stab point n (Get key) h = refl
+pair_other stab point n Sync h = refl
 pair_other stab point n (Push key value) h = refl
 pair_other stab point n Pop h = refl
 pair_other stab point n (Interval low high) h = absurd (h low high refl)
@@ -201,6 +206,7 @@ pub next_interval_most : (n : ℕ) (c : Command) → next_interval n c ≤ n + 1
 next_interval_most n (Put key value) = omega arith
 next_interval_most n (Del key) = omega arith
 next_interval_most n (Get key) = omega arith
+next_interval_most n Sync = omega arith
 next_interval_most n (Push key value) = omega arith
 next_interval_most n Pop = omega arith
 next_interval_most n (Interval low high) = omega arith
@@ -210,6 +216,7 @@ pub next_stab_most : (n : ℕ) (c : Command) → next_stab n c ≤ n + 1
 next_stab_most n (Put key value) = omega arith
 next_stab_most n (Del key) = omega arith
 next_stab_most n (Get key) = omega arith
+next_stab_most n Sync = omega arith
 next_stab_most n (Push key value) = omega arith
 next_stab_most n Pop = omega arith
 next_stab_most n (Interval low high) = omega arith
@@ -228,6 +235,7 @@ pub pairs_other : (stab : ℕ) (earlier : List Record) (c : Command)
 pairs_other stab earlier (Put key value) h = refl
 pairs_other stab earlier (Del key) h = refl
 pairs_other stab earlier (Get key) h = refl
+pairs_other stab earlier Sync h = refl
 pairs_other stab earlier (Push key value) h = refl
 pairs_other stab earlier Pop h = refl
 pairs_other stab earlier (Interval low high) h = refl

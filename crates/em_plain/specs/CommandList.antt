@@ -60,6 +60,7 @@ pub record Notes (s t : RigState) (l m : CommandList) (c : Command) : Type 0 whe
   pub within : Within s (list_blocks s l) (list_blocks t m)
   pub len : list_len m ≡ list_len l + 1
   pub used : t.used + held l ≡ s.used + held m
+  pub more : held m ≤ held l + 1
   pub pays : Pays (unstored l) (unstored m) s t
 
 -- What a call that gives a command costs, whether it gave up or not. It says that the device is full

@@ -1,4 +1,5 @@
 pub mod Adds
+pub mod Anew
 pub mod Answered
 pub mod Asks
 pub mod Command

@@ -13,17 +13,18 @@ ghost use Rattle.em_plain.specs.Ready.{ReadyBeside};
 ghost use Rattle.em_plain.specs.StabPairs.{next_stab};
 
 use crate::command_record::to_command;
-use crate::map_answers::answer_get;
+use crate::map_answers::answer_later;
 use crate::stab_answers::answer_stab;
 use em_chain::{Chain, Reader, Writer};
 use em_frames::Device;
 use em_model::Command;
 use em_space::{EmFault, Rig};
 
-/// What is answered: the gets of a map, or the stabs of an interval list.
+/// What is answered: the gets of a map, of which this many commands were answered before, or the stabs
+/// of an interval list.
 #[derive(Clone, Copy)]
 pub(crate) enum Asks {
-    Gets,
+    Gets { answered: u64 },
     Stabs,
 }
 
@@ -57,7 +58,7 @@ fn answer_one<D: Device>(
     ensures frame { WriterHasFrame (seen D.state rig.new) writer.new }
 {
     match asks {
-        Asks::Gets => answer_get(rig, chain, number, command, writer),
+        Asks::Gets { answered } => answer_later(rig, chain, number, answered, command, writer),
         Asks::Stabs => answer_stab(rig, chain, number, command, stab, writer),
     }
 }

@@ -1,14 +1,16 @@
-ghost use Rattle.std.specs.Prelude.{◌<◌, ◌≤◌, ◌^◌, []};
+ghost use Rattle.std.specs.Prelude.{◌≡◌, ◌<◌, ◌≤◌, ◌^◌, []};
 ghost use Rattle.em_space.specs.Rig.{Sound};
 ghost use Rattle.em_space.specs.Seen.{seen};
 ghost use Rattle.em_chain.specs.Effects.{GivesFrame, LendsFrame, Unmoved};
 
 use crate::answers::{Asks, write_answers};
 use crate::command_record::to_record;
+use crate::copying::write_anew;
 use em_chain::{Chain, Writer, discard};
 use em_frames::Device;
 use em_model::Command;
 use em_space::{EmFault, Rig};
+use std::mem;
 
 /// Commands, in the order in which they were given. It holds a writer's frame, and can't be
 /// dropped.
@@ -17,7 +19,7 @@ pub(crate) struct CommandList {
 }
 
 impl CommandList {
-    ghost use Rattle.em_plain.specs.Answered.{AnswersList};
+    ghost use Rattle.em_plain.specs.Answered.{AnswersList, KeepsList};
     ghost use Rattle.em_plain.specs.CommandList.{BeginsList, HasListFrame, IsCommandList, Noted, list_len};
 
     /// A list with no command.
@@ -65,6 +67,34 @@ impl CommandList {
         let answers = write_answers(rig, &commands, asks)?;
         discard(rig, commands)?;
         Ok(answers)
+    }
+
+    /// Answers its commands by a chain, and keeps them: they are written anew. After a fault the list may
+    /// only be abandoned.
+    pub(crate) fn answer_and_keep<D: Device>(
+        &mut self,
+        rig: &mut Rig<'_, D>,
+        asks: Asks,
+    ) -> Result<Chain, EmFault>
+        requires sound { Sound (seen D.state rig.old) }
+        requires is { IsCommandList (seen D.state rig.old) self.old }
+        requires free { 6 ≤ (seen D.state rig.old).pool.free }
+        ensures done { KeepsList asks (seen D.state rig.old) (seen D.state rig.new)
+            self.old self.new result }
+    {
+        let fresh = Writer::new(rig);
+        let whole = mem::replace(&mut self.writer, fresh);
+        let commands = whole.finish(rig)?;
+        let answers = write_answers(rig, &commands, asks)?;
+        write_anew(rig, commands, &mut self.writer)?;
+        Ok(answers)
+    }
+
+    /// How many commands were given.
+    pub(crate) fn len(&self) -> u64
+        ensures { result ≡ list_len self.now }
+    {
+        self.writer.len()
     }
 
     /// Gives its frame back, and moves nothing. Its blocks stay in use.

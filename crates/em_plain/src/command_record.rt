@@ -23,6 +23,7 @@ pub(crate) fn to_record(command: Command) -> Record
         Command::Pop => record_with(0, 0, 4),
         Command::Interval { low, high } => record_with(low, high, 5),
         Command::Stab { point } => record_with(point, 0, 6),
+        Command::Sync => record_with(0, 0, 7),
     }
 }
 
@@ -46,6 +47,7 @@ pub(crate) fn to_command(item: Record) -> Command
             low: item.a,
             high: item.b,
         },
-        _ => Command::Stab { point: item.a },
+        6 => Command::Stab { point: item.a },
+        _ => Command::Sync,
     }
 }

@@ -6,6 +6,7 @@
 mod answers;
 mod command_list;
 mod command_record;
+mod copying;
 mod map_answers;
 mod scan_map;
 mod scan_queue;

@@ -7,7 +7,7 @@ ghost use Rattle.em_chain.specs.Chain.{IsChain, chain_items};
 ghost use Rattle.em_chain.specs.Reader.{IsReader, reader_items};
 ghost use Rattle.em_chain.specs.Writer.{WriterHasFrame};
 ghost use Rattle.em_plain.specs.Adds.{AddsTo};
-ghost use Rattle.em_plain.specs.Asks.{get_answer};
+ghost use Rattle.em_plain.specs.Asks.{get_answer, later_answer};
 ghost use Rattle.em_plain.specs.Command.{command_in, commands_in};
 ghost use Rattle.em_plain.specs.Looks.{Looks};
 ghost use Rattle.em_model.specs.MapAnswers.{answer_record};
@@ -104,7 +104,7 @@ fn value_before<D: Device>(
 }
 
 /// Writes the answer of a command that follows the first `number` ones of a chain, if it is a get.
-pub(crate) fn answer_get<D: Device>(
+fn answer_get<D: Device>(
     rig: &mut Rig<'_, D>,
     chain: &Chain,
     number: u64,
@@ -124,4 +124,25 @@ pub(crate) fn answer_get<D: Device>(
         }
         _ => Ok(()),
     }
+}
+
+/// The same, but nothing for the first commands, of which this many were answered before.
+pub(crate) fn answer_later<D: Device>(
+    rig: &mut Rig<'_, D>,
+    chain: &Chain,
+    number: u64,
+    answered: u64,
+    command: Command,
+    writer: &mut Writer,
+) -> Result<(), EmFault>
+    requires ready { ReadyBeside number (seen D.state rig.old) chain.now writer.old }
+    ensures done { AddsTo 1 (seen D.state rig.old) (seen D.state rig.new) writer.old writer.new
+        (later_answer answered number
+        (take number (chain_items (seen D.state rig.old) chain.now)) command) result }
+    ensures frame { WriterHasFrame (seen D.state rig.new) writer.new }
+{
+    if number < answered {
+        return Ok(());
+    }
+    answer_get(rig, chain, number, command, writer)
 }

@@ -1,4 +1,4 @@
-ghost use Rattle.std.specs.Prelude.{◌+◌, ◌<◌, ◌≤◌, ◌^◌, [], length, IfErr, IfOk, IsOk, IsTrue};
+ghost use Rattle.std.specs.Prelude.{◌≡◌, ◌+◌, ◌<◌, ◌≤◌, ◌^◌, [], length, IfErr, IfOk, IsOk, IsTrue, OnOk};
 ghost use Rattle.em_model.specs.declared.command.Command.TheVariants as command;
 ghost use Rattle.em_space.specs.Rig.{Cause, Sound};
 ghost use Rattle.em_space.specs.Seen.{seen};
@@ -13,19 +13,20 @@ use em_frames::Device;
 use em_model::Command;
 use em_space::{EmFault, Rig};
 
-/// A map from numbers to numbers that answers all its gets at once, in `finish`. It keeps its
+/// A map from numbers to numbers that answers its gets together, in `sync` and in `finish`. It keeps its
 /// commands in a list, which is read again for each get. Calls are numbered from 1.
 ///
 /// It holds a frame and can't be dropped. After a fault only `abandon` may be called.
 pub struct ScanMap {
     list: CommandList,
+    /// The commands up to and with the last sync.
+    answered: u64,
 }
 
 impl ScanMap {
     ghost use Rattle.em_plain.specs.CommandList.{AnsweredBy, BeginsList, Noted, held, list_len, unstored};
-    ghost use Rattle.em_model.specs.MapAnswers.{answer_records};
     ghost use Rattle.em_plain.specs.Room.{StaysWithin, plain_room};
-    ghost use Rattle.em_plain.specs.ScanMap.{IsScanMap, MapHasFrame, blocks_of, commands_of};
+    ghost use Rattle.em_plain.specs.ScanMap.{IsScanMap, MapHasFrame, Syncs, answered_of, blocks_of, due_of};
     ghost use Rattle.em_space.specs.Queue.{Pays};
     ghost use Rattle.std.specs.Prelude.{OnErr};
 
@@ -36,10 +37,13 @@ impl ScanMap {
         ensures lends { LendsFrame (seen D.state rig.old) (seen D.state rig.new) }
         ensures unmoved { Unmoved (seen D.state rig.old) (seen D.state rig.new) }
         ensures begins { IfOk result (λ m. BeginsList (seen D.state rig.new) m.list) }
+        ensures is { IfOk result (IsScanMap (seen D.state rig.new)) }
+        ensures answered { IfOk result (λ m. answered_of m ≡ 0) }
         ensures complete { IsOk result }
     {
         Ok(ScanMap {
             list: CommandList::new(rig),
+            answered: 0,
         })
     }
 
@@ -56,6 +60,8 @@ impl ScanMap {
         requires few { list_len self.old.list < 2 ^ 40 }
         ensures noted { Noted (seen D.state rig.old) (seen D.state rig.new)
             self.old.list self.new.list (command.Put key value) result }
+        ensures is { OnOk result (IsScanMap (seen D.state rig.new) self.new) }
+        ensures answered { answered_of self.new ≡ answered_of self.old }
     {
         self.list.note(rig, Command::Put { key, value })
     }
@@ -68,12 +74,14 @@ impl ScanMap {
         requires few { list_len self.old.list < 2 ^ 40 }
         ensures noted { Noted (seen D.state rig.old) (seen D.state rig.new)
             self.old.list self.new.list (command.Del key) result }
+        ensures is { OnOk result (IsScanMap (seen D.state rig.new) self.new) }
+        ensures answered { answered_of self.new ≡ answered_of self.old }
     {
         self.list.note(rig, Command::Del { key })
     }
 
-    /// Asks for the key's value, which `finish` answers. `Full` comes exactly if a block is needed
-    /// and all are in use.
+    /// Asks for the key's value, which the next `sync` answers, or `finish`. `Full` comes exactly if a block
+    /// is needed and all are in use.
     pub fn get<D: Device>(&mut self, rig: &mut Rig<'_, D>, key: u64) -> Result<(), EmFault>
         requires sound { Sound (seen D.state rig.old) }
         requires is { IsScanMap (seen D.state rig.old) self.old }
@@ -81,14 +89,35 @@ impl ScanMap {
         requires few { list_len self.old.list < 2 ^ 40 }
         ensures noted { Noted (seen D.state rig.old) (seen D.state rig.new)
             self.old.list self.new.list (command.Get key) result }
+        ensures is { OnOk result (IsScanMap (seen D.state rig.new) self.new) }
+        ensures answered { answered_of self.new ≡ answered_of self.old }
     {
         self.list.note(rig, Command::Get { key })
     }
 
-    /// The answers to all gets, in the order of their numbers: the record (number, 1, V, 0) where
-    /// the key had the value V by the calls before, and (number, 0, 0, 0) where it had none. The
-    /// commands' blocks are released. Over a device that tells, `Full` comes only if fewer blocks
-    /// are free at the start than the answers fill.
+    /// The answers to the gets since the last sync, in the order of their numbers, as those of `finish`. The
+    /// sync is noted as a command, and the map goes on. Over a device that tells, `Full` comes only if fewer
+    /// blocks are free at the start than the answers fill and two.
+    pub fn sync<D: Device>(&mut self, rig: &mut Rig<'_, D>) -> Result<Chain, EmFault>
+        requires sound { Sound (seen D.state rig.old) }
+        requires is { IsScanMap (seen D.state rig.old) self.old }
+        requires free { 6 ≤ (seen D.state rig.old).pool.free }
+        requires few { list_len self.old.list < 2 ^ 40 }
+        ensures syncs { Syncs (seen D.state rig.old) (seen D.state rig.new) self.old self.new result }
+    {
+        self.list.note(rig, Command::Sync)?;
+        let asks = Asks::Gets {
+            answered: self.answered,
+        };
+        let answers = self.list.answer_and_keep(rig, asks)?;
+        self.answered = self.list.len();
+        Ok(answers)
+    }
+
+    /// The answers to the gets since the last sync, in the order of their numbers: the record
+    /// (number, 1, V, 0) where the key had the value V by the calls before, and (number, 0, 0, 0) where it
+    /// had none. The commands' blocks are released. Over a device that tells, `Full` comes only if fewer
+    /// blocks are free at the start than the answers fill.
     pub fn finish<D: Device>(self, rig: &mut Rig<'_, D>) -> Result<Chain, EmFault>
         requires sound { Sound (seen D.state rig.old) }
         requires is { IsScanMap (seen D.state rig.old) self }
@@ -96,7 +125,7 @@ impl ScanMap {
         ensures gives { GivesFrame (blocks_of (seen D.state rig.old) self)
             (seen D.state rig.old) (seen D.state rig.new) }
         ensures answers { IfOk result (AnsweredBy (seen D.state rig.old) (seen D.state rig.new)
-            self.list (answer_records (commands_of (seen D.state rig.old) self))) }
+            self.list (due_of (seen D.state rig.old) self)) }
         ensures most { StaysWithin (held self.list)
             (plain_room (seen D.state rig.old).pool.shape (list_len self.list))
             (seen D.state rig.old) (seen D.state rig.new) }
@@ -109,10 +138,10 @@ impl ScanMap {
         ensures full_if_few { IsTrue (seen D.state rig.old).device.told
             → IfErr result (λ fault. OnFull fault ((seen D.state rig.old).blocks
             < (seen D.state rig.old).used
-            + ceiling (length (answer_records (commands_of (seen D.state rig.old) self)))
+            + ceiling (length (due_of (seen D.state rig.old) self))
             (payload_in (seen D.state rig.old)))) }
         ensures complete_if_enough { (seen D.state rig.old).used
-            + ceiling (length (answer_records (commands_of (seen D.state rig.old) self)))
+            + ceiling (length (due_of (seen D.state rig.old) self))
             (payload_in (seen D.state rig.old)) ≤ (seen D.state rig.old).blocks
             → Completes (seen D.state rig.old) (seen D.state rig.new) result }
         ensures complete { (seen D.state rig.old).used
@@ -121,8 +150,8 @@ impl ScanMap {
             → Completes (seen D.state rig.old) (seen D.state rig.new) result }
         ensures cause { IfErr result (Cause (seen D.state rig.old) (seen D.state rig.new)) }
     {
-        let ScanMap { list } = self;
-        list.answer(rig, Asks::Gets)
+        let ScanMap { list, answered } = self;
+        list.answer(rig, Asks::Gets { answered })
     }
 
     /// Gives its frame back, and moves nothing. Its blocks stay in use.
@@ -132,7 +161,7 @@ impl ScanMap {
         ensures gives { GivesFrame [] (seen D.state rig.old) (seen D.state rig.new) }
         ensures unmoved { Unmoved (seen D.state rig.old) (seen D.state rig.new) }
     {
-        let ScanMap { list } = self;
+        let ScanMap { list, answered: _ } = self;
         list.abandon(rig);
     }
 }

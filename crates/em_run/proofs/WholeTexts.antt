@@ -1,6 +1,6 @@
 -- A run that read its texts whole may hold no fewer blocks, and make no fewer moves, than one that stopped
 -- in them.
-use Rattle.std.proofs.Common.{IfSome, ℕ, zero, suc, ◌-◌, ◌≤◌, Bool, true, false, cond, List, [], ◌∷◌, length, take, arith, Option}
+use Rattle.std.proofs.Common.{IfSome, ◌*◌, ◌+◌, ℕ, zero, suc, ◌-◌, ◌≤◌, Bool, true, false, cond, List, [], ◌∷◌, length, take, arith, Option}
 use Rattle.std.specs.List.{sum_by}
 use Rattle.std.proofs.lemmas.List.Sums.{sum_by-append}
 use Rattle.em_record.specs.Cost.{cost}
@@ -22,6 +22,9 @@ use Rattle.em_lines.specs.CommandLine.{good_commands}
 use Rattle.em_eval.specs.EvalSize.{circuit_read, eval_cost, given_of, passes_read, rounds_of, steps_after, steps_read}
 use Rattle.em_run.specs.Made.{read_whole}
 use Rattle.em_lines.specs.RunSize.{commands_taken, run_size}
+use Rattle.em_answers.specs.Limits.{syncs_in}
+use Rattle.em_model.proofs.SyncLaws.{syncs-take}
+use Rattle.std.proofs.Math.Nat.{mul-le-mul}
 use Rattle.em_words.specs.declared.job.Task.{Task}
 use Rattle.em_words.specs.declared.job.Task.TheVariants.{Answer, Eval}
 use Rattle.em_lines.specs.declared.text.FileKind.{FileKind}
@@ -81,11 +84,24 @@ steps_rise (Reads c p x) given more stimulus h =
     steps_begun_rises c.header.inputs given more stimulus h
 steps_rise (Fails kind place) given more stimulus h = omega arith
 
+-- no fewer syncs are taken of it
+syncs_rise : (kind : FileKind) (text left less : List ℕ) → length less ≤ length left
+    → syncs_in kind text left ≤ syncs_in kind text less
+syncs_rise Map text left less h = syncs-take (commands_taken Map text left) (commands_taken Map text less)
+    (good_commands Map text) (taken_rises Map text left less h)
+syncs_rise Queue text left less h = omega arith
+syncs_rise Stab text left less h = omega arith
+
 -- the transfer cost of a whole file is no less
 file_rises : (kind : FileKind) (shape : ShapeNumbers) (text left : List ℕ)
-    → cost shape (run_size kind text left) ≤ cost shape (run_size kind text [])
-file_rises kind shape text left = cost_rises shape (run_size kind text left) (run_size kind text [])
-    (size_rises kind text left [] (omega arith))
+    → (syncs_in kind text left + 1) * cost shape (run_size kind text left)
+    ≤ (syncs_in kind text [] + 1) * cost shape (run_size kind text [])
+file_rises kind shape text left =
+    let more = cost_rises shape (run_size kind text left) (run_size kind text [])
+    (size_rises kind text left [] (omega arith)) in
+    let syncs = syncs_rise kind text left [] (omega arith) in
+    mul-le-mul {n₁ = syncs_in kind text left + 1} {m₁ = cost shape (run_size kind text left)}
+    {n₂ = syncs_in kind text [] + 1} {m₂ = cost shape (run_size kind text [])} (omega (arith, syncs)) more
 
 -- more steps take no fewer rounds
 more_rounds : (wide : Bool) (few many : ℕ) → few ≤ many → rounds_of wide few ≤ rounds_of wide many

@@ -3,7 +3,7 @@ use Rattle.std.proofs.Common.{◌≡◌, ℕ, ◌+◌, List, [], ◌∷◌, ◌+
 use Rattle.std.proofs.lemmas.List.{append-nil}
 use Rattle.em_model.specs.Stab.{NumberedInterval, stab_step, intervals_after}
 use Rattle.em_model.specs.declared.command.Command.{Command}
-use Rattle.em_model.specs.declared.command.Command.TheVariants.{Put, Del, Get, Push, Pop, Interval, Stab}
+use Rattle.em_model.specs.declared.command.Command.TheVariants.{Put, Del, Get, Sync, Push, Pop, Interval, Stab}
 use Rattle.em_segment_model.specs.Pieces.{Asked}
 use Rattle.em_segment_model.specs.Commands.{asked_from}
 
@@ -26,6 +26,7 @@ asked-append s n [] ys =
 asked-append s n (Put key value ∷ xs) ys = asked-append s n xs ys
 asked-append s n (Del key ∷ xs) ys = asked-append s n xs ys
 asked-append s n (Get key ∷ xs) ys = asked-append s n xs ys
+asked-append s n (Sync ∷ xs) ys = asked-append s n xs ys
 asked-append s n (Push key value ∷ xs) ys = asked-append s n xs ys
 asked-append s n (Pop ∷ xs) ys = asked-append s n xs ys
 asked-append s n (Interval low high ∷ xs) ys =
@@ -44,6 +45,7 @@ asked-length s n [] = refl
 asked-length s n (Put key value ∷ cs) = asked-length s n cs
 asked-length s n (Del key ∷ cs) = asked-length s n cs
 asked-length s n (Get key ∷ cs) = asked-length s n cs
+asked-length s n (Sync ∷ cs) = asked-length s n cs
 asked-length s n (Push key value ∷ cs) = asked-length s n cs
 asked-length s n (Pop ∷ cs) = asked-length s n cs
 asked-length s n (Interval low high ∷ cs) = asked-length s (n + 1) cs
@@ -56,6 +58,7 @@ after-length is [] = omega arith
 after-length is (Put key value ∷ cs) = after-length is cs
 after-length is (Del key ∷ cs) = after-length is cs
 after-length is (Get key ∷ cs) = after-length is cs
+after-length is (Sync ∷ cs) = after-length is cs
 after-length is (Push key value ∷ cs) = after-length is cs
 after-length is (Pop ∷ cs) = after-length is cs
 after-length is (Stab point ∷ cs) = after-length is cs

@@ -7,7 +7,7 @@ use Rattle.std.specs.Prelude.{◌&&◌, nat_lt, filter}
 use Rattle.em_model.specs.Ascending.{Ascend}
 use Rattle.em_model.specs.Stab.{NumberedInterval, holds_point, holders_of, stab_answers_from, intervals_after}
 use Rattle.em_model.specs.declared.command.Command.{Command}
-use Rattle.em_model.specs.declared.command.Command.TheVariants.{Put, Del, Get, Push, Pop, Interval, Stab}
+use Rattle.em_model.specs.declared.command.Command.TheVariants.{Put, Del, Get, Sync, Push, Pop, Interval, Stab}
 use Rattle.em_model.proofs.StabLaws.{AreNumbered, numbered_step}
 use Rattle.em_model.specs.StabAnswers.{pair_record, pairs_from, stab_pairs}
 use Rattle.em_segment_model.specs.Pieces.{Asked, answers, pair_of, pairs_at, all_pairs}
@@ -40,6 +40,7 @@ later_same a is [] h = refl
 later_same a is (Put key value ∷ cs) h = later_same a is cs h
 later_same a is (Del key ∷ cs) h = later_same a is cs h
 later_same a is (Get key ∷ cs) h = later_same a is cs h
+later_same a is (Sync ∷ cs) h = later_same a is cs h
 later_same a is (Push key value ∷ cs) h = later_same a is cs h
 later_same a is (Pop ∷ cs) h = later_same a is cs h
 later_same a is (Stab point ∷ cs) h = later_same a is cs h
@@ -90,6 +91,7 @@ asked_pairs s is [] a = refl
 asked_pairs s is (Put key value ∷ cs) a = asked_pairs s is cs a
 asked_pairs s is (Del key ∷ cs) a = asked_pairs s is cs a
 asked_pairs s is (Get key ∷ cs) a = asked_pairs s is cs a
+asked_pairs s is (Sync ∷ cs) a = asked_pairs s is cs a
 asked_pairs s is (Push key value ∷ cs) a = asked_pairs s is cs a
 asked_pairs s is (Pop ∷ cs) a = asked_pairs s is cs a
 asked_pairs s is (Interval low high ∷ cs) a =

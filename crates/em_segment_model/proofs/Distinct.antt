@@ -9,7 +9,7 @@ use Rattle.em_record.specs.declared.record.Record.{Record}
 use Rattle.em_model.specs.Ascending.{Ascend}
 use Rattle.em_model.specs.Stab.{NumberedInterval, holders_of, stab_answers_from, stab_step}
 use Rattle.em_model.specs.declared.command.Command.{Command}
-use Rattle.em_model.specs.declared.command.Command.TheVariants.{Put, Del, Get, Push, Pop, Interval, Stab}
+use Rattle.em_model.specs.declared.command.Command.TheVariants.{Put, Del, Get, Sync, Push, Pop, Interval, Stab}
 use Rattle.em_model.proofs.StabLaws.{AreNumbered, holders_ascend, numbered_step}
 use Rattle.em_model.specs.StabAnswers.{pair_record, pairs_from, stab_pairs}
 use Rattle.em_record.specs.Order.{Lacks, is_below, with_record}
@@ -105,6 +105,7 @@ pairs_single a b s is [] n = omega arith
 pairs_single a b s is (Put key value ∷ cs) n = pairs_single a b s is cs n
 pairs_single a b s is (Del key ∷ cs) n = pairs_single a b s is cs n
 pairs_single a b s is (Get key ∷ cs) n = pairs_single a b s is cs n
+pairs_single a b s is (Sync ∷ cs) n = pairs_single a b s is cs n
 pairs_single a b s is (Push key value ∷ cs) n = pairs_single a b s is cs n
 pairs_single a b s is (Pop ∷ cs) n = pairs_single a b s is cs n
 pairs_single a b s is (Interval low high ∷ cs) n =
@@ -194,6 +195,7 @@ points_lack s n [] ys h = tt
 points_lack s n (Put key value ∷ cs) ys h = points_lack s n cs ys h
 points_lack s n (Del key ∷ cs) ys h = points_lack s n cs ys h
 points_lack s n (Get key ∷ cs) ys h = points_lack s n cs ys h
+points_lack s n (Sync ∷ cs) ys h = points_lack s n cs ys h
 points_lack s n (Push key value ∷ cs) ys h = points_lack s n cs ys h
 points_lack s n (Pop ∷ cs) ys h = points_lack s n cs ys h
 points_lack s n (Interval low high ∷ cs) ys h = points_lack s (n + 1) cs ys h

@@ -3,10 +3,11 @@ use Rattle.std.proofs.Common.{◌≡◌, ℕ, ◌+◌, ◌≤◌, ◌<◌, List,
 use Rattle.em_record.specs.Order.{Lacks, in_order, is_below, with_record, with_records}
 use Rattle.em_record.specs.declared.record.Record.{Record}
 use Rattle.em_record.proofs.Order.{length_order}
-use Rattle.em_model.specs.MapAnswers.{answer_record, answer_records, get_numbers, with_numbers}
-use Rattle.em_model.specs.Map.{map_answers}
+use Rattle.em_model.specs.MapAnswers.{answer_record, answers_after, get_numbers, with_numbers}
+use Rattle.em_model.specs.Map.{map_answers_from, no_keys, state_after}
 use Rattle.em_model.specs.declared.command.Command.{Command}
-use Rattle.em_model.specs.declared.command.Command.TheVariants.{Put, Del, Get, Push, Pop, Interval, Stab}
+use Rattle.em_model.specs.declared.command.Command.TheVariants.{Put, Del, Get, Sync, Push, Pop, Interval, Stab}
+use Rattle.em_model.proofs.AnswerLaws.{answers_few}
 use Rattle.em_sorting.specs.Lacking.{AllLack}
 
 -- no two of these records have the same words a and b
@@ -98,6 +99,9 @@ answers_rise n (Put key value ∷ cs) answers =
 answers_rise n (Del key ∷ cs) answers =
     rise_lower n (n + 1) (with_numbers (get_numbers (n + 1) cs) answers) (omega arith)
     (answers_rise (n + 1) cs answers)
+answers_rise n (Sync ∷ cs) answers =
+    rise_lower n (n + 1) (with_numbers (get_numbers (n + 1) cs) answers) (omega arith)
+    (answers_rise (n + 1) cs answers)
 answers_rise n (Push key value ∷ cs) answers =
     rise_lower n (n + 1) (with_numbers (get_numbers (n + 1) cs) answers) (omega arith)
     (answers_rise (n + 1) cs answers)
@@ -111,41 +115,23 @@ answers_rise n (Stab point ∷ cs) answers =
     rise_lower n (n + 1) (with_numbers (get_numbers (n + 1) cs) answers) (omega arith)
     (answers_rise (n + 1) cs answers)
 
--- No more answers come than commands.
-answers_few : (n : ℕ) (cs : List Command) (answers : List (Option ℕ))
-    → length (with_numbers (get_numbers n cs) answers) ≤ length cs
-answers_few n [] answers = omega arith
-answers_few n (Get key ∷ cs) [] = omega arith
-answers_few n (Get key ∷ cs) (answer ∷ answers) =
-    let l = answers_few (n + 1) cs answers in omega (arith, l)
-answers_few n (Put key value ∷ cs) answers =
-    let l = answers_few (n + 1) cs answers in omega (arith, l)
-answers_few n (Del key ∷ cs) answers =
-    let l = answers_few (n + 1) cs answers in omega (arith, l)
-answers_few n (Push key value ∷ cs) answers =
-    let l = answers_few (n + 1) cs answers in omega (arith, l)
-answers_few n (Pop ∷ cs) answers =
-    let l = answers_few (n + 1) cs answers in omega (arith, l)
-answers_few n (Interval low high ∷ cs) answers =
-    let l = answers_few (n + 1) cs answers in omega (arith, l)
-answers_few n (Stab point ∷ cs) answers =
-    let l = answers_few (n + 1) cs answers in omega (arith, l)
-
--- The answers to some commands, in any order: a queue takes them, and there are no more of them
+-- The answers to some commands that come after others, in any order: a queue takes them, and there are no more of them
 -- than commands.
-pub answers_lack : (cs : List Command) (xs : List Record) → in_order xs ≡ answer_records cs
+pub answers_lack : (before cs : List Command) (xs : List Record) → in_order xs ≡ answers_after before cs
     → AllLack [] xs
-answers_lack cs xs e =
+answers_lack before cs xs e =
+    let n = 1 + length before in
+    let m = state_after no_keys before in
     unlike_lack [] xs (subst AllUnlike (sym e)
-    (rise_unlike 1 (answer_records cs) (answers_rise 1 cs (map_answers cs))))
+    (rise_unlike n (answers_after before cs) (answers_rise n cs (map_answers_from m cs))))
 
-pub answers_most : (cs : List Command) (xs : List Record) → in_order xs ≡ answer_records cs
+pub answers_most : (before cs : List Command) (xs : List Record) → in_order xs ≡ answers_after before cs
     → length xs ≤ length cs
-answers_most cs xs e =
+answers_most before cs xs e =
     let n = length_order xs in
     let m = ap (λ (ys : List Record). length ys) e in
-    let l = answers_few 1 cs (map_answers cs) in omega (arith, n, m, l)
+    let l = answers_few (1 + length before) (state_after no_keys before) cs in omega (arith, n, m, l)
 
--- the records of the answers to some commands are no more than the commands
-pub records_few : (cs : List Command) → length (answer_records cs) ≤ length cs
-records_few cs = answers_few 1 cs (map_answers cs)
+-- the records of the answers are no more than the commands
+pub records_few : (before cs : List Command) → length (answers_after before cs) ≤ length cs
+records_few before cs = answers_few (1 + length before) (state_after no_keys before) cs

@@ -1,9 +1,9 @@
 -- A batch is finished, and its answers are put in order.
-use Rattle.std.proofs.Common.{◌≡◌, ℕ, ◌+◌, ◌*◌, ◌<◌, ◌≤◌, List, length, ap, sym, ◌∙◌, arith, IsTrue, Some, Result, Ok, Err, IfOk, IfErr, OnErr}
+use Rattle.std.proofs.Common.{◌≡◌, ℕ, ◌+◌, ◌-◌, ◌*◌, ◌<◌, ◌≤◌, ◌++◌, List, length, ap, sym, ◌∙◌, arith, IsTrue, Some, Result, Ok, Err, IfOk, IfErr, OnErr}
 use Rattle.std.specs.Int.{div_ceil}
 use Rattle.em_record.specs.Shape.{ShapeNumbers, fan_of, payload_of}
 use Rattle.em_frames.specs.Pool.{GivenFrames, PoolCounts, SameFrames}
-use Rattle.em_model.specs.MapAnswers.{answer_records}
+use Rattle.em_model.specs.MapAnswers.{answers_after}
 use Rattle.em_model.specs.declared.command.Command.{Command}
 use Rattle.em_space.specs.Queue.{Pays}
 use Rattle.em_space.specs.Rig.{Cause, RigState, Touches, Sound}
@@ -17,14 +17,16 @@ use Rattle.em_chain.specs.declared.chain.Chain.{Chain}
 use Rattle.em_chain.proofs.Counts.{packed_blocks}
 use Rattle.em_chain.proofs.Readers.{length_items}
 use Rattle.em_tree.specs.Calls.{StopsFinishing}
-use Rattle.em_tree_cost.specs.Shares.{chain_share, queue_share, tree_room}
+use Rattle.em_tree_cost.specs.Shares.{chain_share, tree_room}
+use Rattle.em_services.specs.BatchLaws.{n_is}
 use Rattle.em_tree_cost.proofs.Ceilings.{ceil_is, ceil_mono, ceiling_is}
 use Rattle.em_tree_cost.proofs.Rising.{queue_share_rises}
-use Rattle.em_map.specs.Batch.{BatchCosts, FinishedBatch, HasCommands, batch_blocks, trunk_of}
+use Rattle.em_map.specs.Batch.{BatchCosts, FinishedBatch, HasCommands, batch_blocks, batch_spent, trunk_of}
 use Rattle.em_map.specs.declared.batch.Batch.{Batch}
-use Rattle.em_services.specs.BatchService.{AreAnswers, IsGivenBatch, OrdersAnswers, batch_counts, map_share, ordering_moves, ordering_room}
+use Rattle.em_services.specs.BatchService.{AreAnswers, IsGivenBatch, OrdersAnswers, answers_share, batch_counts, map_share, ordering_moves, ordering_room}
 use Rattle.em_services.specs.Service.{CanAnswer, GivesFrames, LeavesAnswers, WithinAllowance, FullOverRoom, WithinRoom}
 use Rattle.em_services.proofs.AnswerOrder.{answers_lack, answers_most}
+use Rattle.em_services.proofs.Moves.{call_moves}
 use Rattle.em_record.specs.Cost.{room}
 use Rattle.em_plain.specs.Room.{StaysWithin}
 use Rattle.em_tree_walk.proofs.Losses.{chain_length}
@@ -51,12 +53,17 @@ given_then p q r x y = record {
   peak = omega (arith, x.peak, y.peak);
 }
 
+-- its calls are its commands
+calls_are : (s : RigState) (b : Batch) (before cs : List Command) → HasCommands s b before cs
+    → b.calls ≡ length (before ++ cs)
+calls_are s b before cs h = n_is b s before cs h
+
 -- no more answers were given than commands
 answers_count : (s m : RigState) (b : Batch) (c : Chain) → FinishedBatch s m b c
     → IsGivenBatch s b → IsTrue s.device.told → c.count ≤ b.calls
 answers_count s m b c f i z =
     let n = length_items m c f.tree.chain (f.tree.session.touches.told ∙ z) in
-    let l = answers_most i.commands (chain_items m c) (f.ordered z i.commands i.has) in
+    let l = answers_most i.before i.since (chain_items m c) (f.ordered z i.before i.since i.has) in
     let calls = i.has.calls in
     omega (arith, n, l, calls)
 
@@ -78,8 +85,8 @@ answers_are s m b c f i free =
       few = λ z.
           let n = answers_count s m b c f i (sym told ∙ z) in
           let few = i.is.few in omega (arith, n, few);
-      lacks = λ z. answers_lack i.commands (chain_items m c)
-          (f.ordered (sym told ∙ z) i.commands i.has);
+      lacks = λ z. answers_lack i.before i.since (chain_items m c)
+          (f.ordered (sym told ∙ z) i.before i.since i.has);
     }
 
 -- They were put in order, or a call gave up.
@@ -125,21 +132,21 @@ module _ (s m t : RigState) (b : Batch) (c : Chain) (f : FinishedBatch s m b c) 
   answers_leaves (Err fault) o = tt
 
   pub answers_items : (result : Result Chain EmFault) → OrdersAnswers m t c result
-      → IfOk result (λ d. IsTrue s.device.told → (cs : List Command) → HasCommands s b cs
-      → chain_items t d ≡ answer_records cs)
-  answers_items (Ok d) o = λ z cs h. o.items (finished_touches.told ∙ z) ∙ f.ordered z cs h
+      → IfOk result (λ d. IsTrue s.device.told → (before cs : List Command) → HasCommands s b before cs
+      → chain_items t d ≡ answers_after before cs)
+  answers_items (Ok d) o = λ z before cs h. o.items (finished_touches.told ∙ z) ∙ f.ordered z before cs h
   answers_items (Err fault) o = tt
 
   pub answers_owes : (result : Result Chain EmFault) → OrdersAnswers m t c result
       → OnErr result (Pays (batch_counts b).unstored (2 * s.pool.shape.frames) s t)
   answers_owes (Ok d) o = tt
   answers_owes (Err fault) o =
-      pays_then f.tree.pays (pays_more o.pays (omega (arith, frames_kept))) o.goes.touches.moves
+      let low = f.tree.session.sound.shape.frames_low in
+      pays_then f.tree.pays (pays_more {p = 0} {q = 2 * s.pool.shape.frames} o.pays (omega (arith, frames_kept, low)))
+      o.goes.touches.moves
 
   -- Its moves were within its share, and those of the queue and of both lists are within the rest.
-  order_moves : IsGivenBatch s b → IsTrue s.device.told
-      → ordering_moves m c ≤ queue_share s.pool.shape (2 * b.calls) (2 * b.calls)
-      + chain_share s.pool.shape b.calls
+  order_moves : IsGivenBatch s b → IsTrue s.device.told → ordering_moves m c ≤ answers_share s.pool.shape b.calls
   order_moves i z =
       let told = finished_touches.told ∙ z in
       let shape = f.tree.frames.shape in
@@ -163,22 +170,23 @@ module _ (s m t : RigState) (b : Batch) (c : Chain) (f : FinishedBatch s m b c) 
   ordered_room (Err fault) o z = o.room z
 
   pub answers_moves : (result : Result Chain EmFault) → OrdersAnswers m t c result
-      → IsGivenBatch s b → BatchCosts s m b → (cs : List Command) → HasCommands s b cs
-      → WithinAllowance (Some map_share) (length cs) (batch_counts b).spent s t
-  answers_moves result o i costs cs h = λ z.
+      → IsGivenBatch s b → Sound s → BatchCosts s m b → (before cs : List Command) → HasCommands s b before cs
+      → WithinAllowance (Some map_share) (length (before ++ cs)) (batch_counts b).syncs (batch_counts b).spent s t
+  answers_moves result o i sound costs before cs h = λ z.
       let moves : t.moves ≤ m.moves + ordering_moves m c =
       ordered_moves result o (finished_touches.told ∙ z) in
-      let own = costs.share z in
       let later = costs.later in
-      let rest = order_moves i z in
-      rw (← h.calls) (omega (arith, moves, own, later, rest))
+      let all = call_moves s.pool.shape b.calls b.calls b.syncs b.syncs (batch_spent b) (batch_spent b + (m.moves - s.moves))
+      (ordering_moves m c) s.moves t.moves sound.shape (omega arith) (omega arith) (omega (arith, moves, later))
+      (costs.share z) (order_moves i z) in
+      rw (← calls_are s b before cs h) all
 
   -- At no moment the batch and its answers held more than the room.
   module _ (i : IsGivenBatch s b) (sound : Sound s) where
     finish_room : IsTrue s.device.told → tree_room s.pool.shape b.calls + (trunk_of b).answers.blocks
         ≤ room s.pool.shape b.calls
     finish_room z =
-        let given = given_blocks s b i.commands i.is i.has z sound.shape in
+        let given = given_blocks s b i.before i.since i.is i.has z sound.shape in
         commands_room s.pool.shape b.calls b.calls (trunk_of b).answers.blocks sound.shape (omega arith)
         given
 
@@ -194,26 +202,26 @@ module _ (s m t : RigState) (b : Batch) (c : Chain) (f : FinishedBatch s m b c) 
 
     pub answers_room_is : (result : Result Chain EmFault) → OrdersAnswers m t c result
         → (IsTrue s.device.told → TreeWithinRoom b.calls s m (trunk_of b))
-        → (cs : List Command) → HasCommands s b cs
-        → WithinRoom (Some room) (length cs) (batch_blocks s b) s t
-    answers_room_is result o w cs h = λ z.
+        → (before cs : List Command) → HasCommands s b before cs
+        → WithinRoom (Some room) (length (before ++ cs)) (batch_blocks s b) s t
+    answers_room_is result o w before cs h = λ z.
         let first = (w z).most in
         let last = (ordered_room result o (finished_touches.told ∙ z)).is in
         let used = finished_used z in
         let one = finish_room z in
         let two = order_room z in
-        rw (← h.calls) (record { is = omega (arith, first, last, used, one, two) })
+        rw (← calls_are s b before cs h) (record { is = omega (arith, first, last, used, one, two) })
 
     pub answers_full : (result : Result Chain EmFault) → OrdersAnswers m t c result
-        → (cs : List Command) → HasCommands s b cs
-        → IfErr result (FullOverRoom (Some room) (length cs) (batch_blocks s b) s)
-    answers_full (Ok d) o cs h = tt
-    answers_full (Err fault) o cs h = λ z.
+        → (before cs : List Command) → HasCommands s b before cs
+        → IfErr result (FullOverRoom (Some room) (length (before ++ cs)) (batch_blocks s b) s)
+    answers_full (Ok d) o before cs h = tt
+    answers_full (Err fault) o before cs h = λ z.
         let used = finished_used z in
         let two = order_room z in
         when_full fault (λ n. n + c.blocks < m.used + ordering_room m c)
-        (λ n. n + length (batch_blocks s b) < s.used + room s.pool.shape (length cs))
-        (λ n less. rw (← h.calls) (omega (arith, less, used, two))) (o.full (finished_touches.told ∙ z))
+        (λ n. n + length (batch_blocks s b) < s.used + room s.pool.shape (length (before ++ cs)))
+        (λ n less. rw (← calls_are s b before cs h) (omega (arith, less, used, two))) (o.full (finished_touches.told ∙ z))
 
   pub answers_cause : (result : Result Chain EmFault) → OrdersAnswers m t c result
       → IfErr result (Cause s t)
@@ -232,33 +240,35 @@ module _ (s t : RigState) (b : Batch) (fault : EmFault) (h : StopsFinishing s t 
     pub unfinished_cause : Cause s t fault
     unfinished_cause = h.cause
 
-    pub unfinished_moves : BatchCosts s t b → (cs : List Command) → HasCommands s b cs
-        → WithinAllowance (Some map_share) (length cs) (batch_counts b).spent s t
-    unfinished_moves costs cs k = λ z.
-        let own = costs.share z in
+    pub unfinished_moves : BatchCosts s t b → Sound s → (before cs : List Command) → HasCommands s b before cs
+        → WithinAllowance (Some map_share) (length (before ++ cs)) (batch_counts b).syncs (batch_counts b).spent s t
+    unfinished_moves costs sound before cs k = λ z.
         let later = costs.later in
-        rw (← k.calls) (omega (arith, own, later))
+        let all = call_moves s.pool.shape b.calls b.calls b.syncs b.syncs (batch_spent b)
+        (batch_spent b + (t.moves - s.moves)) 0 s.moves t.moves sound.shape (omega arith) (omega arith)
+        (omega (arith, later)) (costs.share z) (omega arith) in
+        rw (← calls_are s b before cs k) all
 
     module _ (i : IsGivenBatch s b) (sound : Sound s) where
       unfinished_own : IsTrue s.device.told
           → tree_room s.pool.shape b.calls + (trunk_of b).answers.blocks ≤ room s.pool.shape b.calls
       unfinished_own z =
-          let given = given_blocks s b i.commands i.is i.has z sound.shape in
+          let given = given_blocks s b i.before i.since i.is i.has z sound.shape in
           commands_room s.pool.shape b.calls b.calls (trunk_of b).answers.blocks sound.shape (omega arith)
           given
 
       pub unfinished_room : (IsTrue s.device.told → TreeWithinRoom b.calls s t (trunk_of b))
-          → (cs : List Command) → HasCommands s b cs
-          → WithinRoom (Some room) (length cs) (batch_blocks s b) s t
-      unfinished_room w cs k = λ z.
+          → (before cs : List Command) → HasCommands s b before cs
+          → WithinRoom (Some room) (length (before ++ cs)) (batch_blocks s b) s t
+      unfinished_room w before cs k = λ z.
           let most = (w z).most in
           let own = unfinished_own z in
-          rw (← k.calls) (record { is = omega (arith, most, own) })
+          rw (← calls_are s b before cs k) (record { is = omega (arith, most, own) })
 
       pub unfinished_full : (IsTrue s.device.told → TreeFullOverRoom b.calls s (trunk_of b) fault)
-          → (cs : List Command) → HasCommands s b cs
-          → FullOverRoom (Some room) (length cs) (batch_blocks s b) s fault
-      unfinished_full over cs k = λ z.
-          rw (← k.calls) (over_used fault (length (batch_blocks s b)) s.used
+          → (before cs : List Command) → HasCommands s b before cs
+          → FullOverRoom (Some room) (length (before ++ cs)) (batch_blocks s b) s fault
+      unfinished_full over before cs k = λ z.
+          rw (← calls_are s b before cs k) (over_used fault (length (batch_blocks s b)) s.used
           (tree_room s.pool.shape b.calls + (trunk_of b).answers.blocks) (room s.pool.shape b.calls) s t
           (over z).full h.cause h.touches.blocks (unfinished_own z))

@@ -8,14 +8,15 @@ use Rattle.em_space.proofs.Paying.{pays_more}
 use Rattle.em_chain.specs.Effects.{Unmoved}
 use Rattle.em_tree.specs.Calls.{StopsNewTrunk}
 use Rattle.em_trunk.specs.Lists.{LeavesTrunk}
-use Rattle.em_map.specs.Batch.{BatchHasFrames, CountsCommand, HasCommands, IsNewBatch, TakesTo, batch_blocks, trunk_of}
+use Rattle.em_map.specs.Batch.{BatchHasFrames, CountsCommand, HasCommands, IsNewBatch, TakesTo, batch_blocks, batch_spent, trunk_of}
 use Rattle.em_map.specs.declared.batch.Batch.{Batch}
-use Rattle.em_services.specs.BatchService.{IsGivenBatch, batch_counts, map_share}
+use Rattle.em_services.specs.BatchService.{IsGivenBatch, answers_share, batch_counts, map_share}
+use Rattle.em_services.proofs.Moves.{call_moves, first_within, made_spends, share_at, take_spends, times_rise}
 use Rattle.em_services.specs.Service.{GivesFrames, MakesService, TakesCommand, WithinAllowance, FullOverRoom, WithinRoom}
 use Rattle.em_services.proofs.OrderedBatch.{share_some}
 use Rattle.em_record.specs.Cost.{room}
 use Rattle.em_trunk.specs.Room.{FullOverRoom as TreeFullOverRoom, WithinRoom as TreeWithinRoom}
-use Rattle.em_tree_cost.specs.Shares.{tree_room}
+use Rattle.em_tree_cost.specs.Shares.{batch_share, tree_room}
 use Rattle.em_map.proofs.Rooms.{given_blocks}
 use Rattle.em_ready.proofs.RoomLaws.{commands_room, over_used, room_some, two_missing}
 
@@ -28,21 +29,24 @@ made s t (Ok b) n = record {
   frames_are = n.tree.frames;
   within = n.tree.session.within;
   n = n.none.calls;
+  syncs = n.none.syncs;
   pays = pays_more n.tree.pays (omega arith);
   used = λ z. let used = n.tree.loses z in omega (arith, used);
-  spent = let spent = n.tree.spent in omega (arith, spent);
+  spent = made_spends (trunk_of b).spent b.syncs (answers_share s.pool.shape b.calls) s.moves t.moves n.tree.spent;
 }
 made s t (Err fault) n = tt
 
 -- with at most four moves,
+few_moves : (s t : RigState) → t.moves ≤ s.moves + 4 → 0 + t.moves ≤ s.moves + (0 + 1) * map_share s.pool.shape 0
+few_moves s t moves =
+    let some = share_some s.pool.shape (2 * 0) (2 * 0) in
+    first_within (batch_share s.pool.shape 0) (answers_share s.pool.shape 0) s.moves t.moves moves
+    (omega (arith, some))
+
 pub made_moves : (s t : RigState) (result : Result Batch EmFault) → IfOk result (IsNewBatch s t)
-    → IfErr result (StopsNewTrunk s t) → WithinAllowance (Some map_share) 0 0 s t
-made_moves s t (Ok b) n h = λ z.
-    let moves = n.tree.moves in
-    let some = share_some s.pool.shape (2 * 0) (2 * 0) in omega (arith, moves, some)
-made_moves s t (Err fault) n h = λ z.
-    let moves = h.moves in
-    let some = share_some s.pool.shape (2 * 0) (2 * 0) in omega (arith, moves, some)
+    → IfErr result (StopsNewTrunk s t) → WithinAllowance (Some map_share) 0 0 (λ shape. 0) s t
+made_moves s t (Ok b) n h = λ z. few_moves s t n.tree.moves
+made_moves s t (Err fault) n h = λ z. few_moves s t h.moves
 
 -- and at most two blocks,
 pub made_room : (s t : RigState) (result : Result Batch EmFault) → IfOk result (IsNewBatch s t)
@@ -63,11 +67,11 @@ made_full s t (Err fault) h = λ z.
 
 pub made_given : (s t : RigState) (result : Result Batch EmFault) → IfOk result (IsNewBatch s t)
     → IfOk result (IsGivenBatch t)
-made_given s t (Ok b) n = record { is = n.is; commands = []; has = n.none }
+made_given s t (Ok b) n = record { is = n.is; before = []; since = []; has = n.none }
 made_given s t (Err fault) n = tt
 
 pub made_none : (s t : RigState) (result : Result Batch EmFault) → IfOk result (IsNewBatch s t)
-    → IfOk result (λ b. HasCommands t b [])
+    → IfOk result (λ b. HasCommands t b [] [])
 made_none s t (Ok b) n = n.none
 made_none s t (Err fault) n = tt
 
@@ -89,18 +93,21 @@ unmade_cause s t (Ok b) h = tt
 unmade_cause s t (Err fault) h = h.cause
 
 -- A command was given to it, with at most the moves of its share,
-pub take_moves : (s t : RigState) (b d : Batch) → CountsCommand s t b d
-    → WithinAllowance (Some map_share) ((batch_counts b).n + 1) (batch_counts b).spent s t
-take_moves s t b d n = λ z.
-    let share = rw (n.calls) at (n.share z) in
-    let spent = n.tree.spent in omega (arith, share, spent)
+pub take_moves : (s t : RigState) (b d : Batch) → Sound s → CountsCommand s t b d
+    → WithinAllowance (Some map_share) ((batch_counts b).n + 1) (batch_counts b).syncs (batch_counts b).spent s t
+take_moves s t b d sound n = λ z.
+    let share = share_at s.pool.shape (batch_spent d) d.calls (b.calls + 1) d.syncs b.syncs n.calls n.syncs (n.share z) in
+    let spent = n.tree.spent in
+    let syncs = n.syncs in
+    call_moves s.pool.shape (b.calls + 1) b.calls b.syncs b.syncs (batch_spent b) (batch_spent d) 0 s.moves t.moves
+    sound.shape (omega arith) (omega arith) (omega (arith, spent, syncs)) share (omega arith)
 
 -- and at most the blocks of its room,
 module _ (s t : RigState) (b : Batch) (i : IsGivenBatch s b) (sound : Sound s) where
   own_room : IsTrue s.device.told → tree_room s.pool.shape (b.calls + 1) + (trunk_of b).answers.blocks
       ≤ room s.pool.shape (b.calls + 1)
   own_room z =
-      let given = given_blocks s b i.commands i.is i.has z sound.shape in
+      let given = given_blocks s b i.before i.since i.is i.has z sound.shape in
       commands_room s.pool.shape b.calls (b.calls + 1) (trunk_of b).answers.blocks sound.shape
       (omega arith) given
 
@@ -139,27 +146,35 @@ module _ (T : Type 0) (c : Command) (s t : RigState) (b d : Batch) where
       → OnOk result (IsGivenBatch t d)
   take_is (Ok x) h i = record {
     is = h.is;
-    commands = i.commands ++ c ∷ [];
-    has = h.commands i.commands i.has;
+    before = i.before;
+    since = i.since ++ c ∷ [];
+    has = h.commands i.before i.since i.has;
   }
   take_is (Err fault) h i = tt
 
   pub take_has : (result : Result T EmFault) → TakesTo c s t b d result
-      → OnOk result ((cs : List Command) → HasCommands s b cs → HasCommands t d (cs ++ c ∷ []))
+      → OnOk result ((before cs : List Command) → HasCommands s b before cs → HasCommands t d before (cs ++ c ∷ []))
   take_has (Ok x) h = h.commands
   take_has (Err fault) h = tt
 
-  pub takes : (result : Result T EmFault) → TakesTo c s t b d result → CountsCommand s t b d
-      → OnOk result (TakesCommand (Some map_share) (Some room) (batch_blocks s b) (batch_blocks t d)
+  pub takes : (result : Result T EmFault) → TakesTo c s t b d result → CountsCommand s t b d → Sound s
+      → OnOk result (TakesCommand (Some map_share) (Some room) 0 (batch_blocks s b) (batch_blocks t d)
       (batch_counts b) (batch_counts d) s t)
-  takes (Ok x) h n = record {
+  takes (Ok x) h n sound = record {
     within = h.tree.session.within;
     n = n.calls;
+    syncs = let syncs = n.syncs in omega (arith, syncs);
     pays = h.tree.pays;
     used = λ z. h.tree.loses z;
-    spent = let spent = n.tree.spent in omega (arith, spent);
+    spent = λ z.
+        let spent = n.tree.spent in
+        let syncs = n.syncs in
+        let calls = n.calls in
+        take_spends b.syncs d.syncs (answers_share s.pool.shape b.calls) (answers_share s.pool.shape d.calls)
+        (batch_spent b) (batch_spent d) s.moves t.moves syncs (omega (arith, spent, syncs))
+        (times_rise s.pool.shape b.calls d.calls b.syncs sound.shape (omega (arith, calls)));
   }
-  takes (Err fault) h n = tt
+  takes (Err fault) h n sound = tt
 
   pub take_owes : (result : Result T EmFault) → TakesTo c s t b d result
       → OnErr result (Pays (batch_counts b).unstored s.pool.shape.frames s t)

@@ -2,7 +2,11 @@ pub mod AnswerOrder
 pub mod BatchAnswers
 pub mod Batching
 pub mod InOrder
+pub mod Moves
 pub mod OrderedBatch
+pub mod ScanSyncs
 pub mod Scanning
 pub mod StabAnswers
 pub mod Stabbing
+pub mod SyncRoom
+pub mod Syncing

@@ -1,5 +1,5 @@
 -- Services that keep their commands in a list: what their calls leave.
-use Rattle.std.proofs.Common.{◌≡◌, ℕ, ◌+◌, ◌*◌, List, [], ◌∷◌, ◌++◌, length, ap, sym, ◌∙◌, arith, IsTrue, Some, None, Result, Ok, Err, OnOk, OnErr, IfOk, inr, ◌<◌, ◌≤◌, IfErr}
+use Rattle.std.proofs.Common.{◌≡◌, ℕ, ◌+◌, ◌*◌, List, [], ◌∷◌, ◌++◌, length, ap, append_assoc, drop, refl, sym, ◌∙◌, subst, arith, IsTrue, Some, None, Result, Ok, Err, OnOk, OnErr, IfOk, inr, take, ◌<◌, ◌≤◌, IfErr}
 use Rattle.std.proofs.lemmas.List.{length-append}
 use Rattle.em_model.specs.declared.command.Command.{Command}
 use Rattle.em_record.specs.declared.record.Record.{Record}
@@ -14,7 +14,9 @@ use Rattle.em_plain.specs.CommandList.{AnsweredBy, BeginsList, IsCommandList, No
 use Rattle.em_plain.specs.Room.{StaysWithin, plain_room}
 use Rattle.em_model.specs.StabAnswers.{stab_pairs}
 use Rattle.em_plain.specs.declared.command_list.CommandList.{CommandList}
-use Rattle.em_services.specs.ScanService.{HoldsCommands, list_counts}
+use Rattle.em_plain.specs.ScanMap.{IsScanMap, answered_of, due_of}
+use Rattle.em_plain.specs.declared.scan_map.ScanMap.{ScanMap}
+use Rattle.em_services.specs.ScanService.{HoldsCommands, HoldsParts, list_counts}
 use Rattle.em_services.specs.Service.{GivesFrames, LeavesAnswers, MakesService, TakesCommand, FullOverRoom, WithinRoom}
 use Rattle.em_space.specs.declared.fault.EmFault.TheVariants.{DeviceFault, Full, Damaged}
 use Rattle.em_chain.specs.Counts.{ceiling}
@@ -22,11 +24,12 @@ use Rattle.em_chain.proofs.Counts.{writer_blocks_are}
 use Rattle.em_record.specs.Shape.{payload_of}
 use Rattle.em_chain.proofs.Sessions.{ceiling_rises}
 use Rattle.em_tree_walk.proofs.Losses.{writer_length}
-use Rattle.em_model.specs.MapAnswers.{answer_records}
+use Rattle.em_model.specs.MapAnswers.{answers_after}
+use Rattle.std.proofs.Math.Seq.{drop-append_seam, take-append_seam}
 use Rattle.em_services.proofs.AnswerOrder.{records_few}
 
 -- the blocks of a list are those that its commands fill
-list_held : (s : RigState) (l : CommandList) → Sound s → IsCommandList s l
+pub list_held : (s : RigState) (l : CommandList) → Sound s → IsCommandList s l
     → held l ≡ ceiling (list_len l) (payload_of s.pool.shape)
 list_held s l sound i =
     writer_blocks_are s l.writer sound.shape.block_low i.writer
@@ -41,6 +44,7 @@ list_made s t l lends still b = record {
   frames_are = lends.frames;
   within = record { off = λ z j u o. rw b.blocks tt };
   n = b.len;
+  syncs = refl;
   pays = record { is = inr (omega (arith, still.same.used, still.moves)) };
   used = λ z. let none = ap length b.blocks in omega (arith, none, still.same.used);
   spent = tt;
@@ -49,26 +53,30 @@ list_made s t l lends still b = record {
 pub none_held : (t : RigState) (l : CommandList) → BeginsList t l → HoldsCommands t l []
 none_held t l b = record { n = b.len; commands = λ told. b.commands }
 
+pub parts_none : (t : RigState) (m : ScanMap) → BeginsList t m.list → answered_of m ≡ 0 → HoldsParts t m [] []
+parts_none t m b none = record { all = none_held t m.list b; answered = none }
+
 pub room_still : (s t : RigState) → Unmoved s t → WithinRoom (Some plain_room) 0 [] s t
 room_still s t still = λ z. record { is = omega (arith, still.same.most) }
 
 -- It took a command.
 pub list_takes : {T : Type 0} (s t : RigState) (l m : CommandList) (c : Command)
     (result : Result T EmFault) → IsCommandList s l → Noted s t l m c result
-    → OnOk result (TakesCommand None (Some plain_room) (list_blocks s l) (list_blocks t m)
+    → OnOk result (TakesCommand None (Some plain_room) 0 (list_blocks s l) (list_blocks t m)
     (list_counts l) (list_counts m) s t)
 list_takes s t l m c (Ok x) i h =
     let n = h.notes in
     record {
       within = n.within;
       n = n.len;
+      syncs = tt;
       pays = n.pays;
       used = λ z.
           let used = n.used in
           let before = writer_length i.writer z in
           let after = writer_length n.is.writer (h.goes.touches.told ∙ z) in
           omega (arith, used, before, after);
-      spent = tt;
+      spent = λ z. tt;
     }
 list_takes s t l m c (Err fault) i h = tt
 
@@ -84,6 +92,29 @@ list_has s t l m c (Ok x) h =
           n.commands z ∙ ap (λ (x : List Command). x ++ c ∷ []) (k.commands z);
     }
 list_has s t l m c (Err fault) h = tt
+
+-- commands that are all but one
+one_more : (before cs : List Command) (c : Command) → (before ++ cs) ++ c ∷ [] ≡ before ++ (cs ++ c ∷ [])
+one_more before cs c = append_assoc before cs (c ∷ [])
+
+pub list_has_more : {T : Type 0} (s t : RigState) (l m : CommandList) (c : Command)
+    (result : Result T EmFault) → Noted s t l m c result
+    → OnOk result ((before cs : List Command) → HoldsCommands s l (before ++ cs)
+    → HoldsCommands t m (before ++ (cs ++ c ∷ [])))
+list_has_more s t l m c (Ok x) h = λ before cs k.
+    subst (λ (xs : List Command). HoldsCommands t m xs) (one_more before cs c)
+    (list_has s t l m c (Ok x) h (before ++ cs) k)
+list_has_more s t l m c (Err fault) h = tt
+
+-- The same of a map, whose syncs answered none more.
+pub parts_more : {T : Type 0} (s t : RigState) (m n : ScanMap) (c : Command) (result : Result T EmFault)
+    → Noted s t m.list n.list c result → answered_of n ≡ answered_of m
+    → OnOk result ((before cs : List Command) → HoldsParts s m before cs → HoldsParts t n before (cs ++ c ∷ []))
+parts_more s t m n c (Ok x) h e = λ before cs k. record {
+  all = list_has_more s t m.list n.list c (Ok x) h before cs k.all;
+  answered = e ∙ k.answered;
+}
+parts_more s t m n c (Err fault) h e = tt
 
 pub list_is : {T : Type 0} (s t : RigState) (l m : CommandList) (c : Command)
     (result : Result T EmFault) → Noted s t l m c result → OnOk result (IsCommandList t m)
@@ -137,14 +168,13 @@ pub list_owes : (n : ℕ) (s t : RigState) (result : Result Chain EmFault)
 list_owes n s t (Ok c) p = tt
 list_owes n s t (Err fault) p = pays_more p (omega arith)
 
--- The records are those of the commands that it holds.
-pub list_items : (answers : List Command → List Record) (s t : RigState) (l : CommandList)
-    (result : Result Chain EmFault)
-    → IfOk result (AnsweredBy s t l (answers (list_commands s l)))
-    → IfOk result (λ c. IsTrue s.device.told → (cs : List Command) → HoldsCommands s l cs
-    → chain_items t c ≡ answers cs)
-list_items answers s t l (Ok c) a = λ told cs h. a.items_are told ∙ ap answers (h.commands told)
-list_items answers s t l (Err fault) a = tt
+-- The pairs are those of the commands that it holds.
+pub stab_items : (s t : RigState) (l : CommandList) (result : Result Chain EmFault)
+    → IfOk result (AnsweredBy s t l (stab_pairs (list_commands s l)))
+    → IfOk result (λ c. IsTrue s.device.told → (before cs : List Command) → HoldsCommands s l (before ++ cs)
+    → chain_items t c ≡ stab_pairs (before ++ cs))
+stab_items s t l (Ok c) a = λ told before cs h. a.items_are told ∙ ap stab_pairs (h.commands told)
+stab_items s t l (Err fault) a = tt
 
 -- A list that is answered takes no more than its commands and its records fill twice over.
 module _ (s t : RigState) (l : CommandList) (sound : Sound s) (i : IsCommandList s l) (records size : ℕ)
@@ -171,12 +201,28 @@ module _ (s t : RigState) (l : CommandList) (sound : Sound s) (i : IsCommandList
       omega (arith, over, cause.0, same, own, fit)
   answered_full (Err (Damaged block)) full cause same = λ z. tt
 
-pub map_room : (s t : RigState) (l : CommandList) → IsCommandList s l → (cs : List Command)
-    → HoldsCommands s l cs → StaysWithin (held l) (plain_room s.pool.shape (list_len l)) s t
-    → WithinRoom (Some plain_room) (length cs) (list_blocks s l) s t
-map_room s t l i cs h w = λ z.
-    let own = writer_length i.writer z in
-    rw (← h.n) (record { is = let most = w.is in omega (arith, own, most) })
+pub map_room : (s t : RigState) (m : ScanMap) → IsScanMap s m → (before cs : List Command)
+    → HoldsParts s m before cs → StaysWithin (held m.list) (plain_room s.pool.shape (list_len m.list)) s t
+    → WithinRoom (Some plain_room) (length (before ++ cs)) (list_blocks s m.list) s t
+map_room s t m i before cs h w = λ z.
+    let own = writer_length i.list.writer z in
+    rw (← h.all.n) (record { is = let most = w.is in omega (arith, own, most) })
+
+-- what a map has still to answer is what its parts say
+pub due_parts : (s : RigState) (m : ScanMap) (before cs : List Command) → HoldsParts s m before cs
+    → IsTrue s.device.told → due_of s m ≡ answers_after before cs
+due_parts s m before cs h told =
+    ap (λ (n : ℕ). answers_after (take n (list_commands s m.list)) (drop n (list_commands s m.list))) h.answered
+    ∙ ap (λ (xs : List Command). answers_after (take (length before) xs) (drop (length before) xs)) (h.all.commands told)
+    ∙ ap (λ (xs : List Command). answers_after xs (drop (length before) (before ++ cs))) (take-append_seam before cs)
+    ∙ ap (λ (xs : List Command). answers_after before xs) (drop-append_seam before cs)
+
+pub map_items : (s t : RigState) (m : ScanMap) (result : Result Chain EmFault)
+    → IfOk result (AnsweredBy s t m.list (due_of s m))
+    → IfOk result (λ c. IsTrue s.device.told → (before cs : List Command) → HoldsParts s m before cs
+    → chain_items t c ≡ answers_after before cs)
+map_items s t m (Ok c) a = λ told before cs h. a.items_are told ∙ due_parts s m before cs h told
+map_items s t m (Err fault) a = tt
 
 pub stab_room : (s t : RigState) (l : CommandList) → IsCommandList s l → (cs : List Command)
     → HoldsCommands s l cs
@@ -188,15 +234,19 @@ stab_room s t l i cs h w = λ z.
     let most = (rw (h.n, h.commands z) at (w z)).is in
     record { is = omega (arith, own, most) }
 
-pub map_full : (s t : RigState) (l : CommandList) → Sound s → IsCommandList s l → (cs : List Command)
-    → HoldsCommands s l cs → (result : Result Chain EmFault)
+pub map_full : (s t : RigState) (m : ScanMap) → Sound s → IsScanMap s m → (before cs : List Command)
+    → HoldsParts s m before cs → (result : Result Chain EmFault)
     → (IsTrue s.device.told → IfErr result (λ fault. OnFull fault (s.blocks < s.used
-    + ceiling (length (answer_records (list_commands s l))) (payload_of s.pool.shape))))
+    + ceiling (length (due_of s m)) (payload_of s.pool.shape))))
     → IfErr result (Cause s t) → t.blocks ≡ s.blocks
-    → IfErr result (FullOverRoom (Some plain_room) (length cs) (list_blocks s l) s)
-map_full s t l sound i cs h result full cause same =
-    answered_full s t l sound i (length (answer_records cs)) (length cs) (omega (arith, h.n)) (records_few cs)
-    result (λ z. rw (h.commands z) at (full z)) cause same
+    → IfErr result (FullOverRoom (Some plain_room) (length (before ++ cs)) (list_blocks s m.list) s)
+map_full s t m sound i before cs h result full cause same =
+    let R : List Record → Type 0 = λ rs. IfErr result (λ fault. OnFull fault (s.blocks < s.used
+    + ceiling (length rs) (payload_of s.pool.shape))) in
+    answered_full s t m.list sound i.list (length (answers_after before cs)) (length (before ++ cs))
+    (omega (arith, h.all.n))
+    (let few = records_few before cs in let both = length-append before cs in omega (arith, few, both)) result
+    (λ z. subst R (due_parts s m before cs h z) (full z)) cause same
 
 pub stab_full : (s t : RigState) (l : CommandList) → Sound s → IsCommandList s l → (cs : List Command)
     → HoldsCommands s l cs → (result : Result Chain EmFault)

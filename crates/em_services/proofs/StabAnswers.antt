@@ -130,10 +130,10 @@ module _ {Q : Type 0} (q : QueueGhosts Q) (x : Q) (v : Stab) (s m : RigState) (s
     finish_leaves (Err fault) h = tt
 
     pub finish_items : (result : Result Chain EmFault) → FinishesTo q x m t v result
-        → IfOk result (λ c. IsTrue s.device.told → (cs : List Command) → HasCommands s v cs
-        → chain_items t c ≡ stab_pairs cs)
-    finish_items (Ok c) f =
-        λ z cs h. f.answers (makes.session.touches.told ∙ z) cs (list_beside.commands cs h)
+        → IfOk result (λ c. IsTrue s.device.told → (before cs : List Command) → HasCommands s v (before ++ cs)
+        → chain_items t c ≡ stab_pairs (before ++ cs))
+    finish_items (Ok c) f = λ z before cs h.
+        f.answers (makes.session.touches.told ∙ z) (before ++ cs) (list_beside.commands (before ++ cs) h)
     finish_items (Err fault) h = tt
 
     pub finish_owes : (result : Result Chain EmFault) → FinishesTo q x m t v result
@@ -154,7 +154,7 @@ module _ {Q : Type 0} (q : QueueGhosts Q) (x : Q) (v : Stab) (s m : RigState) (s
         → (IsTrue m.device.told → (cs : List Command) → HasCommands m v cs
         → StabCosts q x m t v cs)
         → (cs : List Command) → HasCommands s v cs
-        → WithinAllowance (Some stab_share) (length cs + length (stab_pairs cs))
+        → WithinAllowance (Some stab_share) (length cs + length (stab_pairs cs)) 0
         (stab_counts v).spent s t
     finish_moves allowance costs cs h = λ z.
         let c = costs (makes.session.touches.told ∙ z) cs (list_beside.commands cs h) in
@@ -324,7 +324,7 @@ module _ (v : Stab) (s m : RigState) (fault : EmFault) (sound : Sound s) (i : Is
         (left_cause s m t.pool fault fails.cause)
 
     pub unmade_moves : (cs : List Command) → HasCommands s v cs
-        → WithinAllowance (Some stab_share) (length cs + length (stab_pairs cs))
+        → WithinAllowance (Some stab_share) (length cs + length (stab_pairs cs)) 0
         (stab_counts v).spent s t
     unmade_moves cs h = λ z.
         let n = length cs + length (stab_pairs cs) in

@@ -1,5 +1,5 @@
 -- An interval list as a service: what its calls leave.
-use Rattle.std.proofs.Common.{◌≡◌, ◌+◌, List, [], ◌∷◌, ◌++◌, ap, refl, arith, inr, Some, Result, Ok, Err, IsOk, OnOk, OnErr, IfOk, IfErr, ◌<◌, length, ◌∙◌, IsTrue}
+use Rattle.std.proofs.Common.{◌≡◌, ◌+◌, List, [], ◌∷◌, ◌++◌, ap, refl, arith, inr, Some, Result, Ok, Err, IsOk, OnOk, OnErr, IfOk, IfErr, ◌<◌, append_assoc, length, subst, ◌∙◌, IsTrue}
 use Rattle.std.proofs.lemmas.List.{length-append}
 use Rattle.em_model.specs.declared.command.Command.{Command}
 use Rattle.em_space.specs.Queue.{Pays}
@@ -49,6 +49,7 @@ made s t (Ok v) n = record {
   frames_are = n.frames;
   within = record { off = λ z j u o. rw (new_blocks s t v n) tt };
   n = n.none.len;
+  syncs = refl;
   pays = record {
     is = let used = n.unmoved.same.used in
         let moves = n.unmoved.moves in inr (omega (arith, used, moves));
@@ -72,7 +73,7 @@ made_none s t (Err fault) n = tt
 
 -- with no move,
 pub made_moves : (s t : RigState) (result : Result Stab EmFault) → IsOk result
-    → IfOk result (IsNewStab s t) → WithinAllowance (Some stab_share) 0 0 s t
+    → IfOk result (IsNewStab s t) → WithinAllowance (Some stab_share) 0 0 (λ shape. 0) s t
 made_moves s t (Ok v) ok n = λ z. let moves = n.unmoved.moves in omega (arith, moves)
 made_moves s t (Err fault) ok n = cc
 
@@ -93,7 +94,7 @@ made_by P (Err fault) ok = cc
 
 -- A command was given to it, with at most the moves of its share,
 pub take_moves : (s t : RigState) (v : Stab) → TakeCosts s t v
-    → WithinAllowance (Some stab_share) ((stab_counts v).n + 1) (stab_counts v).spent s t
+    → WithinAllowance (Some stab_share) ((stab_counts v).n + 1) (stab_counts v).syncs (stab_counts v).spent s t
 take_moves s t v costs = λ z. let share = costs.share in omega (arith, share)
 
 -- and at most the blocks of its room,
@@ -134,12 +135,14 @@ module _ (T : Type 0) (c : Command) (s t : RigState) (v w : Stab) where
   take_is (Err fault) h = tt
 
   pub take_has : (result : Result T EmFault) → TakesTo c s t v w result
-      → OnOk result ((cs : List Command) → HasCommands s v cs → HasCommands t w (cs ++ c ∷ []))
-  take_has (Ok x) h = h.commands
+      → OnOk result ((before cs : List Command) → HasCommands s v (before ++ cs)
+      → HasCommands t w (before ++ (cs ++ c ∷ [])))
+  take_has (Ok x) h = λ before cs k.
+      subst (λ (xs : List Command). HasCommands t w xs) (append_assoc before cs (c ∷ [])) (h.commands (before ++ cs) k)
   take_has (Err fault) h = tt
 
   pub takes : (result : Result T EmFault) → TakesTo c s t v w result → IsStab s v
-      → OnOk result (TakesCommand (Some stab_share) (Some room) (stab_blocks s v) (stab_blocks t w)
+      → OnOk result (TakesCommand (Some stab_share) (Some room) 0 (stab_blocks s v) (stab_blocks t w)
       (stab_counts v) (stab_counts w) s t)
   takes (Ok x) h i = record {
     within = h.runs.session.within;
@@ -147,13 +150,14 @@ module _ (T : Type 0) (c : Command) (s t : RigState) (v w : Stab) where
         let more = (h.commands i.given i.has).len in
         let before = i.has.len in
         let one = length-append i.given (c ∷ []) in omega (arith, more, before, one);
+    syncs = refl;
     pays = h.runs.spends.pays;
     used = λ z.
         let used = h.runs.spends.used in
         let before = list_length s v i z in
         let after = list_length t w h.is (h.runs.session.touches.told ∙ z) in
         omega (arith, used, before, after);
-    spent = let moves = h.runs.spends.moves in omega (arith, moves);
+    spent = λ z. let moves = h.runs.spends.moves in omega (arith, moves);
   }
   takes (Err fault) h i = tt
 

@@ -11,7 +11,7 @@ use Rattle.em_space.specs.declared.fault.EmFault.{EmFault}
 use Rattle.em_chain.specs.Chain.{IsChain, IsPacked, chain_blocks, chain_items}
 use Rattle.em_chain.specs.declared.chain.Chain.{Chain}
 use Rattle.em_tree_cost.specs.Shares.{batch_share, chain_share, queue_share, tree_room}
-use Rattle.em_map.specs.Batch.{HasCommands, IsBatch, batch_unstored, trunk_of}
+use Rattle.em_map.specs.Batch.{HasCommands, IsBatch, batch_spent, batch_unstored}
 use Rattle.em_map.specs.declared.batch.Batch.{Batch}
 use Rattle.em_services.specs.Service.{ServiceCounts}
 use Rattle.em_plain.specs.Room.{StaysWithin}
@@ -20,23 +20,28 @@ use Rattle.em_sorting.specs.Pushes.{CanServeBeside}
 use Rattle.em_sorting.specs.Sorts.{sorting_moves}
 use Rattle.em_services.specs.InOrder.{lists_room}
 
--- the moves of a batch whose answers are put in order: its own, those of a queue of two calls for each
--- answer, and those of the lists that go in and out
-abbrev pub map_share : ShapeNumbers → ℕ → ℕ
-map_share shape n =
-    batch_share shape n + queue_share shape (2 * n) (2 * n) + chain_share shape n
+-- the moves of the answers that a batch gives at once, at most n: those of a queue of two calls for each, of the lists
+-- that go in and out of it, and of reading and releasing the second one
+abbrev pub answers_share : ShapeNumbers → ℕ → ℕ
+answers_share shape n = queue_share shape (2 * n) (2 * n) + 2 * chain_share shape n
 
--- A batch with the commands that were given to it.
+-- the moves of a batch whose answers are put in order, for each sync and for the end
+abbrev pub map_share : ShapeNumbers → ℕ → ℕ
+map_share shape n = batch_share shape n + answers_share shape n
+
+-- A batch with the commands that were given to it: up to and with the last sync, and since.
 pub record IsGivenBatch (s : RigState) (b : Batch) : Type 0 where
   pub is : IsBatch s b
-  pub commands : List Command
-  pub has : HasCommands s b commands
+  pub before : List Command
+  pub since : List Command
+  pub has : HasCommands s b before since
 
 -- its numbers as a service
 abbrev pub batch_counts : Batch → ServiceCounts
 batch_counts b = record {
   n = b.calls;
-  spent = (trunk_of b).spent;
+  syncs = b.syncs;
+  spent = λ shape. batch_spent b + b.syncs * answers_share shape b.calls;
   unstored = batch_unstored b;
 }
 
@@ -75,7 +80,7 @@ pub record AnswersInOrder (s t : RigState) (c d : Chain) : Type 0 where
 -- A call gave up. Blocks stay in use.
 pub record StopsAnswering (s t : RigState) (c : Chain) (fault : EmFault) : Type 0 where
   pub goes : Goes (chain_blocks s c) s t
-  pub pays : Pays 0 (2 * s.pool.shape.frames) s t
+  pub pays : Pays 0 (s.pool.shape.frames + 1) s t
   pub room : IsTrue s.device.told → StaysWithin c.blocks (ordering_room s c) s t
   pub full : IsTrue s.device.told
       → IfFull fault (λ used. used + c.blocks < s.used + ordering_room s c)

@@ -1,14 +1,16 @@
 -- What every service promises: docs/CONTRACTS.md, "Services".
-use Rattle.std.specs.Prelude.{ℕ, ◌+◌, ◌*◌, List, false, IsTrue, Option, Some, None, ◌≡◌, ◌-◌, ◌≤◌, IfSome, [], length, ◌<◌}
+use Rattle.std.specs.Prelude.{ℕ, ◌+◌, ◌*◌, ◌++◌, List, false, IsTrue, Option, Some, None, ◌≡◌, ◌≤◌, IfSome, [], length, ◌<◌}
 use Rattle.em_record.specs.Shape.{ShapeNumbers, fan_of, IsShape}
 use Rattle.em_lines.specs.declared.text.FileKind.{FileKind}
 use Rattle.em_lines.specs.declared.text.FileKind.TheVariants.{Map, Queue, Stab}
 use Rattle.em_frames.specs.Pool.{PoolCounts, GivenFrames, LentFrames, singles_of}
 use Rattle.em_space.specs.Rig.{RigState, Sound, Touches, IfFull}
 use Rattle.em_record.specs.declared.record.Record.{Record}
-use Rattle.em_model.specs.MapAnswers.{answer_records}
+use Rattle.em_model.specs.MapAnswers.{answers_after}
+use Rattle.em_model.specs.Sync.{syncs_of}
 use Rattle.em_model.specs.declared.command.Command.{Command}
 use Rattle.em_space.specs.Held.{Within}
+use Rattle.em_space.specs.Ledger.{Session}
 use Rattle.em_space.specs.Queue.{Pays}
 use Rattle.em_chain.specs.Chain.{IsChain, IsPacked, chain_blocks}
 use Rattle.em_chain.specs.declared.chain.Chain.{Chain}
@@ -18,18 +20,28 @@ use Rattle.em_space.specs.declared.fault.EmFault.{EmFault}
 
 -- The numbers of a service.
 pub record ServiceCounts : Type 0 where
-  -- the commands that it took
+  -- the commands that it took, syncs included
   pub n : ℕ
-  -- at least as many moves as were made in its calls; any number if it states no allowance
-  pub spent : ℕ
+  -- how many of them were syncs; 0 if it states no allowance
+  pub syncs : ℕ
+  -- at least as many moves as were made in its calls, and as it takes to read and to release the lists that it gave at
+  -- syncs, by the shape; any number if it states no allowance
+  pub spent : ShapeNumbers → ℕ
   -- the blocks that it holds and that weren't stored since they came into use
   pub unstored : ℕ
 
--- the records of the answers to some commands of a file of this kind
-abbrev pub records_for : FileKind → List Command → List Record
-records_for Map commands = answer_records commands
-records_for Queue commands = []
-records_for Stab commands = stab_pairs commands
+-- the records of the answers to some commands of a file of this kind that come after others: of a map those to the later
+-- ones, since a sync gave the others; of an interval list those to all
+abbrev pub records_for : FileKind → List Command → List Command → List Record
+records_for Map before commands = answers_after before commands
+records_for Queue before commands = []
+records_for Stab before commands = stab_pairs (before ++ commands)
+
+-- how many syncs there are among some commands of a file of this kind: only a map's file has any
+abbrev pub syncs_for : FileKind → List Command → ℕ
+syncs_for Map commands = syncs_of commands
+syncs_for Queue commands = 0
+syncs_for Stab commands = 0
 
 -- the size of some commands of a file of this kind: their number, and for stabs that of the pairs that
 -- their answers report
@@ -42,9 +54,9 @@ size_of Stab commands = length commands + length (stab_pairs commands)
 abbrev pub RisesBySize : (ShapeNumbers → ℕ → ℕ) → Type 0
 RisesBySize f = (s : ShapeNumbers) (m n : ℕ) → IsShape s → m ≤ n → f s m ≤ f s n
 
--- The frames that the answers may need are free: 2f + 6 single ones, two areas and the rack.
+-- The frames that the answers may need are free: 2f + 8 single ones, two areas and the rack.
 pub record CanAnswer (p : PoolCounts) : Type 0 where
-  pub singles : 2 * fan_of p.shape + 6 ≤ p.free
+  pub singles : 2 * fan_of p.shape + 8 ≤ p.free
   pub areas : 2 ≤ p.free_areas
   pub rack : p.rack_out ≡ false
 
@@ -53,11 +65,12 @@ pub record FramesOut (frames : ℕ) (p : PoolCounts) : Type 0 where
   pub is : p.free + frames ≤ singles_of p.shape
 
 -- All moves of a service, of which at most this many were made before the call, are within what it is
--- allowed for a size, if it states an allowance.
-abbrev pub WithinAllowance : Option (ShapeNumbers → ℕ → ℕ) → ℕ → ℕ → RigState → RigState → Type 0
-WithinAllowance None size spent old new = Unit {0}
-WithinAllowance (Some f) size spent old new =
-    IsTrue old.device.told → spent + new.moves ≤ old.moves + f old.pool.shape size
+-- allowed for a size, as often as there were syncs and once more, if it states an allowance.
+abbrev pub WithinAllowance : Option (ShapeNumbers → ℕ → ℕ) → (size syncs : ℕ) → (ShapeNumbers → ℕ)
+    → RigState → RigState → Type 0
+WithinAllowance None size syncs spent old new = Unit {0}
+WithinAllowance (Some f) size syncs spent old new = IsTrue old.device.told
+    → spent old.pool.shape + new.moves ≤ old.moves + (syncs + 1) * f old.pool.shape size
 
 -- In no moment of a call did a service, which held these blocks before, hold more than its room for a
 -- size, if it states one and the device tells.
@@ -80,20 +93,45 @@ pub record MakesService (allowance room : Option (ShapeNumbers → ℕ → ℕ))
   pub frames_are : LentFrames frames old.pool new.pool
   pub within : Within old [] held
   pub n : c.n ≡ 0
+  pub syncs : c.syncs ≡ 0
   pub pays : Pays 0 c.unstored old new
   pub used : IsTrue old.device.told → IfSome room (λ f. new.used ≡ old.used + length held)
-  pub spent : IfSome allowance (λ f. new.moves ≤ old.moves + c.spent)
+  pub spent : IfSome allowance (λ f. new.moves ≤ old.moves + c.spent old.pool.shape)
 
--- A service with the first numbers took a command, and has the second. Its blocks were its own or
--- weren't in use.
-pub record TakesCommand (allowance room : Option (ShapeNumbers → ℕ → ℕ)) (held now : List ℕ)
+-- A service with the first numbers took a command, which is this many syncs, and has the second. Its blocks were its
+-- own or weren't in use.
+pub record TakesCommand (allowance room : Option (ShapeNumbers → ℕ → ℕ)) (one : ℕ) (held now : List ℕ)
     (c d : ServiceCounts) (old new : RigState) : Type 0 where
   pub within : Within old held now
   pub n : d.n ≡ c.n + 1
+  pub syncs : IfSome allowance (λ f. d.syncs ≡ c.syncs + one)
   pub pays : Pays c.unstored d.unstored old new
   pub used : IsTrue old.device.told
       → IfSome room (λ f. new.used + length held ≡ old.used + length now)
-  pub spent : IfSome allowance (λ f. new.moves + c.spent ≤ old.moves + d.spent)
+  -- (a sync's list is printed and released in blocks of which only a device that tells says how many there are)
+  pub spent : (0 < one → IsTrue old.device.told) → IfSome allowance
+      (λ f. new.moves + c.spent old.pool.shape ≤ old.moves + d.spent old.pool.shape)
+
+-- the most moves of reading a list once and releasing it
+abbrev pub list_moves : Chain → ℕ
+list_moves c = 3 * c.blocks
+
+-- A sync came: the answers that were due are a chain beside the service's blocks, and all of these were its own or weren't
+-- in use. What reading and releasing the chain takes is in its moves, and these are within what it is allowed.
+pub record GivesAtSync (allowance room : Option (ShapeNumbers → ℕ → ℕ)) (held now : List ℕ)
+    (c d : ServiceCounts) (old new : RigState) (answers : Chain) : Type 0 where
+  pub is : IsChain new answers
+  pub packed : IsTrue old.device.told → IsPacked new answers
+  pub session : Session held old new (chain_blocks new answers ++ now)
+  pub n : d.n ≡ c.n + 1
+  pub syncs : IfSome allowance (λ f. d.syncs ≡ c.syncs + 1)
+  pub pays : Pays c.unstored d.unstored old new
+  pub used : IsTrue old.device.told
+      → IfSome room (λ f. new.used + length held ≡ old.used + (answers.blocks + length now))
+  pub spent : IsTrue old.device.told → IfSome allowance (λ f. new.moves + list_moves answers
+      + c.spent old.pool.shape ≤ old.moves + d.spent old.pool.shape)
+  pub share : IsTrue old.device.told → IfSome allowance
+      (λ f. d.spent old.pool.shape ≤ (d.syncs + 1) * f old.pool.shape d.n)
 
 -- A service gave its frames back. Only these blocks may have changed.
 pub record GivesFrames (frames : ℕ) (held : List ℕ) (old new : RigState) : Type 0 where

@@ -1,5 +1,5 @@
 -- The laws of a service that keeps its commands in an interval list.
-use Rattle.std.specs.Prelude.{◌≡◌, ℕ, ◌≤◌, List, length, IsTrue}
+use Rattle.std.specs.Prelude.{◌≡◌, ℕ, ◌≤◌, ◌++◌, List, length, IsTrue}
 use Rattle.std.proofs.Common.{arith}
 use Rattle.em_model.specs.declared.command.Command.{Command}
 use Rattle.em_space.specs.Held.{Apart, Holds}
@@ -9,7 +9,7 @@ use Rattle.em_segment_model.proofs.Room.{stab_share_rises}
 use Rattle.em_segment.specs.Stabs.{HasCommands, IsStab, StabHasFrames, stab_account, stab_blocks, stab_len}
 use Rattle.em_segment.specs.declared.stab.Stab.{Stab}
 use Rattle.em_segment.proofs.StabLaws.{stab_beside, stab_frames_stay}
-use Rattle.em_services.specs.Service.{FramesOut, RisesBySize}
+use Rattle.em_services.specs.Service.{FramesOut, RisesBySize, syncs_for}
 use Rattle.em_lines.specs.declared.text.FileKind.TheVariants as kind
 use Rattle.em_record.specs.Cost.{room}
 use Rattle.em_ready.proofs.RoomLaws.{room_rises}
@@ -20,9 +20,13 @@ no_queue e = cc
 pub two_frames : 2 ≤ 4
 two_frames = omega arith
 
-pub n_is : (v : Stab) (s : RigState) (cs : List Command) → HasCommands s v cs
-    → stab_len v ≡ length cs
-n_is v s cs h = h.len
+pub n_is : (v : Stab) (s : RigState) (before cs : List Command) → HasCommands s v (before ++ cs)
+    → stab_len v ≡ length (before ++ cs)
+n_is v s before cs h = h.len
+
+pub syncs_few : (v : Stab) (s : RigState) (before cs : List Command) → HasCommands s v (before ++ cs)
+    → 0 ≤ syncs_for kind.Stab (before ++ cs)
+syncs_few v s before cs h = omega arith
 
 pub frames_of : (v : Stab) (s : RigState) → IsStab s v → StabHasFrames s v
 frames_of v s h = h.frames
@@ -38,9 +42,9 @@ frames_stay v held s t f h o = stab_frames_stay held h o.is f
 pub stays : (v : Stab) (held : List ℕ) (s t : RigState) → IsStab s v → Touches held s t
     → (IsTrue s.device.told → Apart (stab_blocks s v) held) → FramesOut 2 t.pool
     → IsStab t v × (IsTrue s.device.told → stab_blocks t v ≡ stab_blocks s v)
-    × ((cs : List Command) → HasCommands s v cs → HasCommands t v cs)
+    × ((before cs : List Command) → HasCommands s v (before ++ cs) → HasCommands t v (before ++ cs))
 stays v held s t i h a o =
-    let st = stab_beside held i h a o.is in (st.is, st.blocks, st.commands)
+    let st = stab_beside held i h a o.is in (st.is, st.blocks, λ before cs k. st.commands (before ++ cs) k)
 
 pub out : (v : Stab) (s : RigState) → StabHasFrames s v → FramesOut 2 s.pool
 out v s f = record { is = f.out }

@@ -7,6 +7,7 @@ use Rattle.em_services.specs.Service.{ServiceCounts}
 abbrev pub stab_counts : Stab → ServiceCounts
 stab_counts v = record {
   n = stab_len v;
-  spent = (stab_account v).paid;
+  syncs = 0;
+  spent = λ shape. (stab_account v).paid;
   unstored = (stab_account v).unstored;
 }

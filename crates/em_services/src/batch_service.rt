@@ -1,9 +1,9 @@
-//! The batch of em_map as a service. It gives its answers in any order, so that a queue puts them in
-//! order:
+//! The batch of em_map as a service. It gives its answers in any order, at a sync and at the end, so that a
+//! queue puts them in order, which is made and ended there:
 //!
-//!     batch --finish--> [3: 7] [1: none] [2: 5] --queue--> [1: none] [2: 5] [3: 7]
+//!     batch --sync, finish--> [3: 7] [1: none] [2: 5] --queue--> [1: none] [2: 5] [3: 7]
 
-ghost use Rattle.std.specs.Prelude.{◌<◌, ◌^◌, Some, ◌+◌, IfErr, IsTrue};
+ghost use Rattle.std.specs.Prelude.{◌≡◌, ◌<◌, ◌^◌, Some, ◌+◌, IfErr, IsTrue};
 ghost use Rattle.em_space.specs.Queue.{CanServe};
 ghost use Rattle.em_space.specs.Rig.{Sound};
 ghost use Rattle.em_space.specs.Seen.{seen};
@@ -11,6 +11,7 @@ ghost use Rattle.em_map.specs.Batch.{CountsCommand, IsBatch, TakesTo, trunk_of};
 ghost use Rattle.em_services.specs.BatchLaws as laws;
 ghost use Rattle.em_services.specs.BatchService.{AreAnswers, IsGivenBatch, OrdersAnswers, batch_counts, map_share};
 ghost use Rattle.em_lines.specs.Kind.{IsOfKind};
+ghost use Rattle.em_model.specs.declared.command.Command.TheVariants as variants;
 ghost use Rattle.em_lines.specs.declared.text.FileKind.TheVariants as kind;
 ghost use Rattle.em_record.specs.Cost.{room as stated_room};
 ghost use Rattle.em_trunk.specs.Room.{FullOverRoom, WithinRoom};
@@ -28,7 +29,7 @@ use em_space::{EmFault, Rig};
 /// A batch has at most this many commands, and so at most as many answers.
 const ANSWERS_MOST: u64 = 1 << 40;
 
-/// Gives a batch a command of its file.
+/// Gives a batch a command of its file that is no sync.
 fn give_batch<D: Device>(
     batch: &mut Batch,
     rig: &mut Rig<'_, D>,
@@ -39,6 +40,7 @@ fn give_batch<D: Device>(
     requires free { CanServe (seen D.state rig.old).pool }
     requires few { batch.old.calls < 2 ^ 40 }
     requires kind { IsOfKind kind.Map command }
+    requires other { command ≡ variants.Sync → ⊥ }
     ensures takes { TakesTo command (seen D.state rig.old) (seen D.state rig.new)
         batch.old batch.new result }
     ensures counts { CountsCommand (seen D.state rig.old) (seen D.state rig.new)
@@ -77,7 +79,7 @@ impl Service for Batch {
 
     ghost KIND = { kind.Map };
 
-    ghost Has = { λ b s cs. HasCommands s b cs };
+    ghost Has = { λ b s before cs. HasCommands s b before cs };
 
     ghost blocks = { λ b s. batch_blocks s b };
 
@@ -99,7 +101,9 @@ impl Service for Batch {
 
     ghost frames_of = { laws.frames_of };
 
-    ghost n_is = { λ b s cs h. h.calls };
+    ghost n_is = { laws.n_is };
+
+    ghost syncs_few = { laws.syncs_few };
 
     ghost holds = { laws.holds };
 
@@ -127,7 +131,14 @@ impl Service for Batch {
         give_batch(self, rig, command)
     }
 
-    #[tactic(auto, using(crate::proofs::BatchAnswers::answers_owes, crate::proofs::BatchAnswers::answers_cause, crate::proofs::BatchAnswers::unfinished_gives, crate::proofs::BatchAnswers::unfinished_owes, crate::proofs::BatchAnswers::unfinished_cause, crate::proofs::BatchAnswers::unfinished_moves))]
+    fn sync<D: Device>(&mut self, rig: &mut Rig<'_, D>) -> Result<Chain, EmFault> {
+        match Batch::sync(self, rig) {
+            Ok(handed) => order_answers(rig, handed),
+            Err(fault) => Err(fault),
+        }
+    }
+
+    #[tactic(auto, using(crate::proofs::BatchAnswers::answers_owes, crate::proofs::BatchAnswers::answers_cause, crate::proofs::BatchAnswers::unfinished_gives, crate::proofs::BatchAnswers::unfinished_owes, crate::proofs::BatchAnswers::unfinished_cause))]
     fn answers<D: Device>(self, rig: &mut Rig<'_, D>) -> Result<Chain, EmFault> {
         match self.finish(rig) {
             Ok(answers) => order_answers(rig, answers),

@@ -1,4 +1,4 @@
-//! What answers a map or stab file after all of it was read: the trait `Service`, and the structures that
+//! What answers a map or stab file, at each sync and at the end: the trait `Service`, and the structures that
 //! are one.
 #![tactic(auto)]
 

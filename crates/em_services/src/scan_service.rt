@@ -1,14 +1,16 @@
 //! The map and the interval list of em_plain as services. They keep their commands in a list, which is
 //! read again for each answer: so their moves have no bound that the trait could state.
 
-ghost use Rattle.std.specs.Prelude.{◌<◌, ◌≤◌, ◌^◌, None, Some};
+ghost use Rattle.std.specs.Prelude.{◌≡◌, ◌++◌, ◌<◌, ◌≤◌, ◌^◌, None, OnOk, Some};
 ghost use Rattle.em_space.specs.Rig.{Sound};
 ghost use Rattle.em_space.specs.Seen.{seen};
 ghost use Rattle.em_plain.specs.CommandList.{IsCommandList, Noted, list_blocks, list_len};
 ghost use Rattle.em_plain.specs.Room.{plain_room};
 ghost use Rattle.em_lines.specs.Kind.{IsOfKind};
+ghost use Rattle.em_model.specs.declared.command.Command.TheVariants as variants;
+ghost use Rattle.em_plain.specs.ScanMap.{IsScanMap, answered_of};
 ghost use Rattle.em_services.specs.ScanLaws as laws;
-ghost use Rattle.em_services.specs.ScanService.{HoldsCommands, list_counts};
+ghost use Rattle.em_services.specs.ScanService.{HoldsCommands, HoldsParts, list_counts};
 ghost use Rattle.em_lines.specs.declared.text.FileKind.TheVariants as kind;
 
 use crate::service::Service;
@@ -19,19 +21,22 @@ use em_model::Command;
 use em_plain::{ScanMap, ScanStab};
 use em_space::{EmFault, Rig};
 
-/// Gives a map a command of its file.
+/// Gives a map a command of its file that is no sync.
 fn give_map<D: Device>(
     map: &mut ScanMap,
     rig: &mut Rig<'_, D>,
     command: Command,
 ) -> Result<(), EmFault>
     requires sound { Sound (seen D.state rig.old) }
-    requires is { IsCommandList (seen D.state rig.old) map.old.list }
+    requires is { IsScanMap (seen D.state rig.old) map.old }
     requires free { 6 ≤ (seen D.state rig.old).pool.free }
     requires few { list_len map.old.list < 2 ^ 40 }
     requires kind { IsOfKind kind.Map command }
+    requires other { command ≡ variants.Sync → ⊥ }
     ensures noted { Noted (seen D.state rig.old) (seen D.state rig.new)
         map.old.list map.new.list command result }
+    ensures is { OnOk result (IsScanMap (seen D.state rig.new) map.new) }
+    ensures answered { answered_of map.new ≡ answered_of map.old }
 {
     match command {
         Command::Put { key, value } => map.put(rig, key, value),
@@ -63,11 +68,11 @@ fn give_stab<D: Device>(
 }
 
 impl Service for ScanMap {
-    ghost use Rattle.em_plain.specs.ScanMap.{IsScanMap, MapHasFrame};
+    ghost use Rattle.em_plain.specs.ScanMap.{MapHasFrame};
 
     ghost KIND = { kind.Map };
 
-    ghost Has = { λ m s cs. HoldsCommands s m.list cs };
+    ghost Has = { λ m s before cs. HoldsParts s m before cs };
 
     ghost blocks = { λ m s. list_blocks s m.list };
 
@@ -87,19 +92,21 @@ impl Service for ScanMap {
 
     ghost few_frames = { laws.one_frame };
 
-    ghost frames_of = { λ m s h. h.writer.frame };
+    ghost frames_of = { λ m s h. h.list.writer.frame };
 
-    ghost n_is = { λ m s cs h. laws.n_is m.list s cs h };
+    ghost n_is = { laws.map_n_is };
 
-    ghost holds = { λ m s h told. laws.holds m.list s h told };
+    ghost syncs_few = { laws.map_syncs_few };
 
-    ghost stays = { λ m held s t. laws.stays m.list held s t };
+    ghost holds = { λ m s h told. laws.holds m.list s h.list told };
+
+    ghost stays = { laws.map_stays };
 
     ghost frames_stay = { λ m held s t. laws.frames_stay m.list held s t };
 
     ghost out = { λ m s h. laws.out m.list s h };
 
-    ghost unstored_most = { λ m s h. laws.unstored_most m.list s h };
+    ghost unstored_most = { λ m s h. laws.unstored_most m.list s h.list };
 
     ghost rising = { tt };
 
@@ -107,17 +114,22 @@ impl Service for ScanMap {
 
     const KIND: FileKind = FileKind::Map;
 
-    #[tactic(auto, using(crate::proofs::Scanning::list_made, crate::proofs::Scanning::none_held, crate::proofs::Scanning::room_still))]
+    #[tactic(auto, using(crate::proofs::Scanning::list_made, crate::proofs::Scanning::parts_none, crate::proofs::Scanning::room_still))]
     fn new<D: Device>(rig: &mut Rig<'_, D>) -> Result<ScanMap, EmFault> {
         ScanMap::new(rig)
     }
 
-    #[tactic(auto, using(crate::proofs::Scanning::list_takes, crate::proofs::Scanning::list_has, crate::proofs::Scanning::list_is, crate::proofs::Scanning::take_room, crate::proofs::Scanning::take_full))]
+    #[tactic(auto, using(crate::proofs::Scanning::list_takes, crate::proofs::Scanning::parts_more, crate::proofs::Scanning::take_room, crate::proofs::Scanning::take_full))]
     fn take<D: Device>(&mut self, rig: &mut Rig<'_, D>, command: Command) -> Result<(), EmFault> {
         give_map(self, rig, command)
     }
 
-    #[tactic(auto, using(crate::proofs::Scanning::list_gives, crate::proofs::Scanning::list_leaves, crate::proofs::Scanning::list_owes, crate::proofs::Scanning::list_items, crate::proofs::Scanning::map_room))]
+    #[tactic(auto, using(crate::proofs::ScanSyncs::sync_is, crate::proofs::ScanSyncs::sync_has, crate::proofs::ScanSyncs::sync_items, crate::proofs::ScanSyncs::sync_room, crate::proofs::ScanSyncs::sync_full, crate::proofs::Scanning::list_owes))]
+    fn sync<D: Device>(&mut self, rig: &mut Rig<'_, D>) -> Result<Chain, EmFault> {
+        ScanMap::sync(self, rig)
+    }
+
+    #[tactic(auto, using(crate::proofs::Scanning::list_gives, crate::proofs::Scanning::list_leaves, crate::proofs::Scanning::list_owes, crate::proofs::Scanning::map_room))]
     fn answers<D: Device>(self, rig: &mut Rig<'_, D>) -> Result<Chain, EmFault> {
         self.finish(rig)
     }
@@ -133,7 +145,7 @@ impl Service for ScanStab {
 
     ghost KIND = { kind.Stab };
 
-    ghost Has = { λ v s cs. HoldsCommands s v.list cs };
+    ghost Has = { λ v s before cs. HoldsCommands s v.list (before ++ cs) };
 
     ghost blocks = { λ v s. list_blocks s v.list };
 
@@ -155,11 +167,13 @@ impl Service for ScanStab {
 
     ghost frames_of = { λ v s h. h.writer.frame };
 
-    ghost n_is = { λ v s cs h. laws.n_is v.list s cs h };
+    ghost n_is = { λ v s before cs h. laws.n_is v.list s (before ++ cs) h };
+
+    ghost syncs_few = { λ v s before cs h. laws.no_syncs };
 
     ghost holds = { λ v s h told. laws.holds v.list s h told };
 
-    ghost stays = { λ v held s t. laws.stays v.list held s t };
+    ghost stays = { λ v held s t. laws.stab_stays v.list held s t };
 
     ghost frames_stay = { λ v held s t. laws.frames_stay v.list held s t };
 
@@ -178,12 +192,17 @@ impl Service for ScanStab {
         ScanStab::new(rig)
     }
 
-    #[tactic(auto, using(crate::proofs::Scanning::list_takes, crate::proofs::Scanning::list_has, crate::proofs::Scanning::list_is, crate::proofs::Scanning::take_room, crate::proofs::Scanning::take_full))]
+    #[tactic(auto, using(crate::proofs::Scanning::list_takes, crate::proofs::Scanning::list_has_more, crate::proofs::Scanning::list_is, crate::proofs::Scanning::take_room, crate::proofs::Scanning::take_full))]
     fn take<D: Device>(&mut self, rig: &mut Rig<'_, D>, command: Command) -> Result<(), EmFault> {
         give_stab(self, rig, command)
     }
 
-    #[tactic(auto, using(crate::proofs::Scanning::list_gives, crate::proofs::Scanning::list_leaves, crate::proofs::Scanning::list_owes, crate::proofs::Scanning::list_items, crate::proofs::Scanning::stab_room))]
+    /// A stab file has no sync.
+    fn sync<D: Device>(&mut self, _rig: &mut Rig<'_, D>) -> Result<Chain, EmFault> {
+        Ok(Chain::empty())
+    }
+
+    #[tactic(auto, using(crate::proofs::Scanning::list_gives, crate::proofs::Scanning::list_leaves, crate::proofs::Scanning::list_owes, crate::proofs::Scanning::stab_items, crate::proofs::Scanning::stab_room))]
     fn answers<D: Device>(self, rig: &mut Rig<'_, D>) -> Result<Chain, EmFault> {
         self.finish(rig)
     }

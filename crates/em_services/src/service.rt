@@ -1,22 +1,24 @@
-//! What answers a command file after all of it was read. A service takes the commands one after
-//! another, and is then given up for the records of all answers:
+//! What answers a map or stab file. A service takes the commands one after another. A sync has it give the
+//! records of the answers that weren't given, and go on; at the end it is given up for those of the others:
 //!
-//!     new → take → take → .. → answers → a chain
-//!                 ↘ (a fault) → abandon
+//!     new → take → take → sync → take → .. → answers → a chain
+//!                           ↘ a chain
+//!                 ↘ (a fault of any of these) → abandon
 //!
 //! Kept here: which commands it took. Left to its implementation: how it keeps them.
 
-ghost use Rattle.std.specs.Prelude.{◌≡◌, ◌+◌, ◌*◌, ◌++◌, ◌∷◌, ◌<◌, ◌≤◌, ◌^◌, ℕ, [], List, Option, length, IfErr, IfOk, IfSome, IsTrue, OnErr, OnOk};
+ghost use Rattle.std.specs.Prelude.{◌≡◌, ◌+◌, ◌*◌, ◌++◌, ◌∷◌, ◌<◌, ◌≤◌, ◌^◌, ℕ, [], List, Option, length, IfErr, IfOk, IfSome, IsTrue, Ok, OnErr, OnOk};
 ghost use Rattle.em_model.specs.declared.command.Command as commands;
+ghost use Rattle.em_model.specs.declared.command.Command.TheVariants as variants;
 ghost use Rattle.em_record.specs.Shape.{ShapeNumbers};
 ghost use Rattle.em_space.specs.Held.{Apart, Holds};
 ghost use Rattle.em_space.specs.Queue.{CanServe, Pays};
 ghost use Rattle.em_space.specs.Rig.{Cause, Goes, RigState, Sound, Touches};
 ghost use Rattle.em_space.specs.Seen.{seen};
-ghost use Rattle.em_chain.specs.Chain.{chain_items};
+ghost use Rattle.em_chain.specs.Chain.{chain_items, empty_chain};
 ghost use Rattle.em_chain.specs.Effects.{Unmoved};
 ghost use Rattle.em_lines.specs.Kind.{IsOfKind};
-ghost use Rattle.em_services.specs.Service.{CanAnswer, FramesOut, GivesFrames, LeavesAnswers, MakesService, RisesBySize, ServiceCounts, TakesCommand, WithinAllowance, WithinRoom, records_for, size_of, FullOverRoom};
+ghost use Rattle.em_services.specs.Service.{CanAnswer, FramesOut, GivesFrames, GivesAtSync, LeavesAnswers, MakesService, RisesBySize, ServiceCounts, TakesCommand, WithinAllowance, WithinRoom, records_for, size_of, syncs_for, FullOverRoom};
 ghost use Rattle.em_lines.specs.declared.text.FileKind as kinds;
 ghost use Rattle.em_lines.specs.declared.text.FileKind.TheVariants as kind;
 
@@ -26,15 +28,17 @@ use em_lines::FileKind;
 use em_model::Command;
 use em_space::{EmFault, Rig};
 
-/// A map or an interval list that answers all its commands at once, over blocks of a rig's device.
+/// A map or an interval list that answers its commands together, at each sync and at the end, over blocks of a
+/// rig's device. An interval list has no sync.
 ///
-/// A service can't be dropped: `answers` and `abandon` give its frames back. After a fault of `take`
+/// A service can't be dropped: `answers` and `abandon` give its frames back. After a fault of `take` or `sync`
 /// only `abandon` may be called.
 pub trait Service {
     /// The kind of file that it answers.
     ghost KIND: { kinds.FileKind };
-    /// It took these commands. What it makes of them is said if the device tells.
-    ghost Has: { Self → RigState → List commands.Command → Type 0 };
+    /// It took these commands: the first ones up to and with the last sync, and those since. What it makes of them
+    /// is said if the device tells.
+    ghost Has: { Self → RigState → List commands.Command → List commands.Command → Type 0 };
     /// The blocks that it holds.
     ghost blocks: { Self → RigState → List ℕ };
     /// What ties it to its blocks.
@@ -45,7 +49,8 @@ pub trait Service {
     ghost counts: { Self → ServiceCounts };
     /// It holds this many single frames.
     ghost frames: { ℕ };
-    /// At most this many moves for commands of a size, by the shape; where there is such a number.
+    /// At most this many moves for commands of a size, by the shape, as often as there were syncs and once more;
+    /// where there is such a number.
     ghost allowance: { Option (ShapeNumbers → ℕ → ℕ) };
     /// At most this many blocks at once for commands of a size, by the shape; where there is such a
     /// number and the device tells.
@@ -61,31 +66,32 @@ pub trait Service {
             (blocks v (seen D.state rig.new)) (counts v)
             (seen D.state rig.old) (seen D.state rig.new)) }
         ensures is { IfOk result (λ v. IsService v (seen D.state rig.new)) }
-        ensures has { IfOk result (λ v. Has v (seen D.state rig.new) []) }
+        ensures has { IfOk result (λ v. Has v (seen D.state rig.new) [] []) }
         ensures goes { OnErr result (Goes [] (seen D.state rig.old) (seen D.state rig.new)) }
         ensures room { WithinRoom room 0 [] (seen D.state rig.old) (seen D.state rig.new) }
         ensures full { IfErr result (FullOverRoom room 0 [] (seen D.state rig.old)) }
-        ensures moves { WithinAllowance allowance 0 0
+        ensures moves { WithinAllowance allowance 0 0 (λ shape. 0)
             (seen D.state rig.old) (seen D.state rig.new) }
         ensures owes { OnErr result (Pays 0 (seen D.state rig.old).pool.shape.frames
             (seen D.state rig.old) (seen D.state rig.new)) }
         ensures cause { IfErr result (Cause (seen D.state rig.old) (seen D.state rig.new)) };
 
-    /// Gives it a command of its kind.
+    /// Gives it a command of its kind that is no sync.
     fn take<D: Device>(&mut self, rig: &mut Rig<'_, D>, command: Command) -> Result<(), EmFault>
         requires sound { Sound (seen D.state rig.old) }
         requires is { IsService self.old (seen D.state rig.old) }
         requires free { CanServe (seen D.state rig.old).pool }
         requires few { (counts self.old).n < 2 ^ 40 }
         requires kind { IsOfKind KIND command }
+        requires other { command ≡ variants.Sync → ⊥ }
         ensures goes { Goes (blocks self.old (seen D.state rig.old))
             (seen D.state rig.old) (seen D.state rig.new) }
         ensures frames { HasItsFrames self.new (seen D.state rig.new) }
         ensures is { OnOk result (IsService self.new (seen D.state rig.new)) }
-        ensures has { OnOk result ((cs : List commands.Command)
-            → Has self.old (seen D.state rig.old) cs
-            → Has self.new (seen D.state rig.new) (cs ++ command ∷ [])) }
-        ensures takes { OnOk result (TakesCommand allowance room
+        ensures has { OnOk result ((before cs : List commands.Command)
+            → Has self.old (seen D.state rig.old) before cs
+            → Has self.new (seen D.state rig.new) before (cs ++ command ∷ [])) }
+        ensures takes { OnOk result (TakesCommand allowance room 0
             (blocks self.old (seen D.state rig.old)) (blocks self.new (seen D.state rig.new))
             (counts self.old) (counts self.new) (seen D.state rig.old) (seen D.state rig.new)) }
         ensures room { WithinRoom room ((counts self.old).n + 1)
@@ -93,15 +99,54 @@ pub trait Service {
             (seen D.state rig.old) (seen D.state rig.new) }
         ensures full { IfErr result (FullOverRoom room ((counts self.old).n + 1)
             (blocks self.old (seen D.state rig.old)) (seen D.state rig.old)) }
-        ensures moves { WithinAllowance allowance ((counts self.old).n + 1) (counts self.old).spent
-            (seen D.state rig.old) (seen D.state rig.new) }
+        ensures moves { WithinAllowance allowance ((counts self.old).n + 1) (counts self.old).syncs
+            (counts self.old).spent (seen D.state rig.old) (seen D.state rig.new) }
         ensures owes { OnErr result (Pays (counts self.old).unstored
             (seen D.state rig.old).pool.shape.frames
             (seen D.state rig.old) (seen D.state rig.new)) }
         ensures cause { IfErr result (Cause (seen D.state rig.old) (seen D.state rig.new)) };
 
-    /// The records of the answers to all its commands, in order. Its blocks are released. More frames
-    /// must be free than for other calls, so that it may make a queue.
+    /// A sync, if the files of its kind have any: it counts as a command. The records of the answers to the commands
+    /// since the last one, in order: their list stands beside the service's blocks, and the service goes on. For other
+    /// kinds nothing is done, and the list is empty. More frames must be free than for a command, so that it may make
+    /// a queue.
+    fn sync<D: Device>(&mut self, rig: &mut Rig<'_, D>) -> Result<Chain, EmFault>
+        requires sound { Sound (seen D.state rig.old) }
+        requires is { IsService self.old (seen D.state rig.old) }
+        requires free { CanAnswer (seen D.state rig.old).pool }
+        requires few { (counts self.old).n < 2 ^ 40 }
+        ensures goes { Goes (blocks self.old (seen D.state rig.old))
+            (seen D.state rig.old) (seen D.state rig.new) }
+        ensures frames { HasItsFrames self.new (seen D.state rig.new) }
+        ensures is { OnOk result (IsService self.new (seen D.state rig.new)) }
+        ensures has { IsOfKind KIND variants.Sync
+            → OnOk result ((before cs : List commands.Command)
+            → Has self.old (seen D.state rig.old) before cs
+            → Has self.new (seen D.state rig.new) (before ++ cs ++ variants.Sync ∷ []) []) }
+        ensures gives { IsOfKind KIND variants.Sync → IfOk result (GivesAtSync allowance room
+            (blocks self.old (seen D.state rig.old)) (blocks self.new (seen D.state rig.new))
+            (counts self.old) (counts self.new) (seen D.state rig.old) (seen D.state rig.new)) }
+        ensures items { IsOfKind KIND variants.Sync → IfOk result (λ c.
+            IsTrue (seen D.state rig.old).device.told
+            → (before cs : List commands.Command) → Has self.old (seen D.state rig.old) before cs
+            → chain_items (seen D.state rig.new) c ≡ records_for KIND before cs) }
+        ensures room { WithinRoom room ((counts self.old).n + 1)
+            (blocks self.old (seen D.state rig.old))
+            (seen D.state rig.old) (seen D.state rig.new) }
+        ensures full { IfErr result (FullOverRoom room ((counts self.old).n + 1)
+            (blocks self.old (seen D.state rig.old)) (seen D.state rig.old)) }
+        ensures moves { IsOfKind KIND variants.Sync → WithinAllowance allowance
+            ((counts self.old).n + 1) ((counts self.old).syncs + 1) (counts self.old).spent
+            (seen D.state rig.old) (seen D.state rig.new) }
+        ensures owes { OnErr result (Pays (counts self.old).unstored
+            (2 * (seen D.state rig.old).pool.shape.frames)
+            (seen D.state rig.old) (seen D.state rig.new)) }
+        ensures idle { (IsOfKind KIND variants.Sync → ⊥) → (result ≡ Ok empty_chain)
+            × (self.new ≡ self.old) × (seen D.state rig.new ≡ seen D.state rig.old) }
+        ensures cause { IfErr result (Cause (seen D.state rig.old) (seen D.state rig.new)) };
+
+    /// The records of the answers to its commands since the last sync, in order. Its blocks are released. More
+    /// frames must be free than for a command, so that it may make a queue.
     fn answers<D: Device>(self, rig: &mut Rig<'_, D>) -> Result<Chain, EmFault>
         requires sound { Sound (seen D.state rig.old) }
         requires is { IsService self (seen D.state rig.old) }
@@ -111,17 +156,20 @@ pub trait Service {
         ensures leaves { IfOk result (LeavesAnswers room (blocks self (seen D.state rig.old))
             (counts self) (seen D.state rig.old) (seen D.state rig.new)) }
         ensures items { IfOk result (λ c. IsTrue (seen D.state rig.old).device.told
-            → (cs : List commands.Command) → Has self (seen D.state rig.old) cs
-            → chain_items (seen D.state rig.new) c ≡ records_for KIND cs) }
-        ensures room { (cs : List commands.Command) → Has self (seen D.state rig.old) cs
-            → WithinRoom room (size_of KIND cs) (blocks self (seen D.state rig.old))
+            → (before cs : List commands.Command) → Has self (seen D.state rig.old) before cs
+            → chain_items (seen D.state rig.new) c ≡ records_for KIND before cs) }
+        ensures room { (before cs : List commands.Command)
+            → Has self (seen D.state rig.old) before cs
+            → WithinRoom room (size_of KIND (before ++ cs)) (blocks self (seen D.state rig.old))
             (seen D.state rig.old) (seen D.state rig.new) }
-        ensures full { (cs : List commands.Command) → Has self (seen D.state rig.old) cs
-            → IfErr result (FullOverRoom room (size_of KIND cs)
+        ensures full { (before cs : List commands.Command)
+            → Has self (seen D.state rig.old) before cs
+            → IfErr result (FullOverRoom room (size_of KIND (before ++ cs))
             (blocks self (seen D.state rig.old)) (seen D.state rig.old)) }
-        ensures moves { (cs : List commands.Command) → Has self (seen D.state rig.old) cs
-            → WithinAllowance allowance (size_of KIND cs) (counts self).spent
-            (seen D.state rig.old) (seen D.state rig.new) }
+        ensures moves { (before cs : List commands.Command)
+            → Has self (seen D.state rig.old) before cs
+            → WithinAllowance allowance (size_of KIND (before ++ cs)) (counts self).syncs
+            (counts self).spent (seen D.state rig.old) (seen D.state rig.new) }
         ensures owes { OnErr result (Pays (counts self).unstored
             (2 * (seen D.state rig.old).pool.shape.frames)
             (seen D.state rig.old) (seen D.state rig.new)) }
@@ -143,9 +191,12 @@ pub trait Service {
     /// What ties it to its blocks has the part on frames.
     ghost frames_of: { (v : Self) (s : RigState) → IsService v s → HasItsFrames v s };
 
-    /// Its commands are counted.
-    ghost n_is: { (v : Self) (s : RigState) (cs : List commands.Command) → Has v s cs
-        → (counts v).n ≡ length cs };
+    /// Its commands are counted, and its syncs are no more than those among them.
+    ghost n_is: { (v : Self) (s : RigState) (before cs : List commands.Command) → Has v s before cs
+        → (counts v).n ≡ length (before ++ cs) };
+
+    ghost syncs_few: { (v : Self) (s : RigState) (before cs : List commands.Command)
+        → Has v s before cs → (counts v).syncs ≤ syncs_for KIND (before ++ cs) };
 
     /// Its blocks are in use, none twice.
     ghost holds: { (v : Self) (s : RigState) → IsService v s → IsTrue s.device.told
@@ -155,7 +206,7 @@ pub trait Service {
     ghost stays: { (v : Self) (held : List ℕ) (s t : RigState) → IsService v s → Touches held s t
         → (IsTrue s.device.told → Apart (blocks v s) held) → FramesOut frames t.pool
         → IsService v t × (IsTrue s.device.told → blocks v t ≡ blocks v s)
-        × ((cs : List commands.Command) → Has v s cs → Has v t cs) };
+        × ((before cs : List commands.Command) → Has v s before cs → Has v t before cs) };
 
     /// The same of what is left after a fault.
     ghost frames_stay: { (v : Self) (held : List ℕ) (s t : RigState) → HasItsFrames v s

@@ -3,7 +3,7 @@
 //!
 //!     intervals, points --finish--> (0, 3) (0, 7) (2, 3)
 
-ghost use Rattle.std.specs.Prelude.{◌<◌, ◌^◌, Some};
+ghost use Rattle.std.specs.Prelude.{◌++◌, ◌<◌, ◌^◌, Some};
 ghost use Rattle.em_space.specs.Queue.{CanServe};
 ghost use Rattle.em_space.specs.Rig.{Sound};
 ghost use Rattle.em_space.specs.Seen.{seen};
@@ -52,7 +52,7 @@ impl Service for Stab {
 
     ghost KIND = { kind.Stab };
 
-    ghost Has = { λ v s cs. HasCommands s v cs };
+    ghost Has = { λ v s before cs. HasCommands s v (before ++ cs) };
 
     ghost blocks = { λ v s. stab_blocks s v };
 
@@ -75,6 +75,8 @@ impl Service for Stab {
     ghost frames_of = { laws.frames_of };
 
     ghost n_is = { laws.n_is };
+
+    ghost syncs_few = { laws.syncs_few };
 
     ghost holds = { laws.holds };
 
@@ -100,6 +102,11 @@ impl Service for Stab {
     #[tactic(auto, using(crate::proofs::Stabbing::take_goes, crate::proofs::Stabbing::take_frames, crate::proofs::Stabbing::take_is, crate::proofs::Stabbing::take_has, crate::proofs::Stabbing::takes, crate::proofs::Stabbing::take_owes, crate::proofs::Stabbing::take_cause))]
     fn take<D: Device>(&mut self, rig: &mut Rig<'_, D>, command: Command) -> Result<(), EmFault> {
         give_list(self, rig, command)
+    }
+
+    /// A stab file has no sync.
+    fn sync<D: Device>(&mut self, _rig: &mut Rig<'_, D>) -> Result<Chain, EmFault> {
+        Ok(Chain::empty())
     }
 
     fn answers<D: Device>(self, rig: &mut Rig<'_, D>) -> Result<Chain, EmFault> {

@@ -1,19 +1,26 @@
 -- What the calls of a tree of a map leave.
-use Rattle.std.proofs.Common.{◌≡◌, ℕ, ◌+◌, ◌≤◌, ◌^◌, ◌∙◌, inl, inr, ◌∷◌, List, [], false, ap, arith}
-use Rattle.std.specs.Prelude.{Result, Ok, Err}
-use Rattle.em_record.specs.Shape.{fan_of}
+use Rattle.std.proofs.Common.{◌≡◌, ℕ, ◌+◌, ◌≤◌, ◌^◌, ◌∙◌, inl, inr, ◌∷◌, List, [], false, ap, sym, arith}
+use Rattle.std.specs.Prelude.{Result, Ok, Err, OnOk}
+use Rattle.em_record.specs.Shape.{ShapeNumbers, fan_of}
+use Rattle.em_frames.specs.Pool.{singles_of}
 use Rattle.em_record.specs.declared.record.Record.{Record}
 use Rattle.em_settle.specs.Map.{IsMapKept, IsMapOp, map_key_of, map_step_of}
-use Rattle.em_space.specs.Rig.{RigState}
+use Rattle.em_space.specs.Rig.{Goes, RigState}
 use Rattle.em_space.specs.declared.fault.EmFault.{EmFault}
+use Rattle.em_space.proofs.Steps.{same_frames_then}
+use Rattle.em_chain.specs.Chain.{chain_blocks}
 use Rattle.em_chain.specs.declared.chain.Chain.{Chain}
 use Rattle.em_tree_cost.specs.Books.{TreeCounts, count_push, count_settle}
 use Rattle.em_tree.specs.Calls.{ChangesTrunk, CountsCall, FinishesTrunk, IsNewTrunk, PushesOp, SettlesTrunk, StopsTrunk}
+use Rattle.em_tree.specs.Handing.{HandedAnswers}
 use Rattle.em_tree.specs.Taking.{CountsTake, TakesFirstTo}
 use Rattle.em_trunk.specs.declared.trunk.Trunk.{Trunk}
 use Rattle.em_trunk.specs.Lists.{LeavesTrunk}
-use Rattle.em_structure_tests.specs.Ready.{HasFrames, KeepsRig, KeepsTree, ReadyTree, tree_calls}
+use Rattle.em_trunk.specs.Trunk.{TrunkHasFrames}
+use Rattle.em_trunk.proofs.Stays.{TrunkStays, trunk_stays}
+use Rattle.em_structure_tests.specs.Ready.{HasFrames, IsMapTree, KeepsRig, KeepsTree, ReadyTree, tree_calls}
 use Rattle.em_structure_tests.proofs.Frames.{back}
+use Rattle.em_structure_tests.proofs.Kept.{never}
 
 -- A call changed a tree: it is one still.
 changed_keeps : (ops : List Record) (s t : RigState) (v w : Trunk) {T : Type 0} (x : T)
@@ -59,6 +66,49 @@ settled_keeps s t v w (Ok x) e h c =
     let z : w.resets ≡ v.resets = ap (λ (z : TreeCounts). z.z) c.counts in
     changed_keeps [] s t v w x e h.changes (omega (arith, n, y, z))
 settled_keeps s t v w (Err fault) e h c = stopped_keeps s t v w fault e h
+
+-- The answers were handed out, and read.
+pub handed_keeps : (s t u : RigState) (v w : Trunk) (c : Chain) (r : Result (Unit {0}) EmFault)
+    → s.device.told ≡ false → HandedAnswers map_key_of IsMapOp IsMapKept s t v w c
+    → Goes (chain_blocks t c) t u → KeepsTree 1 s u v w r
+handed_keeps s t u v w c r e h g = record {
+  sound = g.sound;
+  untold = g.touches.told ∙ untold;
+  frames = same_frames_then s.pool t.pool u.pool h.frames g.frames;
+  has = has;
+  is = on_ok r;
+  calls = calls_ok r;
+}
+  where
+    untold : t.device.told ≡ false
+    untold = h.session.touches.told ∙ e
+
+    has : TrunkHasFrames u w
+    has =
+        let f = h.is.running.frames in
+        let block = sym (ap (λ (p : ShapeNumbers). p.block) g.touches.shape) in
+        record {
+          buffer = f.buffer ∙ block;
+          answers = f.answers ∙ block;
+          out = let free = g.frames.free in let shape = ap singles_of g.frames.shape in
+              let out = f.out in omega (arith, free, shape, out);
+        }
+
+    stays : TrunkStays map_key_of IsMapOp IsMapKept t u w
+    stays = trunk_stays map_key_of IsMapOp IsMapKept (chain_blocks t c) t u w g.touches has h.is
+        (λ z. never untold z)
+
+    on_ok : (r : Result (Unit {0}) EmFault) → OnOk r (IsMapTree u w)
+    on_ok (Ok x) = stays.is
+    on_ok (Err fault) = tt
+
+    calls_ok : (r : Result (Unit {0}) EmFault) → OnOk r (tree_calls w ≤ tree_calls v + 1)
+    calls_ok (Ok x) =
+        let n : w.pushed ≡ v.pushed = ap (λ (z : TreeCounts). z.n) h.counts in
+        let y : w.settled ≡ v.settled = ap (λ (z : TreeCounts). z.y) h.counts in
+        let z : w.resets ≡ v.resets = ap (λ (z : TreeCounts). z.z) h.counts in
+        omega (arith, n, y, z)
+    calls_ok (Err fault) = tt
 
 -- at most one reset was counted
 taken_calls : (n : ℕ) (s t : RigState) (v w : Trunk) → CountsTake s t v w (Ok n)

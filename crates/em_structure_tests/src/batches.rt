@@ -1,4 +1,5 @@
-//! A batch that gets commands. A command is an operation of a map, of which the batch makes the number itself.
+//! A batch that gets commands. A command is an operation of a map, of which the batch makes the number itself, or a sync, which
+//! has 3 as its word c.
 ghost use Rattle.std.specs.Prelude.{◌≤◌, ◌^◌, length};
 ghost use Rattle.em_space.specs.Seen.{seen};
 ghost use Rattle.em_structure_tests.specs.Ready.{HasAll, KeepsBatch, KeepsRig, ReadyBatch};
@@ -9,15 +10,34 @@ use em_map::Batch;
 use em_record::Record;
 use em_space::{EmFault, Rig};
 
+/// A sync. Notes the blocks in use then, and reads the answers that it hands out.
+fn sync<D: Device>(
+    rig: &mut Rig<'_, D>,
+    batch: &mut Batch,
+    found: &mut Vec<Record>,
+) -> Result<(), EmFault>
+    requires { ReadyBatch 1 (seen D.state rig.old) batch.old }
+    ensures { KeepsBatch 1 (seen D.state rig.old) (seen D.state rig.new) batch.old batch.new result }
+{
+    let chain = batch.sync(rig)?;
+    read_all(rig, chain, found)
+}
+
 /// One command.
 #[tactic(auto, using(crate::proofs::BatchKeeps::given_keeps))]
-fn step<D: Device>(rig: &mut Rig<'_, D>, batch: &mut Batch, call: Record) -> Result<(), EmFault>
+fn step<D: Device>(
+    rig: &mut Rig<'_, D>,
+    batch: &mut Batch,
+    call: Record,
+    found: &mut Vec<Record>,
+) -> Result<(), EmFault>
     requires { ReadyBatch 1 (seen D.state rig.old) batch.old }
     ensures { KeepsBatch 1 (seen D.state rig.old) (seen D.state rig.new) batch.old batch.new result }
 {
     match call.c {
         0 => batch.put(rig, call.a, call.d),
         1 => batch.del(rig, call.a),
+        3 => sync(rig, batch, found),
         _ => batch.get(rig, call.a),
     }
 }
@@ -27,13 +47,14 @@ fn step_all<D: Device>(
     rig: &mut Rig<'_, D>,
     batch: &mut Batch,
     calls: &[Record],
+    found: &mut Vec<Record>,
 ) -> Result<(), EmFault>
     requires { ReadyBatch (length calls.now) (seen D.state rig.old) batch.old }
     ensures { KeepsBatch (length calls.now) (seen D.state rig.old) (seen D.state rig.new)
         batch.old batch.new result }
 {
     for call in calls {
-        step(rig, batch, *call)?;
+        step(rig, batch, *call, found)?;
     }
     Ok(())
 }
@@ -51,7 +72,7 @@ pub fn serve<D: Device>(
         return Ok(());
     }
     let mut batch = Batch::new(rig)?;
-    match step_all(rig, &mut batch, calls) {
+    match step_all(rig, &mut batch, calls, found) {
         Ok(()) => {
             let tree = batch.tree();
             note(found, (tree.height(), u64::from(tree.is_fresh())), &[], 0);

@@ -31,15 +31,21 @@ fn add_line(text: &mut MemSink, word: &[u8], numbers: &[u64]) -> Result<(), Fail
     line.end_line(text)
 }
 
-/// Adds a line of a map: of a hundred, so many are gets, 20 are deletions, and the others puts. The keys, which are
+/// Adds a line of a map: of a hundred, `dels` are deletions, so many others gets, and the rest puts. The keys, which are
 /// this many, lie wide apart.
-fn add_map_line(text: &mut MemSink, state: &mut u64, keys: u64, asks: u64) -> Result<(), Failed> {
+fn add_map_line(
+    text: &mut MemSink,
+    state: &mut u64,
+    keys: u64,
+    dels: u64,
+    asks: u64,
+) -> Result<(), Failed> {
     let what = draw(state) % 100;
     let key = (draw(state) % keys.max(1)).wrapping_mul(0x9e37_79b9_7f4a_7c15);
-    if what < 20 {
+    if what < dels {
         return add_line(text, b"del", &[key]);
     }
-    if what - 20 < asks {
+    if what - dels < asks {
         return add_line(text, b"get", &[key]);
     }
     let value = draw(state) % 1000;
@@ -80,15 +86,17 @@ fn add_stab_line(text: &mut MemSink, state: &mut u64, keys: u64, asks: u64) -> R
     add_line(text, b"iv", &[low, near])
 }
 
-/// A drawn file of a kind, of this many lines. Of a hundred, so many ask; in the second half of a queue's
-/// file the others do, so that it grows and is emptied.
+/// A drawn file of a kind, of this many lines. Of a hundred, so many ask, and the last one of a map is a sync. In the
+/// second half of a queue's file the others ask, and of a map's 90 delete, so that both grow and are emptied.
 fn drawn(alloc: Global, kind: FileKind, lines: u64, keys: u64, asks: u64) -> Result<MemSink, Fail> {
     let mut text = MemSink::new(alloc, 4096, &[])?;
     let mut state = lines;
     let half = lines / 2;
     for number in 0..lines {
         match kind {
-            FileKind::Map => add_map_line(&mut text, &mut state, keys, asks)?,
+            FileKind::Map if number % 100 == 99 => add_line(&mut text, b"sync", &[])?,
+            FileKind::Map if number < half => add_map_line(&mut text, &mut state, keys, 20, asks)?,
+            FileKind::Map => add_map_line(&mut text, &mut state, keys, 90, asks)?,
             FileKind::Stab => add_stab_line(&mut text, &mut state, keys, asks)?,
             FileKind::Queue if number < half => {
                 add_queue_line(&mut text, &mut state, keys, asks)?;
@@ -236,10 +244,11 @@ const ROWS: [&str; 28] = [
     "map 144 72|300|1000|30|1|0",
     "map 128 64|400|40|10|1|0",
     "map 144 72|400|40|10|1|0",
-    // A full buffer has 2048 operations, and a leaf at most 4096 records: here a leaf is split, and its keys are put and
-    // deleted again. Each of the 71 blocks of operations is moved four times at least, 284 in all: into the root's buffer,
-    // out of it, into a leaf's, and out of that.
-    "map 128 64|9000|20000|2|100|285",
+    // A leaf has at most 4096 records, and with fewer than 1024 it is short. Here 4,417 keys have a value at a sync, so that the
+    // leaf is split, and 1,737 at the end, in one leaf again: a program outside this crate counts them, and one split and one
+    // join of short leaves. Each of the 200 syncs stores the block of the commands since the last one and loads it, loads
+    // the root, and loads and stores the block of a leaf: 1,000 moves at least.
+    "map 128 64|20000|8000|2|100|1000",
     // Few keys and many. All items are held in memory.
     "queue 128 64|50|1|50|1|0",
     "queue 144 72|50|1|50|1|0",

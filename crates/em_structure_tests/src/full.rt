@@ -84,6 +84,7 @@ fn blocks_enough(
 /// - 7, 8: rising pushes into a queue, which leave 112 or 113 items in the tree's root, and as many pops.
 /// - 9, 10: puts of rising keys into a batch, which leave as many in the tree's root.
 /// - 11: a list of 1016 items in falling order, which a queue sorts.
+/// - 12: 4097 keys in two leaves of a tree, of which 1025 are deleted, so that a settling joins both.
 fn row(alloc: Global, number: u64) -> Result<(Structure, Vec<Record>), Fail> {
     let count = match number {
         1 => 700,
@@ -117,6 +118,12 @@ fn row(alloc: Global, number: u64) -> Result<(Structure, Vec<Record>), Fail> {
         7 | 8 => (Structure::Queue, with_last(alloc, &puts, POP, count, 1)?),
         9 | 10 => (Structure::Batch, puts),
         11 => (Structure::Sorting, pushes(alloc, 1016, true)?),
+        12 => {
+            let mut ops = Vec::new(alloc);
+            add_rising(&mut ops, 0, count, 3072, 0)?;
+            let calls = with_calls(alloc, &ops, count, SETTLE, SETTLE, 1)?;
+            (Structure::Tree, calls)
+        }
         _ => (Structure::Stab, one_over_points(alloc, 1025, 100, 900)?),
     })
 }
@@ -129,17 +136,20 @@ type Failing = (u64, u64, u64, u64);
 /// - Row 2: the operations fill 17 blocks of the root's buffer twice, and as many of the leaf's, of which each is stored
 ///   and read, and their records 34 blocks of leaves, of which each is stored and read. So there are 6 * 34 moves at least.
 ///   The last ones are of takings alone, and the first leaf is removed there.
+/// - Row 12: as many moves for the puts. The last ones settle the deletions, read both leaves and write one with all records, build
+///   a root over it, and release the tree: 25 blocks that are written, and twice as many that are read.
 /// - Row 5: both lists are stored by 2 moves. The queue puts n records of one block in order by 2n + 2: it reads their
 ///   block by 1, each pop stores and reads the queue's by 2, and the new list is stored by 1. So the five points take 12
 ///   moves, and the four pairs 10. Between them points and intervals are read by 2, and the pairs are stored by 1. At last
 ///   they are read by 1: 2 + 12 + 2 + 1 + 10 + 1.
-const FAILING: [Failing; 6] = [
+const FAILING: [Failing; 7] = [
     (0, 5, 160, 1),
     (1, 5, 160, 1),
     (2, 161, u64::MAX, 0),
     (3, 5, 160, 1),
     (4, 5, 160, 1),
     (5, 28, 28, 1),
+    (12, 161, u64::MAX, 0),
 ];
 
 /// 10 moves store the interval and 1025 points. With n items left the queue has ceil(n / 127) blocks, which are 4653 for

@@ -1,8 +1,9 @@
 //! What a batch answers, as worked out by hand or by a plain map.
 
-use crate::map_scripts::{add_rising, drawn, record};
+use crate::map_scripts::{add_rising, drawn, record, with_calls};
 use crate::plain_map::{agrees, answers_after, found_at};
 use crate::runs::{Structure, run};
+use crate::trees::SETTLE;
 use em_record::Record;
 use std::alloc::Global;
 use std::test::Fail;
@@ -115,5 +116,27 @@ fn puts_and_a_get_of_each_are_answered_within_the_share(rt: HostRuntime) -> Resu
     );
     let moves = cost.2;
     assert!(rt; moves <= 248 * 158 * 3, "moves {moves}");
+    Ok(())
+}
+
+/// 20,000 keys are put and then deleted, with a sync after each. At the first one their records are in 158 blocks at least, of 127
+/// each; at the second one a root and an empty leaf are left, of the room of no record, 96 + 2 * 64 * 3 = 480 blocks. No get
+/// came, so that both lists are empty.
+#[test]
+fn a_sync_gives_the_blocks_of_deleted_keys_back(rt: HostRuntime) -> Result<(), Fail> {
+    let mut ops = Vec::new(rt.alloc());
+    add_rising(&mut ops, 0, 20_000, 0, 0)?;
+    let calls = with_calls(rt.alloc(), &ops, 20_000, SETTLE, SETTLE, 0)?;
+    let mut found = Vec::new(rt.alloc());
+    let cost = run(rt.alloc(), Structure::Batch, (128, 64), &calls, &mut found)?;
+    let first = found_at(&found, 0);
+    assert!(rt;
+        first.a >= 160 && first.b == 0,
+        "{} blocks, {} answers",
+        first.a,
+        first.b
+    );
+    assert_eq!(rt; found_at(&found, 1), record(2, 0, 0, 0));
+    assert_eq!(rt; cost.0, 0);
     Ok(())
 }

@@ -58,6 +58,23 @@ pub fn add_rising(
     Ok(())
 }
 
+/// Some calls, with another one after each that is `call`.
+pub fn followed(
+    alloc: Global,
+    calls: &[Record],
+    call: Record,
+    next: Record,
+) -> Result<Vec<Record>, AllocError> {
+    let mut all = Vec::new(alloc);
+    for each in calls {
+        all.push(*each)?;
+        if *each == call {
+            all.push(next)?;
+        }
+    }
+    Ok(all)
+}
+
 /// Some operations, with a call after each number that `every` divides, if it isn't 0; and at the end another call,
 /// this many times.
 pub fn with_calls(

@@ -2,7 +2,7 @@
 ghost use Rattle.std.specs.Prelude.{◌<◌};
 
 use crate::map_scripts::record;
-use crate::trees::{SETTLE, TAKE};
+use crate::trees::{HAND, SETTLE, TAKE};
 use em_record::Record;
 use std::alloc::{AllocError, Global};
 use std::test::Fail;
@@ -89,10 +89,23 @@ impl Plain {
         let blocks = self.answers.len().div_ceil(payload) as u64;
         told == record(count, blocks.saturating_add(2), 0, 0)
     }
+
+    /// Takes all answers so far, of which a call found each once, in any order.
+    fn hands(&mut self, alloc: Global, found: &[Record]) -> Result<bool, Fail> {
+        let count = self.next(found).b;
+        let mut handed = Vec::new(alloc);
+        for _ in 0..count {
+            handed.push(self.next(found))?;
+        }
+        handed.sort()?;
+        let same = handed.as_slice() == self.answers.as_slice();
+        self.answers = Vec::new(alloc);
+        Ok(same)
+    }
 }
 
 /// Whether a tree or a batch answered its calls as a plain map does: the records that were taken, with an area of so
-/// many, whether it is fresh, and each answer once. A block has `payload` of them. Answers how many records were taken, or
+/// many, the answers that were handed out, whether it is fresh, and each answer once. A block has `payload` of them. Answers how many records were taken, or
 /// None if it didn't.
 pub fn agrees(
     alloc: Global,
@@ -107,6 +120,10 @@ pub fn agrees(
     for call in calls {
         if *call == TAKE {
             if !plain.takes(found, payload, area) {
+                return Ok(None);
+            }
+        } else if *call == HAND {
+            if !plain.hands(alloc, found)? {
                 return Ok(None);
             }
         } else if *call != SETTLE {

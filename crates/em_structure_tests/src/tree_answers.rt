@@ -1,9 +1,9 @@
 //! What a tree answers and holds. A block has 127 records of a list, and an area of the smallest shape has 1024 places.
 
-use crate::map_scripts::{add_rising, drawn, record, with_calls};
+use crate::map_scripts::{add_rising, drawn, followed, record, with_calls};
 use crate::plain_map::{agrees, found_at};
 use crate::runs::{Structure, run};
-use crate::trees::{SETTLE, TAKE};
+use crate::trees::{HAND, SETTLE, TAKE};
 use em_devices::Cost;
 use em_record::Record;
 use std::alloc::Global;
@@ -198,5 +198,61 @@ fn periods_leave_two_blocks(rt: HostRuntime) -> Result<(), Fail> {
         );
         assert_eq!(rt; cost.0, 0, "{count} keys");
     }
+    Ok(())
+}
+
+/// A row: puts of rising keys, dels of those above `kept`, the levels of nodes, and the blocks in use. All is settled after
+/// the puts and at the end. An area has 1024 records: a leaf with fewer is short, unless it is the only one.
+///
+/// - 4097 records are in two leaves of 2049 and 2048. With 1024 of them the second one isn't short: its list has 9 blocks,
+///   and that of the first one 17. With 1023 it is joined to the first one, since both have at most 4096: 3072 records are
+///   in 25 blocks. With none of any leaf one empty leaf stays, also of 20,000 records.
+/// - 34 * 2048 records are under a root of level 2 (`SIZES`). 600 of them are in one leaf of 5 blocks, under a root of
+///   level 1.
+const TRIMMED: [(u64, u64, u64, u64); 5] = [
+    (4097, 2049 + 1024, 1, 3 + 17 + 9),
+    (4097, 2049 + 1023, 1, 2 + 25),
+    (4097, 0, 1, 2),
+    (20_000, 0, 1, 2),
+    (34 * 2048, 600, 1, 2 + 5),
+];
+
+#[test]
+fn a_settled_tree_is_as_small_as_its_records_allow(rt: HostRuntime) -> Result<(), Fail> {
+    for (count, kept, levels, used) in TRIMMED {
+        let mut found = Vec::new(rt.alloc());
+        rising(rt.alloc(), (1, count, kept, count), (SETTLE, 1), &mut found)?;
+        assert_eq!(rt;
+            (found_at(&found, 0).a, found_at(&found, 1).a),
+            (levels, used),
+            "{kept} of {count} keys"
+        );
+    }
+    Ok(())
+}
+
+/// 4097 keys are put, and those above 3072 deleted. All is settled twice, the second time after the last of the 5122
+/// operations. Six calls take all that is left out, in order, since each takes more than half of an area of 1024.
+#[test]
+fn a_settled_tree_keeps_its_records(rt: HostRuntime) -> Result<(), Fail> {
+    let mut found = Vec::new(rt.alloc());
+    let row = (1, 4097, 3072, 5122 / 2);
+    let (calls, cost) = rising(rt.alloc(), row, (TAKE, 6), &mut found)?;
+    assert_eq!(rt; agrees(rt.alloc(), &calls, &found, 127, 1024)?, Some(3072));
+    assert_eq!(rt; cost.0, 0);
+    Ok(())
+}
+
+/// All is settled after each 7000 of 16,000 operations, and the answers are handed out then: those to the gets since the last
+/// time, each once.
+#[test]
+fn answers_are_handed_out_once(rt: HostRuntime) -> Result<(), Fail> {
+    let ops = drawn(rt.alloc(), 16_000, 20_000)?;
+    let settled = with_calls(rt.alloc(), &ops, 7000, SETTLE, SETTLE, 0)?;
+    let calls = followed(rt.alloc(), &settled, SETTLE, HAND)?;
+    let mut found = Vec::new(rt.alloc());
+    let cost = run(rt.alloc(), Structure::Tree, SMALL, &calls, &mut found)?;
+    assert_eq!(rt; agrees(rt.alloc(), &calls, &found, 127, 1024)?, Some(0));
+    assert_eq!(rt; cost.0, 0);
     Ok(())
 }

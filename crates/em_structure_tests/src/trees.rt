@@ -28,6 +28,14 @@ pub const TAKE: Record = Record {
     d: 0,
 };
 
+/// Hands out the answers so far.
+pub const HAND: Record = Record {
+    a: 0,
+    b: 0,
+    c: 5,
+    d: 0,
+};
+
 /// Whether a record is an operation of a map.
 fn is_op(op: Record) -> bool
     ensures { result ≡ true → IsMapOp op }
@@ -71,6 +79,20 @@ fn take<D: Device>(
     Ok(())
 }
 
+/// Hands out the answers so far, and reads them.
+fn hand<D: Device>(
+    rig: &mut Rig<'_, D>,
+    tree: &mut Tree<MapSettle>,
+    found: &mut Vec<Record>,
+) -> Result<(), EmFault>
+    requires { ReadyTree 1 (seen D.state rig.old) tree.old.trunk }
+    ensures { KeepsTree 1 (seen D.state rig.old) (seen D.state rig.new)
+        tree.old.trunk tree.new.trunk result }
+{
+    let chain = tree.take_answers(rig)?;
+    read_all(rig, chain, found)
+}
+
 /// One call.
 #[tactic(auto, using(crate::proofs::TreeKeeps::settled_keeps))]
 fn step<D: Device>(
@@ -91,6 +113,9 @@ fn step<D: Device>(
     }
     if call == SETTLE {
         return tree.settle_all(rig);
+    }
+    if call == HAND {
+        return hand(rig, tree, found);
     }
     push(rig, tree, call)
 }

@@ -1,5 +1,5 @@
 -- The levels from one down are settled, one after another.
-use Rattle.std.proofs.Common.{◌≡◌, ℕ, zero, suc, ◌+◌, ◌-◌, ◌*◌, ◌<◌, length, sym, ◌∙◌, subst, arith, IsTrue}
+use Rattle.std.proofs.Common.{◌≡◌, ℕ, zero, suc, ◌+◌, ◌-◌, ◌*◌, ◌<◌, length, refl, sym, ◌∙◌, subst, arith, IsTrue}
 use Rattle.std.specs.Prelude.{IsErrAnd, None, Option, Result, Ok, Err}
 use Rattle.em_record.specs.Shape.{ShapeNumbers}
 use Rattle.em_record.specs.declared.record.Record.{Record}
@@ -43,6 +43,7 @@ module _ (key : Record → Record) (step : Option Record → Record → Step) (I
               none_anywhere v.level least_record None (root_of s v) (tree_level v.level s v.root)
               (subst P lowest (h.settles told)).above;
           drained = h.drained;
+          quiet = λ told none. record { root = refl; level = refl };
         }
 
     -- A level can be settled, if it is one.
@@ -89,7 +90,7 @@ module _ (key : Record → Record) (step : Option Record → Record → Step) (I
         → SettlesAllTo key step IsOp IsKept (owing_to (at - 1) t w) t u w x r
         → SettlesAllTo key step IsOp IsKept (owing_to at s v) s u v x r
     down_to at s t u v w x (Ok y) a b = settled_then key step IsOp IsKept (owing_to at s v)
-        (owing_to (at - 1) t w) a.taken a.debt s t u v w x a.works a.owes b
+        (owing_to (at - 1) t w) a.taken a.debt s t u v w x a.works a.owes a.quiet b
     down_to at s t u v w x (Err fault) a b = stopped_then key step IsOp IsKept (owing_to at s v)
         (owing_to (at - 1) t w) a.taken a.debt s t u v w x a.works a.owes fault b
 

@@ -1,5 +1,5 @@
 -- The end of a tree: it is settled, if anything was pushed, and its blocks are released.
-use Rattle.std.proofs.Common.{◌≡◌, ℕ, ◌+◌, ◌*◌, ◌<◌, ◌≤◌, length, sym, ◌∙◌, subst, arith, inl, inr, IsTrue, IsErrAnd, IfErr, Result, Ok, Err}
+use Rattle.std.proofs.Common.{◌≡◌, ℕ, ◌+◌, ◌*◌, ◌<◌, ◌≤◌, length, refl, sym, ◌∙◌, subst, arith, inl, inr, IsTrue, IsErrAnd, IfErr, Result, Ok, Err}
 use Rattle.std.specs.Prelude.{Option}
 use Rattle.em_record.specs.Shape.{wide_of}
 use Rattle.em_record.specs.declared.record.Record.{Record}
@@ -70,6 +70,7 @@ module _ (key : Record → Record) (step : Option Record → Record → Step) (I
           owes = λ told. owing_none (owing_all s v) s v;
           none_waits = λ told. h.none told e;
           drained = h.unused e;
+          quiet = λ told none. record { root = refl; level = refl };
         }
 
     module _ {s m : RigState} {v w : Trunk} (x : SettledAll key step IsOp IsKept (owing_all s v) s m v w) where

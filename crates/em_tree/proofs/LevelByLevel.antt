@@ -34,6 +34,7 @@ use Rattle.em_tree.proofs.LevelEntries.{entry_grows, entry_leaves, entry_top}
 use Rattle.em_tree.proofs.LevelSteps.{after_search, spot_ready, step_emptied, step_end, step_on, step_stopped, still_empty, told_first}
 use Rattle.em_trunk.proofs.RootLeads.{root_leads}
 use Rattle.em_trunk.proofs.StepWorks.{search_stops}
+use Rattle.em_trunk.proofs.Waits.{spot_waits}
 use Rattle.em_trunk.specs.Steps.{StepsTo, TakesStep}
 
 down_one : (l : ℕ) → suc l - 1 ≡ l
@@ -207,6 +208,7 @@ module _ (key : Record → Record) (step : Option Record → Record → Step)
           (λ z. (found z).from_after)
           (λ z. entry_leaves key step IsOp IsKept y node at left inner t u later x found_can z l
           (empty (first z)) spot (found z) e)
+          (λ z. spot_waits (spot.spot.told z) (found z).full)
 
       -- or wasn't.
       entry_undone : (T : Type 0) (u : RigState) (x : Trunk) (fault : EmFault)

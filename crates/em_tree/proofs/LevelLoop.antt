@@ -1,5 +1,5 @@
 -- The loop over a level's buffers, from its first step to its end.
-use Rattle.std.proofs.Common.{◌≡◌, ℕ, zero, suc, ◌+◌, ◌*◌, ◌<◌, ◌≤◌, sym, ◌∙◌, subst, arith, IsTrue}
+use Rattle.std.proofs.Common.{◌≡◌, ℕ, zero, suc, ◌+◌, ◌*◌, ◌<◌, ◌≤◌, refl, sym, ◌∙◌, subst, arith, IsTrue}
 use Rattle.std.specs.Prelude.{Option, Some, None, Result, Ok, Err, IsErrAnd}
 use Rattle.std.proofs.Math.Nat.{mul-add}
 use Rattle.em_record.specs.Cost.{blocks_of}
@@ -25,6 +25,7 @@ use Rattle.em_trunk.proofs.Debts.{may_then, may_toll, owing_bought}
 use Rattle.em_tree.proofs.EmptyLevels.{empty_none}
 use Rattle.em_tree.proofs.EntryDebts.{owing_within}
 use Rattle.em_tree.proofs.LevelDebts.{keeps_then, owing_to_least}
+use Rattle.em_tree.proofs.Quiets.{quiet_after}
 use Rattle.em_tree_buffers.proofs.LoopSteps.{can_after}
 use Rattle.em_trunk.proofs.Works.{stops_after, works_then}
 
@@ -72,6 +73,7 @@ module _ (key : Record → Record) (step : Option Record → Record → Step)
             );
             level = omega arith;
             drained = ready2.drained;
+            quiet = λ told none. record { root = refl; level = refl };
             can = can;
           }
 
@@ -156,6 +158,7 @@ module _ (key : Record → Record) (step : Option Record → Record → Step)
           leaves = λ told. subst E same_shape (h.leaves (told_on told));
           level = omega (arith, a, b);
           drained = h.drained;
+          quiet = quiet_after so_far.works so_far.quiet h.quiet;
           can = can_after so_far.can (h.works 0);
         }
 
@@ -186,6 +189,7 @@ module _ (key : Record → Record) (step : Option Record → Record → Step)
           settles = λ told. subst E same_shape (h.leaves (told_on told));
           level = omega (arith, a, b);
           drained = h.drained;
+          quiet = quiet_after so_far.works so_far.quiet h.quiet;
         }
 
     -- It gave up.

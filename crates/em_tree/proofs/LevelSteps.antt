@@ -9,6 +9,7 @@ use Rattle.em_space.specs.Rig.{Goes, RigState, SameBlocks}
 use Rattle.em_space.specs.declared.fault.EmFault.{EmFault}
 use Rattle.em_settle.specs.declared.step.Step.{Step}
 use Rattle.em_tree_model.specs.Ranges.{least_record}
+use Rattle.em_tree_model.specs.Tree.{waiting_in}
 use Rattle.em_tree_model.proofs.Ranges.{below_not}
 use Rattle.em_tree_walk.specs.declared.searching.Range.{Range}
 use Rattle.em_trunk.specs.Buffers.{ClearOver, Due}
@@ -18,7 +19,7 @@ use Rattle.em_tree_buffers.specs.Findings.{FoundNext, FoundSpot, ThinBetween}
 use Rattle.em_tree.specs.Levels.{CanEmptyNext, EmptiedNext, EmptyUpTo, LeavesEmpty, StopsNext}
 use Rattle.em_tree_buffers.specs.Loops.{Grows, due_of, nodes_inside}
 use Rattle.em_trunk.specs.Starts.{is_inside, starts_of}
-use Rattle.em_trunk.specs.Trunk.{full_limit, root_of, sums_in}
+use Rattle.em_trunk.specs.Trunk.{full_limit, model_of, root_of, sums_in}
 use Rattle.em_trunk.specs.Works.{StopsWorking, Works, CanWork, deepest, unstored_most}
 use Rattle.em_trunk.specs.declared.trunk.Trunk.{Trunk}
 use Rattle.em_tree_buffers.proofs.ClearSteps.{deepest_same, stops_fit, works_fit}
@@ -125,8 +126,9 @@ module _ (key : Record → Record) (step : Option Record → Record → Step)
       → (IsTrue t.device.told → Grows t u next x)
       → (IsTrue t.device.told → is_below inner.from left.from ≡ false)
       → (IsTrue t.device.told → LeavesEmpty (full_limit t.pool.shape) (suc l) (Some inner.from) u x)
+      → (IsTrue t.device.told → waiting_in (model_of t next) ≡ [] → ⊥)
       → EmptiedNext key step IsOp IsKept (suc l) left (Some inner.from) s u v x
-  step_emptied {u = u} {x = x} inner b top grows later leaves =
+  step_emptied {u = u} {x = x} inner b top grows later leaves waits =
       let L = deepest s v in
       let K = nodes_inside due left.from s v in
       let J = nodes_inside due inner.from u x in
@@ -171,6 +173,7 @@ module _ (key : Record → Record) (step : Option Record → Record → Step)
           empty = ready.drained.empty;
           unwritten = ready.drained.unwritten;
         });
+        quiet = λ told none. absurd (waits (told_then told) ((level_searched 0).still told none));
       }
 
   -- It wasn't.
@@ -231,6 +234,7 @@ module _ (key : Record → Record) (step : Option Record → Record → Step)
             (after_search.running.stands (told_then told)) e.1 left.until low (found (told_then told))));
         level = omega arith;
         drained = record { empty = ready.drained.empty; unwritten = ready.drained.unwritten };
+        quiet = λ told none. record { root = same_root told; level = refl };
       }
 
   -- or is at its end.
@@ -254,4 +258,5 @@ module _ (key : Record → Record) (step : Option Record → Record → Step)
             (subst U ready.endless (thin (told_then told)))));
         level = omega arith;
         drained = record { empty = ready.drained.empty; unwritten = ready.drained.unwritten };
+        quiet = λ told none. record { root = same_root told; level = refl };
       }

@@ -19,12 +19,13 @@ use Rattle.em_trunk.specs.Counting.{counted_push, counted_settling, with_steps}
 use Rattle.em_tree_visits.specs.FirstVisits.{TakesAllFirst}
 use Rattle.em_tree.specs.Pushing.{Appended, PushesTo}
 use Rattle.em_trunk.specs.Room.{FullOverRoom, HasCounters, KeepsIn, MayHold, StopsIn, WithinRoom, most_held}
-use Rattle.em_tree.specs.Settling.{SettledAll, SettlesAllTo}
+use Rattle.em_tree.specs.Settling.{SettledAll}
+use Rattle.em_tree.specs.Trimmed.{SettlesTrim}
 use Rattle.em_trunk.specs.Trunk.{IsTrunk, counts_of, sums_in, trunk_blocks}
 use Rattle.em_trunk.specs.declared.trunk.Trunk.{Trunk}
 use Rattle.em_tree_visits.specs.declared.visiting.Taken.{Taken}
 use Rattle.em_tree.proofs.PushBegins.{append_books, begun_runs}
-use Rattle.em_trunk.proofs.Rooms.{answers_blocks, counters_as, keeps_by, keeps_then, peak_fits, room_here, room_most, stops_then}
+use Rattle.em_trunk.proofs.Rooms.{answers_blocks, counters_as, hold_works, keeps_by, keeps_then, peak_fits, room_here, room_most, stops_then}
 use Rattle.em_chain.specs.declared.chain.Chain.{Chain}
 use Rattle.em_tree.specs.Finishing.{FinishedBlocks, FinishesBlocks}
 use Rattle.em_trunk.specs.Lists.{GivesAnswers, LeavesTrunk}
@@ -115,17 +116,30 @@ module _ {key : Record → Record} {IsOp IsKept : Record → Type 0} {s : RigSta
   -- A settling,
   pub settling_room : (step : Option Record → Record → Step) (before : ℕ) {t : RigState} (w : Trunk)
       (r : Result (Unit {0}) EmFault)
-      → SettlesAllTo key step IsOp IsKept before s t (counted_settling s.pool.shape v) w r
+      → SettlesTrim key step IsOp IsKept before s t (counted_settling s.pool.shape v) w r
       → WithinRoom v.longest s t v × IfErr r (FullOverRoom v.longest s v)
   settling_room step before w (Ok x) h =
       let b = rest_holds in
-      let k = h.works.room told (v.answers.count + (sums_in s v).waiting)
-      (record { counters = b.counters; answers = b.answers }) in
+      let n = v.answers.count + (sums_in s v).waiting in
+      let i : MayHold n 0 s (counted_settling s.pool.shape v) =
+      record { counters = b.counters; answers = b.answers } in
+      let a = h.settled.works in
+      let k = keeps_then a.numbers.longest a.session.touches.shape (a.loses told) (a.room told n i)
+      (h.trimmed.made.room (a.session.touches.told ∙ told) n (hold_works a told i)) in
       (rest_within (record { most = k.most }), tt)
-  settling_room step before w (Err fault) h =
+  settling_room step before w (Err fault) (inl h) =
       let b = rest_holds in
       let k = h.stops.room told (v.answers.count + (sums_in s v).waiting)
       (record { counters = b.counters; answers = b.answers }) in
+      rest_over (record { most = k.most; full = k.full })
+  settling_room step before w (Err fault) (inr h) =
+      let b = rest_holds in
+      let n = v.answers.count + (sums_in s v).waiting in
+      let i : MayHold n 0 s (counted_settling s.pool.shape v) =
+      record { counters = b.counters; answers = b.answers } in
+      let a = h.settled.works in
+      let k = stops_then a.numbers.longest a.session.touches.shape (a.loses told) (a.room told n i)
+      a.session.touches.blocks (h.stops.stops.room (a.session.touches.told ∙ told) n (hold_works a told i)) in
       rest_over (record { most = k.most; full = k.full })
 
   -- and a call that takes records out.

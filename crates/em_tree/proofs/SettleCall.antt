@@ -1,183 +1,124 @@
--- What `settle_all` leaves: its numbers are counted, and the books are kept over its moves.
-use Rattle.std.proofs.Common.{◌≡◌, ℕ, ◌+◌, ◌-◌, ◌^◌, ◌<◌, ◌≤◌, [], length, refl, sym, ap, ◌∙◌, subst, arith, IsTrue, Result, Ok, Err, IfErr}
-use Rattle.std.specs.Prelude.{Option, None}
+-- What `settle_all` did, by its result: its numbers are counted, and the books are kept over its moves.
+use Rattle.std.proofs.Common.{◌≡◌, ℕ, ◌+◌, ◌-◌, ◌*◌, ◌≤◌, [], refl, sym, ap, ◌∙◌, subst, arith, inl, inr, IsTrue, Result, Ok, Err, IfErr}
+use Rattle.std.proofs.Math.Nat.{min-le_right}
+use Rattle.std.specs.Prelude.{Option}
 use Rattle.em_record.specs.Shape.{ShapeNumbers}
 use Rattle.em_record.specs.declared.record.Record.{Record}
 use Rattle.em_settle.specs.declared.step.Step.{Step}
 use Rattle.em_space.specs.Rig.{RigState, Sound}
 use Rattle.em_space.specs.declared.fault.EmFault.{EmFault}
-use Rattle.em_space.proofs.Paying.{pays_more}
-use Rattle.em_tree_model.specs.Ranges.{least_record}
-use Rattle.em_tree_cost.specs.Books.{KeepsBooks, TreeCounts, count_settle}
+use Rattle.em_space.proofs.Ledgers.{full_by}
+use Rattle.em_space.proofs.Paying.{pays_more, pays_then}
+use Rattle.em_space.proofs.Steps.{cause_after}
+use Rattle.em_space.proofs.Within.{goes_within}
+use Rattle.em_tree_cost.specs.Books.{TreeCounts, count_settle}
 use Rattle.em_tree_cost.proofs.Books.{books_share}
-use Rattle.em_trunk.specs.Buffers.{IsThin, NoneFrom}
-use Rattle.em_tree.specs.Calls.{ChangesTrunk, CountsCall, KeepsShare, SettlesTrunk, StopsTrunk}
+use Rattle.em_tree_model.specs.Tree.{Tree, waiting_in}
+use Rattle.em_tree_outline.specs.Outline.{outline_of}
+use Rattle.em_tree_trim.specs.Trim.{IsTrim}
 use Rattle.em_trunk.specs.Counting.{counted_moves, counted_settling}
 use Rattle.em_trunk.specs.Debts.{owing_all}
-use Rattle.em_trunk.specs.Spots.{EachRead}
-use Rattle.em_tree.specs.Settling.{SettledAll, SettlesAllTo, StopsSettling}
-use Rattle.em_trunk.specs.Trunk.{IsRunning, IsTrunk, counts_of, full_limit, given_by, model_of, root_of, sums_in}
-use Rattle.em_trunk.specs.Works.{SameNumbers, FullIfWaits}
-use Rattle.em_trunk.specs.declared.trunk.Trunk.{Trunk}
-use Rattle.em_trunk.proofs.Bounded.{limit_some}
-use Rattle.em_trunk.proofs.Ends.{settled_books, stopped_settling}
-use Rattle.em_trunk.proofs.Entries.{each_map}
-use Rattle.em_trunk.proofs.Meaning.{leaves_all}
-use Rattle.em_tree.proofs.Settled.{trunk_settled}
-use Rattle.em_tree.proofs.SettlingBegins.{running_counted}
-use Rattle.em_tree.proofs.SettlingTolls.{settled_toll, stopped_toll}
-use Rattle.em_tree.proofs.Unused.{silent_all}
-use Rattle.em_tree.proofs.RoomCalls.{settling_room}
 use Rattle.em_trunk.specs.Room.{FullOverRoom, WithinRoom}
+use Rattle.em_trunk.specs.Trunk.{IsTrunk, counts_of, model_of, root_of, trunk_blocks}
+use Rattle.em_trunk.specs.Works.{SameNumbers}
+use Rattle.em_trunk.specs.declared.trunk.Trunk.{Trunk}
+use Rattle.em_trunk.proofs.Ends.{stopped_settling}
+use Rattle.em_tree.specs.Calls.{CountsCall, FullIfUntrim, KeepsShare, SettlesTrunk, StopsTrunk}
+use Rattle.em_tree.specs.Settling.{StopsSettling}
+use Rattle.em_tree.specs.Trimmed.{IsTrimTrunk, SettlesTrim, StopsSettledTrim}
+use Rattle.em_tree.proofs.Counted.{counts_settled}
+use Rattle.em_tree.proofs.Joins.{stopped_books}
+use Rattle.em_tree.proofs.RoomCalls.{settling_room}
+use Rattle.em_tree.proofs.SettledTrims.{numbers_then, trim_books, trim_later, trim_numbers, trim_settled}
+use Rattle.em_tree.proofs.SettlingTolls.{stopped_toll}
+use Rattle.em_tree.proofs.TrimLooks.{root_leaf}
+use Rattle.em_tree.proofs.TrimTolls.{trimmed_toll}
 
--- a tree whose moves were counted stands as it did
-pub running_moved : {key : Record → Record} {IsOp IsKept : Record → Type 0} {t : RigState} {w : Trunk}
-    (m : ℕ) → w.spent + m ≤ t.moves → IsRunning key IsOp IsKept t w
-    → IsRunning key IsOp IsKept t (counted_moves m w)
-running_moved m most r =
-    let n = r.numbers in
-    record {
-      frames = record { buffer = r.frames.buffer; answers = r.frames.answers; out = r.frames.out };
-      numbers = record {
-        level_some = n.level_some;
-        level_most = n.level_most;
-        since_most = n.since_most;
-        longest_most = n.longest_most;
-        pushed_most = n.pushed_most;
-        settled_most = n.settled_most;
-        resets_most = n.resets_most;
-        spent_most = most;
-        root_below = n.root_below;
-      };
-      buffer = r.buffer;
-      answers = r.answers;
-      stands = λ told. (let st = r.stands told in record {
-        holds = st.holds;
-        stored = st.stored;
-        formed = st.formed;
-        is = st.is;
-        turn = st.turn;
-        lows = st.lows;
-        sized = st.sized;
-        bounded = st.bounded;
-        packed = st.packed;
-        answers_packed = st.answers_packed;
-      });
-    }
-
--- where nothing waits, no buffer is full
-pub none_thin : (limit : ℕ) → 0 < limit → (s : RigState) (v : Trunk) → EachRead (NoneFrom 0) s v
-    → EachRead (IsThin limit) s v
-none_thin limit some s v h = each_map (NoneFrom 0) (IsThin limit)
-    (λ l k top b x. (let none = ap length (x (omega arith)) in omega (arith, none, some))) v.level
-    least_record None (root_of s v) h
-
--- counts by their numbers
-abbrev counts_by : ℕ → ℕ → ℕ → ℕ → ℕ → ℕ → TreeCounts
-counts_by n k since spent z y = record {
-  n = n;
-  k = k;
-  since = since;
-  spent = spent;
-  z = z;
-  y = y;
-}
-
--- a settling was counted, and its moves
-pub counts_settled : (m settled : ℕ) (v w : Trunk) → w.pushed ≡ v.pushed → w.longest ≡ v.longest
-    → w.since ≡ v.since → w.resets ≡ v.resets → w.settled ≡ settled → settled ≡ v.settled + 1
-    → counts_of (counted_moves m w) ≡ count_settle 0 (record (counts_of v) { spent = w.spent + m })
-counts_settled m settled v w n k since z y more =
-    let none : w.spent + m ≡ w.spent + m + 0 = omega arith in
-    ap (λ x. counts_by x w.longest w.since (w.spent + m) w.resets w.settled) n
-    ∙ (ap (λ x. counts_by v.pushed x w.since (w.spent + m) w.resets w.settled) k
-    ∙ (ap (λ x. counts_by v.pushed v.longest x (w.spent + m) w.resets w.settled) since
-    ∙ (ap (λ x. counts_by v.pushed v.longest v.since x w.resets w.settled) none
-    ∙ (ap (λ x. counts_by v.pushed v.longest v.since (w.spent + m + 0) x w.settled) z
-    ∙ ap (λ x. counts_by v.pushed v.longest v.since (w.spent + m + 0) v.resets x) (y ∙ more)))))
+-- a debt with a fee of no leaf
+no_fee : (d m f toll : ℕ) → d + m + 0 * f ≤ toll → d + m ≤ toll
+no_fee d m f toll h = omega (arith, h)
 
 module _ (key : Record → Record) (step : Option Record → Record → Step)
     (IsOp IsKept : Record → Type 0) (s t : RigState) (v w : Trunk) (sound : Sound s)
     (is : IsTrunk key IsOp IsKept s v) where
-  -- the numbers that stay
-  same_numbers : {T : Type 0} (r : Result T EmFault)
-      → SettlesAllTo key step IsOp IsKept (owing_all s (counted_settling s.pool.shape v)) s t
-      (counted_settling s.pool.shape v) w r
-      → SameNumbers (counted_settling s.pool.shape v) w
-  same_numbers (Ok x) h = h.works.numbers
-  same_numbers (Err fault) h = h.stops.numbers
+  abbrev begun : Trunk
+  begun = counted_settling s.pool.shape v
 
-  -- no move was taken back
-  pub settling_later : {T : Type 0} (r : Result T EmFault)
-      → SettlesAllTo key step IsOp IsKept (owing_all s (counted_settling s.pool.shape v)) s t
-      (counted_settling s.pool.shape v) w r → s.moves ≤ t.moves
-  settling_later (Ok x) h = h.works.session.touches.moves
-  settling_later (Err fault) h = h.stops.goes.touches.moves
+  abbrev before : ℕ
+  before = owing_all s begun
 
-  -- those that were counted before are no more than were made before
-  pub settling_spent : {T : Type 0} (r : Result T EmFault)
-      → SettlesAllTo key step IsOp IsKept (owing_all s (counted_settling s.pool.shape v)) s t
-      (counted_settling s.pool.shape v) w r → w.spent ≤ s.moves
-  settling_spent r h =
-      let n = same_numbers r h in
-      omega (arith, n.spent, is.running.numbers.spent_most)
+  -- It gave up after all buffers were emptied.
+  module _ (fault : EmFault) (h : StopsSettledTrim key step IsOp IsKept before s t begun w fault) where
+    abbrev m : RigState
+    m = h.mid
 
-  -- the books of a settling that went well
-  settling_books : SettledAll key step IsOp IsKept (owing_all s (counted_settling s.pool.shape v)) s t
-      (counted_settling s.pool.shape v) w
-      → IsTrue s.device.told
-      → KeepsBooks s.pool.shape (counts_of (counted_moves (t.moves - s.moves) w)) 0 (sums_in t w)
-  settling_books h told =
-      let n = h.works.numbers in
-      let fits = settled_toll key step IsOp IsKept s t v w sound is h told in
-      settled_books (counts_of v) (counts_of (counted_moves (t.moves - s.moves) w)) 0
-      (t.moves - s.moves) 0 h.debt sound.shape (is.books told) (h.works.charges told) fits
-      n.pushed n.longest n.since n.resets n.settled (omega (arith, n.spent))
+    abbrev x : Trunk
+    x = h.emptied
 
-  settling_trunk : v.settled < 2 ^ 100 → SettledAll key step IsOp IsKept (owing_all s (counted_settling s.pool.shape v)) s t
-      (counted_settling s.pool.shape v) w
-      → IsTrunk key IsOp IsKept t (counted_moves (t.moves - s.moves) w)
-  settling_trunk settled h =
-      let m = t.moves - s.moves in
-      let first = h.works.session.touches in
-      let some = limit_some h.works.session.sound.shape in
-      let n = h.works.numbers in
-      let before = is.running.numbers.spent_most in
-      let spent : w.spent ≤ s.moves = omega (arith, n.spent, before) in
-      let back = λ (z : IsTrue t.device.told).
-      (let y : IsTrue s.device.told = sym first.told ∙ z in y) in
-      record {
-        running = running_moved m (omega (arith, spent, first.moves)) h.works.running;
-        few = omega (arith, h.drained.empty, some);
-        blocks = omega (arith, h.drained.unwritten);
-        unused = λ z. h.drained.unwritten;
-        silent = λ z e. silent_all key step IsOp IsKept is (back z) (sym n.longest ∙ e) (given_by t w)
-            (trunk_settled (running_counted settled is.running) h.works h.none_waits h.drained (back z)).answers;
-        thin = λ z. none_thin (full_limit t.pool.shape) some t w (h.none_waits (back z));
-        books = λ z.
-            let P : ShapeNumbers → Type 0 = λ g. KeepsBooks g (counts_of (counted_moves m w)) 0 (sums_in t w) in
-            subst P (sym first.shape) (settling_books h (back z));
-      }
+    late_numbers : SameNumbers begun w
+    late_numbers = numbers_then begun x w h.settled.works.numbers h.stops.stops.numbers
 
-  settling_changes : v.settled < 2 ^ 100 → SettledAll key step IsOp IsKept (owing_all s (counted_settling s.pool.shape v)) s t
-      (counted_settling s.pool.shape v) w
-      → ChangesTrunk key step IsOp IsKept [] s t v (counted_moves (t.moves - s.moves) w)
-  settling_changes settled h = record {
-    is = settling_trunk settled h;
-    session = h.works.session;
-    frames = h.works.frames;
-    pays = h.works.pays;
-    loses = h.works.loses;
-    meaning = λ told.
-        let st = is.running.stands told in
-        leaves_all key step IsOp IsKept (given_by s v) (given_by t w) (model_of s v) (model_of t w) st.is
-        st.turn (h.works.continues told);
-  }
+    late_later : s.moves ≤ t.moves
+    late_later =
+        let a = h.settled.works.session.touches.moves in
+        let b = h.stops.stops.goes.touches.moves in
+        omega (arith, a, b)
 
-  settling_stops : (fault : EmFault) → StopsSettling (owing_all s (counted_settling s.pool.shape v)) s t
-      (counted_settling s.pool.shape v) w fault
+    late_stops : StopsTrunk s t v (counted_moves (t.moves - s.moves) w) fault
+    late_stops =
+        let a = h.settled.works in
+        let b = h.stops.stops in
+        let f = b.frames in
+        let wide = sound.shape.frames_low in
+        let one = min-le_right x.buffer.blocks 1 in
+        let other = min-le_right x.answers.blocks 1 in
+        let first = a.session in
+        record {
+          goes = goes_within (trunk_blocks s v) (trunk_blocks m x) s m t
+              (record { sound = first.sound; touches = first.touches; frames = a.frames }) first.within b.goes;
+          frames = record { buffer = f.buffer; answers = f.answers; out = f.out };
+          pays = pays_more (pays_then a.pays b.pays b.goes.touches.moves) (omega (arith, wide, one, other));
+          cause = cause_after (trunk_blocks s v) s m t fault first.touches b.cause;
+        }
+
+    late_share : IsTrue s.device.told → KeepsShare s.pool.shape (counts_of (counted_moves (t.moves - s.moves) w))
+    late_share told =
+        let a = h.settled.works in
+        let b = h.stops.stops in
+        let mid : IsTrue m.device.told = a.session.touches.told ∙ told in
+        let first = a.session.touches.moves in
+        let last = b.goes.touches.moves in
+        let moves = b.moves mid in
+        let leaf = root_leaf a.running mid in
+        let n = late_numbers in
+        let toll = trimmed_toll key step IsOp IsKept s m v x sound is h.settled told (t.moves - m.moves) 0
+        (omega (arith, moves)) (omega (arith, leaf))
+        (λ trim. (let few = h.stops.quiet mid trim in (refl, omega (arith, few)))) in
+        let few = stopped_books (counts_of v) (m.moves - s.moves) 0 h.settled.debt (t.moves - m.moves) sound.shape
+        (is.books told) (a.charges told) (no_fee h.settled.debt (t.moves - m.moves) _ _ toll) in
+        let c = counts_settled (t.moves - s.moves) (v.settled + 1) v w n.pushed n.longest n.since n.resets n.settled
+        refl in
+        let P : TreeCounts → Type 0 = KeepsShare s.pool.shape in
+        let spent = n.spent in
+        subst P (sym c) (record { within = omega (arith, few, spent, first, last) })
+
+    late_needs : FullIfUntrim s v fault
+    late_needs =
+        let a = h.settled.works in
+        let P : Type 0 = IsTrue m.device.told → IsTrimTrunk m x → ⊥ in
+        let Q : Type 0 = IsTrue s.device.told → waiting_in (model_of s v) ≡ [] → IsTrimTrunk s v → ⊥ in
+        full_by fault P Q (λ (never : P) told none trim.
+        let same = h.settled.quiet told none in
+        let R : Tree → Type 0 = λ r. IsTrim s.pool.shape v.level (outline_of r) in
+        let L : ℕ → Type 0 = λ l. IsTrim s.pool.shape l (outline_of (root_of m x)) in
+        let S : ShapeNumbers → Type 0 = λ g. IsTrim g x.level (outline_of (root_of m x)) in
+        never (a.session.touches.told ∙ told) (subst S (sym a.session.touches.shape)
+        (subst L (sym same.level) (subst R (sym same.root) trim)))) h.stops.needs
+
+  -- It gave up before that.
+  early_stops : (fault : EmFault) → StopsSettling before s t begun w fault
       → StopsTrunk s t v (counted_moves (t.moves - s.moves) w) fault
-  settling_stops fault h =
+  early_stops fault h =
       let x = h.stops in
       let f = x.frames in
       let wide = sound.shape.frames_low in
@@ -188,25 +129,9 @@ module _ (key : Record → Record) (step : Option Record → Record → Step)
         cause = x.cause;
       }
 
-  -- What `settle_all` did,
-  pub settles_trunk : v.settled < 2 ^ 100 → (r : Result (Unit {0}) EmFault)
-      → SettlesAllTo key step IsOp IsKept (owing_all s (counted_settling s.pool.shape v)) s t
-      (counted_settling s.pool.shape v) w r
-      → SettlesTrunk key step IsOp IsKept s t v (counted_moves (t.moves - s.moves) w) r
-  settles_trunk few (Ok x) h = record {
-    changes = settling_changes few h;
-    settled = trunk_settled (running_counted few is.running) h.works h.none_waits h.drained;
-  }
-  settles_trunk few (Err fault) h = settling_stops fault h
-
-  -- the share of its moves,
-  settling_share : (r : Result (Unit {0}) EmFault)
-      → SettlesAllTo key step IsOp IsKept (owing_all s (counted_settling s.pool.shape v)) s t
-      (counted_settling s.pool.shape v) w r
-      → IsTrue s.device.told
+  early_share : (fault : EmFault) → StopsSettling before s t begun w fault → IsTrue s.device.told
       → KeepsShare s.pool.shape (counts_of (counted_moves (t.moves - s.moves) w))
-  settling_share (Ok x) h told = record { within = books_share sound.shape (settling_books h told) }
-  settling_share (Err fault) h told =
+  early_share fault h told =
       let m = t.moves - s.moves in
       let n = h.stops.numbers in
       let c = counts_settled m (v.settled + 1) v w n.pushed n.longest n.since n.resets n.settled
@@ -216,21 +141,60 @@ module _ (key : Record → Record) (step : Option Record → Record → Step)
       (stopped_toll key step IsOp IsKept s t v w sound is h told) in
       subst P (sym c) (record { within = omega (arith, few, n.spent) })
 
+  early_needs : (fault : EmFault) → StopsSettling before s t begun w fault → FullIfUntrim s v fault
+  early_needs fault h = full_by fault (IsTrue s.device.told → waiting_in (model_of s v) ≡ [] → ⊥)
+      (IsTrue s.device.told → waiting_in (model_of s v) ≡ [] → IsTrimTrunk s v → ⊥)
+      (λ never told none trim. never told none) h.stops.needs
+
+  -- the numbers that stay
+  settle_numbers : {T : Type 0} (r : Result T EmFault) → SettlesTrim key step IsOp IsKept before s t begun w r
+      → SameNumbers begun w
+  settle_numbers (Ok y) h = trim_numbers key step IsOp IsKept s t v w sound is h
+  settle_numbers (Err fault) (inl h) = h.stops.numbers
+  settle_numbers (Err fault) (inr h) = late_numbers fault h
+
+  -- no move was taken back
+  pub settling_later : {T : Type 0} (r : Result T EmFault) → SettlesTrim key step IsOp IsKept before s t begun w r
+      → s.moves ≤ t.moves
+  settling_later (Ok y) h = trim_later key step IsOp IsKept s t v w sound is h
+  settling_later (Err fault) (inl h) = h.stops.goes.touches.moves
+  settling_later (Err fault) (inr h) = late_later fault h
+
+  -- those that were counted before are no more than were made before
+  pub settling_spent : {T : Type 0} (r : Result T EmFault) → SettlesTrim key step IsOp IsKept before s t begun w r
+      → w.spent ≤ s.moves
+  settling_spent r h =
+      let n = settle_numbers r h in
+      omega (arith, n.spent, is.running.numbers.spent_most)
+
+  -- What `settle_all` did,
+  pub settles_trunk : (r : Result (Unit {0}) EmFault) → SettlesTrim key step IsOp IsKept before s t begun w r
+      → SettlesTrunk key step IsOp IsKept s t v (counted_moves (t.moves - s.moves) w) r
+  settles_trunk (Ok y) h = trim_settled key step IsOp IsKept s t v w sound is h
+  settles_trunk (Err fault) (inl h) = early_stops fault h
+  settles_trunk (Err fault) (inr h) = late_stops fault h
+
+  -- the share of its moves,
+  settling_share : (r : Result (Unit {0}) EmFault) → SettlesTrim key step IsOp IsKept before s t begun w r
+      → IsTrue s.device.told
+      → KeepsShare s.pool.shape (counts_of (counted_moves (t.moves - s.moves) w))
+  settling_share (Ok y) h told =
+      record { within = books_share sound.shape (trim_books key step IsOp IsKept s t v w sound is h told) }
+  settling_share (Err fault) (inl h) told = early_share fault h told
+  settling_share (Err fault) (inr h) told = late_share fault h told
+
   -- what it needed, if it was full,
-  pub settling_needs : (r : Result (Unit {0}) EmFault)
-      → SettlesAllTo key step IsOp IsKept (owing_all s (counted_settling s.pool.shape v)) s t
-      (counted_settling s.pool.shape v) w r
-      → IfErr r (FullIfWaits s v)
-  settling_needs (Ok x) h = tt
-  settling_needs (Err fault) h = h.stops.needs
+  pub settling_needs : (r : Result (Unit {0}) EmFault) → SettlesTrim key step IsOp IsKept before s t begun w r
+      → IfErr r (FullIfUntrim s v)
+  settling_needs (Ok y) h = tt
+  settling_needs (Err fault) (inl h) = early_needs fault h
+  settling_needs (Err fault) (inr h) = late_needs fault h
 
   -- and its numbers.
-  pub settling_counts : (r : Result (Unit {0}) EmFault)
-      → SettlesAllTo key step IsOp IsKept (owing_all s (counted_settling s.pool.shape v)) s t
-      (counted_settling s.pool.shape v) w r
+  pub settling_counts : (r : Result (Unit {0}) EmFault) → SettlesTrim key step IsOp IsKept before s t begun w r
       → CountsCall (count_settle 0) s t v (counted_moves (t.moves - s.moves) w)
   settling_counts r h =
-      let n = same_numbers r h in
+      let n = settle_numbers r h in
       let later = settling_later r h in
       record {
         counts = counts_settled (t.moves - s.moves) (v.settled + 1) v w n.pushed n.longest n.since
@@ -244,14 +208,14 @@ module _ (key : Record → Record) (step : Option Record → Record → Step)
     (IsOp IsKept : Record → Type 0) (s t : RigState) (v x w y : Trunk) (before m : ℕ) (shape : ShapeNumbers)
     (same : shape ≡ s.pool.shape) (begun : x ≡ counted_settling shape v) (start : before ≡ s.moves)
     (sound : Sound s) (is : IsTrunk key IsOp IsKept s v) (r : Result (Unit {0}) EmFault)
-    (h : SettlesAllTo key step IsOp IsKept (owing_all s x) s t x w r) where
+    (h : SettlesTrim key step IsOp IsKept (owing_all s x) s t x w r) where
   begun_as : x ≡ counted_settling s.pool.shape v
   begun_as = begun ∙ ap (λ g. counted_settling g v) same
 
-  from_begun : SettlesAllTo key step IsOp IsKept (owing_all s (counted_settling s.pool.shape v)) s t
+  from_begun : SettlesTrim key step IsOp IsKept (owing_all s (counted_settling s.pool.shape v)) s t
       (counted_settling s.pool.shape v) w r
   from_begun =
-      let P : Trunk → Type 0 = λ z. SettlesAllTo key step IsOp IsKept (owing_all s z) s t z w r in
+      let P : Trunk → Type 0 = λ z. SettlesTrim key step IsOp IsKept (owing_all s z) s t z w r in
       subst P begun_as h
 
   -- the moves can be counted,
@@ -270,12 +234,12 @@ module _ (key : Record → Record) (step : Option Record → Record → Step)
     ended_as : y ≡ counted_moves (t.moves - s.moves) w
     ended_as = ended ∙ ap (λ n. counted_moves n w) (made ∙ ap (λ n. t.moves - n) start)
 
-    pub call_settles : v.settled < 2 ^ 100 → SettlesTrunk key step IsOp IsKept s t v y r
-    call_settles few =
+    pub call_settles : SettlesTrunk key step IsOp IsKept s t v y r
+    call_settles =
         let P : Trunk → Type 0 = λ z. SettlesTrunk key step IsOp IsKept s t v z r in
-        subst P (sym ended_as) (settles_trunk key step IsOp IsKept s t v w sound is few r from_begun)
+        subst P (sym ended_as) (settles_trunk key step IsOp IsKept s t v w sound is r from_begun)
 
-    pub call_needs : IfErr r (FullIfWaits s v)
+    pub call_needs : IfErr r (FullIfUntrim s v)
     call_needs = settling_needs key step IsOp IsKept s t v w sound is r from_begun
 
     pub call_counts : CountsCall (count_settle 0) s t v y

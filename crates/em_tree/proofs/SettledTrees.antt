@@ -16,6 +16,7 @@ use Rattle.em_tree_model.specs.Tree.{Tree}
 use Rattle.em_trunk.specs.Debts.{KeepsOwing, leaf_owing, owing_all, owing_to}
 use Rattle.em_tree_buffers.specs.Draining.{DrainedRoot, StopsDraining, drain_debt}
 use Rattle.em_tree_buffers.specs.Emptying.{CanSettleLevel}
+use Rattle.em_tree_buffers.specs.Loops.{KeepsQuiet}
 use Rattle.em_trunk.specs.Entries.{EachEntry}
 use Rattle.em_tree.specs.Settling.{CanSettleDown, CanSettleTree, SettledAll, SettlesAllTo, StopsSettling}
 use Rattle.em_trunk.specs.Trunk.{full_limit, root_of, sums_in}
@@ -25,6 +26,7 @@ use Rattle.em_trunk.proofs.Debts.{may_then, may_toll}
 use Rattle.em_tree_buffers.proofs.DrainDebts.{drain_few, drained_owes}
 use Rattle.em_tree_buffers.proofs.DrainedTrees.{drained_above, drained_below}
 use Rattle.em_trunk.proofs.Works.{stops_after, works_then}
+use Rattle.em_tree.proofs.Quiets.{quiet_after, quiet_drained}
 
 -- debts of two steps
 pub both_owed : (B d e : ℕ) → B * d + B * e ≡ B * (d + e)
@@ -72,9 +74,9 @@ module _ (key : Record → Record) (step : Option Record → Record → Step) (I
       over z = a.session.touches.told ∙ z
 
       -- A step of a settling, and all that was left after it,
-      pub settled_then : SettledAll key step IsOp IsKept next t u w x
+      pub settled_then : KeepsQuiet s t v w → SettledAll key step IsOp IsKept next t u w x
           → SettledAll key step IsOp IsKept before s u v x
-      settled_then b =
+      settled_then quiet b =
           let shape = a.session.touches.shape in
           let B = s.pool.shape.block in
           let D : ShapeNumbers → Type 0 = λ h. Works key step IsOp IsKept 0 0 (h.block * b.debt) b.taken t u w x in
@@ -86,6 +88,7 @@ module _ (key : Record → Record) (step : Option Record → Record → Step) (I
             owes = λ z. owing_then a before next 0 debt b.debt (owes z) (b.owes (over z));
             none_waits = λ z. b.none_waits (over z);
             drained = b.drained;
+            quiet = quiet_after a quiet b.quiet;
           }
 
       -- or that gave up.
@@ -146,7 +149,8 @@ module _ (key : Record → Record) (step : Option Record → Record → Step) (I
             → SettlesAllTo key step IsOp IsKept (owing_to w.level t w) t u w x r
             → SettlesAllTo key step IsOp IsKept (owing_all s v) s u v x r
         root_all u x (Ok y) h b = settled_then (owing_all s v) (owing_to w.level t w) 0 (drain_debt s v) s t u
-            v w x (h.owes 0) (λ told. drained_owes key step IsOp IsKept s t v w can h told) b
+            v w x (h.owes 0) (λ told. drained_owes key step IsOp IsKept s t v w can h told)
+            (quiet_drained key s t v w h.pours h.level) b
         root_all u x (Err fault) h b = stopped_then (owing_all s v) (owing_to w.level t w) 0 (drain_debt s v) s
             t u v w x (h.owes 0) (λ told. drained_owes key step IsOp IsKept s t v w can h told) fault b
 

@@ -27,7 +27,7 @@ use Rattle.em_trunk.proofs.HeldBlocks.{held_few}
 use Rattle.em_tree.proofs.SettledTrees.{toll_same}
 
 -- Before the first operation there is one level.
-one_level : (shape : ShapeNumbers) (k : ℕ) → IsShape shape → k ≤ 0 → levels_of shape k ≡ 1
+pub one_level : (shape : ShapeNumbers) (k : ℕ) → IsShape shape → k ≤ 0 → levels_of shape k ≡ 1
 one_level shape k is none =
     let zero_of : k ≡ 0 = omega (arith, none) in
     let few = blocks_most shape 0 0 is (omega arith) in
@@ -75,21 +75,21 @@ module _ (key : Record → Record) (step : Option Record → Record → Step)
     (IsOp IsKept : Record → Type 0) (s t : RigState) (v w : Trunk) (sound : Sound s)
     (is : IsTrunk key IsOp IsKept s v) where
   -- what may be owed when the settling begins, and at its end
-  begun : IsTrue s.device.told
+  pub begun : IsTrue s.device.told
       → MayOwe 0 (owing_all s (counted_settling s.pool.shape v)) s (counted_settling s.pool.shape v)
   begun told = (may_begin sound is told).0
 
   module _ (x : SettledAll key step IsOp IsKept (owing_all s (counted_settling s.pool.shape v)) s t
       (counted_settling s.pool.shape v) w)
       (told : IsTrue s.device.told) where
-    ended : (m : MayOwe 0 0 t w) × (x.debt ≤ m.debt)
+    pub ended : (m : MayOwe 0 0 t w) × (x.debt ≤ m.debt)
     ended =
         let on = may_then 0 0 x.debt x.taken (owing_all s (counted_settling s.pool.shape v)) 0 told (begun told) x.works (x.owes told) in
         let e = on.1 in
         (on.0, omega (arith, e))
 
     -- the toll at the end is the same
-    same_toll : settle_toll t.pool.shape w.longest ≡ settle_toll s.pool.shape v.longest
+    pub same_toll : settle_toll t.pool.shape w.longest ≡ settle_toll s.pool.shape v.longest
     same_toll = toll_same s.pool.shape t.pool.shape v.longest w.longest x.works.session.touches.shape
         x.works.numbers.longest
 

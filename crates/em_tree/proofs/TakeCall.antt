@@ -29,7 +29,7 @@ use Rattle.em_tree_visits.specs.declared.visiting.Taken.{Taken}
 use Rattle.em_trunk.proofs.Bounded.{limit_some}
 use Rattle.em_trunk.proofs.Charges.{books_less}
 use Rattle.em_tree.proofs.PushEnds.{same_counts}
-use Rattle.em_tree.proofs.SettleCall.{running_moved}
+use Rattle.em_tree.proofs.Counted.{running_moved}
 use Rattle.em_trunk.proofs.StepWorks.{running_steps}
 use Rattle.em_trunk.proofs.Steps.{books_anew, since_call}
 use Rattle.em_tree.proofs.Unused.{one_leaf, silent_on}

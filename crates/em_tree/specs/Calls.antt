@@ -1,13 +1,13 @@
 -- What the calls of a tree leave of it and of its rig.
-use Rattle.std.specs.Prelude.{Err, IsTrue, List, Ok, Option, Result, [], max, ◌+◌, ◌-◌, ◌∷◌, ◌≡◌, ◌≤◌}
+use Rattle.std.specs.Prelude.{Err, IsTrue, List, Ok, Option, Result, [], length, max, ◌+◌, ◌-◌, ◌∷◌, ◌≡◌, ◌≤◌}
 use Rattle.std.specs.List.Sorted.{IsPermutation}
-use Rattle.em_record.specs.Cost.{blocks_of, lev}
+use Rattle.em_record.specs.Cost.{blocks_of, lev, room}
 use Rattle.em_record.specs.Shape.{ShapeNumbers}
 use Rattle.em_record.specs.declared.record.Record.{Record}
 use Rattle.em_frames.specs.Pool.{GivenFrames, LentFrames, SameFrames}
 use Rattle.em_space.specs.Ledger.{Session}
 use Rattle.em_space.specs.Queue.{Pays}
-use Rattle.em_space.specs.Rig.{Cause, Goes, RigState, Sound, Touches}
+use Rattle.em_space.specs.Rig.{Cause, Goes, IfFull, RigState, Sound, Touches}
 use Rattle.em_space.specs.declared.fault.EmFault.{EmFault}
 use Rattle.em_chain.specs.Chain.{IsChain, IsPacked, chain_blocks, chain_items}
 use Rattle.em_chain.specs.declared.chain.Chain.{Chain}
@@ -16,10 +16,13 @@ use Rattle.em_tree_model.specs.Meaning.{tree_answers}
 use Rattle.em_tree_model.specs.Tree.{stored_in, waiting_in}
 use Rattle.em_tree_cost.specs.Books.{TreeCounts, count_moves, count_settle, no_counts}
 use Rattle.em_tree_cost.specs.Paid.{WithinShare}
+use Rattle.em_tree_cost.specs.Shares.{levels_of}
+use Rattle.em_tree_outline.specs.Outline.{outline_of}
+use Rattle.em_tree_trim.specs.Trim.{IsTrim}
 use Rattle.em_tree_walk.specs.Paid.{LosesNone}
 use Rattle.em_tree_walk.specs.SplitPaths.{StopsUpTo}
 use Rattle.em_trunk.specs.Meaning.{IsSettled, LeavesMeaning}
-use Rattle.em_trunk.specs.Trunk.{IsTrunk, TrunkHasFrames, counts_of, given_by, model_of, trunk_blocks, trunk_unstored}
+use Rattle.em_trunk.specs.Trunk.{IsTrunk, TrunkHasFrames, counts_of, given_by, model_of, root_of, trunk_blocks, trunk_unstored}
 use Rattle.em_trunk.specs.declared.trunk.Trunk.{Trunk}
 
 -- the moves of its calls are within the share, by the numbers that it has then
@@ -82,12 +85,22 @@ PushesOp key step IsOp IsKept op s t v w (Ok x) =
     ChangesTrunk key step IsOp IsKept (op ∷ []) s t v w
 PushesOp key step IsOp IsKept op s t v w (Err fault) = StopsTrunk s t v w fault
 
--- All buffers were emptied.
+-- All buffers were emptied, and the tree is as small as its records allow: over a device that tells, its level and its blocks
+-- are those that so many records need.
 pub record SettledTrunk (key : Record → Record) (step : Option Record → Record → Step)
     (IsOp IsKept : Record → Type 0) (s t : RigState) (v w : Trunk) : Type 0 where
   pub changes : ChangesTrunk key step IsOp IsKept [] s t v w
   pub settled : IsTrue s.device.told
       → IsSettled key step (given_by s v) (model_of s v) (given_by t w) (model_of t w)
+  pub trim : IsTrue s.device.told → IsTrim t.pool.shape w.level (outline_of (root_of t w))
+  pub low : IsTrue s.device.told → w.level ≤ levels_of t.pool.shape (length (stored_in (model_of t w)))
+  pub held : IsTrue s.device.told → length (trunk_blocks t w)
+      ≤ room t.pool.shape (length (stored_in (model_of t w))) + w.answers.blocks
+
+-- `settle_all` was full only if an operation waited or the tree wasn't trim, over a device that tells.
+abbrev pub FullIfUntrim : RigState → Trunk → EmFault → Type 0
+FullIfUntrim s v fault = IfFull fault (λ _. IsTrue s.device.told → waiting_in (model_of s v) ≡ []
+    → IsTrim s.pool.shape v.level (outline_of (root_of s v)) → ⊥)
 
 -- what `settle_all` did, by its result
 abbrev pub SettlesTrunk : (Record → Record) → (Option Record → Record → Step) → (Record → Type 0)

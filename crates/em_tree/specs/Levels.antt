@@ -10,7 +10,7 @@ use Rattle.em_tree_walk.specs.declared.searching.Range.{Range}
 use Rattle.em_trunk.specs.Buffers.{OnlyFull}
 use Rattle.em_trunk.specs.Debts.{KeepsOwing, MayOwe, owing_now, owing_to}
 use Rattle.em_tree_buffers.specs.Emptying.{SettlesLevel}
-use Rattle.em_tree_buffers.specs.Loops.{due_of, searches_left}
+use Rattle.em_tree_buffers.specs.Loops.{KeepsQuiet, due_of, searches_left}
 use Rattle.em_trunk.specs.Trunk.{full_limit}
 use Rattle.em_trunk.specs.Works.{StopsWorking, Works, CanWork, deepest, unstored_most, IsDrained}
 use Rattle.em_trunk.specs.declared.trunk.Trunk.{Trunk}
@@ -63,6 +63,7 @@ pub record EmptiedNext (key : Record → Record) (step : Option Record → Recor
   pub leaves : IsTrue s.device.told → LeavesEmpty (full_limit s.pool.shape) at next t w
   pub level : v.level ≤ w.level
   pub drained : IsDrained w
+  pub quiet : KeepsQuiet s t v w
 
 -- It gave up.
 pub record StopsNext (at : ℕ) (left : Range) (s t : RigState) (v w : Trunk) (fault : EmFault) : Type 0
@@ -96,4 +97,5 @@ pub record EmptyingLevel (key : Record → Record) (step : Option Record → Rec
         → LeavesEmpty (full_limit s.pool.shape) at (Some left.from) t w
     pub level : v.level ≤ w.level
     pub drained : IsDrained w
+    pub quiet : KeepsQuiet s t v w
     pub can : CanWork key IsOp IsKept t w

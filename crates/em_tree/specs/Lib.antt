@@ -4,3 +4,5 @@ pub mod Pushing
 pub mod Calls
 pub mod Finishing
 pub mod Taking
+pub mod Handing
+pub mod Trimmed

@@ -8,12 +8,13 @@ use Rattle.em_trunk.specs.Buffers.{NoneFrom}
 use Rattle.em_trunk.specs.Debts.{KeepsOwing, MayOwe, owing_all, owing_to, settling_toll}
 use Rattle.em_tree_buffers.specs.Draining.{CanDrain}
 use Rattle.em_tree_buffers.specs.Emptying.{CanSettleLevel}
+use Rattle.em_tree_buffers.specs.Loops.{KeepsQuiet}
 use Rattle.em_trunk.specs.Trunk.{full_limit}
 use Rattle.em_trunk.specs.Works.{StopsWorking, Works, unstored_most, IsDrained}
 use Rattle.em_trunk.specs.declared.trunk.Trunk.{Trunk}
 use Rattle.em_trunk.specs.Spots.{EachRead}
 
--- All buffers were emptied, with a debt: at most what might be owed before.
+-- All buffers were emptied, with a debt: at most what might be owed before. If no operation waited, the same tree is read.
 pub record SettledAll (key : Record → Record) (step : Option Record → Record → Step)
     (IsOp IsKept : Record → Type 0) (before : ℕ) (s t : RigState) (v w : Trunk) : Type 0 where
   pub taken : ℕ
@@ -22,6 +23,7 @@ pub record SettledAll (key : Record → Record) (step : Option Record → Record
   pub owes : IsTrue s.device.told → KeepsOwing before 0 debt s t v w
   pub none_waits : IsTrue s.device.told → EachRead (NoneFrom 0) t w
   pub drained : IsDrained w
+  pub quiet : KeepsQuiet s t v w
 
 -- A tree gave up on the way. The debts before this and in it are within what the call pays for by itself.
 pub record StopsSettling (before : ℕ) (s t : RigState) (v w : Trunk) (fault : EmFault) : Type 0 where

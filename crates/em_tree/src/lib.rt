@@ -6,5 +6,6 @@ mod emptying;
 mod ending;
 mod settling;
 mod tree;
+mod trimming;
 
 pub use tree::Tree;

@@ -16,7 +16,7 @@ ghost use Rattle.em_tree_cost.specs.Books.{count_push, count_settle};
 
 use crate::emptying::push_op;
 use crate::ending::finish_blocks;
-use crate::settling::settle_tree;
+use crate::settling::settle_trim;
 use em_chain::Chain;
 use em_frames::{Area, Device};
 use em_record::Record;
@@ -34,9 +34,10 @@ pub struct Tree<S: Settle> {
 
 impl<S: Settle> Tree<S> {
     ghost use Rattle.std.specs.Prelude.{Result, Ok, Err, IfOk, IfErr};
-    ghost use Rattle.em_tree.specs.Calls.{CountsCall, FinishCosts, FinishesTrunk, IsLow, IsNewTrunk, PushesOp, SettlesTrunk, StopsNewTrunk};
+    ghost use Rattle.em_tree.specs.Calls.{CountsCall, FinishCosts, FinishesTrunk, FullIfUntrim, IsLow, IsNewTrunk, PushesOp, SettlesTrunk, StopsNewTrunk};
     ghost use Rattle.em_space.specs.Rig.{IfFull};
     ghost use Rattle.em_tree.specs.Finishing.{FullIfUsed};
+    ghost use Rattle.em_tree.specs.Handing.{HandsAnswers};
     ghost use Rattle.em_trunk.specs.Meaning.{IsLater};
     ghost use Rattle.em_tree.specs.Pushing.{NeedsMore};
     ghost use Rattle.em_trunk.specs.Room.{FullOverRoom, WithinRoom};
@@ -93,8 +94,11 @@ impl<S: Settle> Tree<S> {
         pushed
     }
 
-    /// Empties all buffers: no operation waits afterwards. `Full` comes only if all blocks are in use then,
-    /// and, over a device that tells, an operation waited.
+    /// Empties all buffers: no operation waits afterwards. And makes the tree as small as its records allow: each leaf has w·B
+    /// records or more unless it is the only one, each node below the root f entries or more, and a root above level 1 has two.
+    ///
+    /// `Full` comes only if all blocks are in use then, and, over a device that tells, an operation waited or the tree wasn't
+    /// as small before.
     pub fn settle_all<D: Device>(&mut self, rig: &mut Rig<'_, D>) -> Result<(), EmFault>
         requires sound { Sound (seen D.state rig.old) }
         requires ready { S.IsReady self.old.settle }
@@ -106,7 +110,7 @@ impl<S: Settle> Tree<S> {
         ensures settles { SettlesTrunk (S.key_of self.old.settle) (S.step_of self.old.settle)
             (S.IsOp self.old.settle) (S.IsKept self.old.settle) (seen D.state rig.old)
             (seen D.state rig.new) self.old.trunk self.new.trunk result }
-        ensures needs { IfErr result (FullIfWaits (seen D.state rig.old) self.old.trunk) }
+        ensures needs { IfErr result (FullIfUntrim (seen D.state rig.old) self.old.trunk) }
         ensures counts { CountsCall (count_settle 0) (seen D.state rig.old) (seen D.state rig.new)
             self.old.trunk self.new.trunk }
         ensures room { IsTrue (seen D.state rig.old).device.told → WithinRoom self.old.trunk.longest
@@ -116,9 +120,28 @@ impl<S: Settle> Tree<S> {
     {
         let before = rig.moves();
         self.trunk.count_settling(&rig.shape());
-        let settled = settle_tree(rig, &self.settle, &mut self.trunk);
+        let settled = settle_trim(rig, &self.settle, &mut self.trunk);
         self.trunk.count_moves(rig, before);
         settled
+    }
+
+    /// Hands out the answers given so far, as a chain in any order. None of them is left, and the tree goes on: what it stores, and
+    /// what waits, is the same. No block is taken, and one move at most is made, which the tree's moves don't count.
+    ///
+    /// `Full` never comes, nor `Damaged`; `DeviceFault` comes only if the device's count of faults rose, and then the tree may only
+    /// be abandoned.
+    #[tactic(auto, using(crate::proofs::Handed::hands_answers))]
+    pub fn take_answers<D: Device>(&mut self, rig: &mut Rig<'_, D>) -> Result<Chain, EmFault>
+        requires sound { Sound (seen D.state rig.old) }
+        requires is { IsTrunk (S.key_of self.old.settle) (S.IsOp self.old.settle)
+            (S.IsKept self.old.settle) (seen D.state rig.old) self.old.trunk }
+        requires free { CanServe (seen D.state rig.old).pool }
+        ensures rule { self.new.settle ≡ self.old.settle }
+        ensures hands { HandsAnswers (S.key_of self.old.settle) (S.IsOp self.old.settle)
+            (S.IsKept self.old.settle) (seen D.state rig.old) (seen D.state rig.new) self.old.trunk
+            self.new.trunk result }
+    {
+        self.trunk.take_answers(rig)
     }
 
     /// Takes the records of the least keys out of the tree's contents, and puts them into the first places

@@ -7,13 +7,14 @@ use Rattle.em_settle.specs.declared.step.Step.{Step}
 use Rattle.em_space.specs.Rig.{RigState}
 use Rattle.em_space.specs.declared.fault.EmFault.{EmFault}
 use Rattle.em_tree_model.specs.Ranges.{least_record}
+use Rattle.em_tree_model.specs.Tree.{waiting_in}
 use Rattle.em_tree_walk.specs.declared.searching.Range.{Range}
 use Rattle.em_trunk.specs.Buffers.{AllOver, ClearOver, Due, IsDue, OnOneSide, OnlyFull}
 use Rattle.em_trunk.specs.Debts.{KeepsOwing, MayOwe, owing_to, settling_toll}
 use Rattle.em_tree_buffers.specs.Emptying.{CanClear, CanSettleLevel, SettlesLevel}
 use Rattle.em_tree_buffers.specs.Findings.{FoundSpot}
 use Rattle.em_trunk.specs.Starts.{is_inside, starts_of}
-use Rattle.em_trunk.specs.Trunk.{full_limit, root_of, sums_in}
+use Rattle.em_trunk.specs.Trunk.{full_limit, model_of, root_of, sums_in}
 use Rattle.em_trunk.specs.Works.{StopsWorking, Works, CanWork, deepest, unstored_most, IsDrained}
 use Rattle.em_trunk.specs.declared.trunk.Trunk.{Trunk}
 use Rattle.em_trunk.specs.Spots.{EachRead, HasSpot}
@@ -59,6 +60,10 @@ clear_pay d found s t v w =
 pub record SameTree (s t : RigState) (v w : Trunk) : Type 0 where
   pub root : root_of t w ≡ root_of s v
   pub level : w.level ≡ v.level
+
+-- If no operation waited, the same tree is read.
+abbrev pub KeepsQuiet : RigState → RigState → Trunk → Trunk → Type 0
+KeepsQuiet s t v w = IsTrue s.device.told → waiting_in (model_of s v) ≡ [] → SameTree s t v w
 
 -- Full buffers of a level, among some keys, were emptied, and those below after them, up to the keys that
 -- are left. What was empty over the level is.
@@ -175,6 +180,7 @@ pub record SettledLevel (key : Record → Record) (step : Option Record → Reco
   pub settles : IsTrue s.device.told → SettlesLevel (full_limit s.pool.shape) at t w
   pub level : v.level ≤ w.level
   pub drained : IsDrained w
+  pub quiet : KeepsQuiet s t v w
 
 -- They weren't. The debts before this and in it are within what the call pays for by itself.
 pub record StopsLevel (at : ℕ) (s t : RigState) (v w : Trunk) (fault : EmFault) : Type 0 where

@@ -39,7 +39,9 @@ pub mod Starts
 pub mod PathRanges
 pub mod Beginnings
 pub mod FirstSizes
+pub mod ListTaken
 pub mod RootTaken
+pub mod AnswersTaken
 pub mod Faces
 pub mod StartCounts
 pub mod Credits

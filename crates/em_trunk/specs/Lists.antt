@@ -1,7 +1,7 @@
--- The two lists of a tree: the root's buffer taken out, the answers as a chain, and both given up.
-use Rattle.std.specs.Prelude.{◌≡◌, ◌+◌, ◌≤◌, [], min, IsTrue, Result, Ok, Err, ◌-◌}
+-- The two lists of a tree: the root's buffer taken out, the answers taken out or as a chain, and both given up.
+use Rattle.std.specs.Prelude.{◌≡◌, ◌+◌, ◌≤◌, [], min, IsTrue, Result, Ok, Err}
 use Rattle.em_space.specs.Queue.{Pays}
-use Rattle.em_space.specs.Rig.{Cause, Goes, RigState, SameBlocks, IfFull, Sound, Touches}
+use Rattle.em_space.specs.Rig.{BlockCause, Cause, Goes, RigState, SameBlocks, IfFull, Sound, Touches}
 use Rattle.em_space.specs.declared.fault.EmFault.{EmFault}
 use Rattle.em_space.specs.Ledger.{Session}
 use Rattle.em_chain.specs.Writer.{IsPackedSoFar, IsWriter, WriterHasFrame, writer_blocks, writer_items}
@@ -44,6 +44,30 @@ pub record StopsTakingAll (s a : RigState) (v w : Trunk) (fault : EmFault) : Typ
 abbrev pub TakesAll : RigState → RigState → Trunk → Trunk → Result Chain EmFault → Type 0
 TakesAll s a v w (Ok c) = TookAll s a v w c
 TakesAll s a v w (Err fault) = StopsTakingAll s a v w fault
+
+-- The answers given so far were taken out as a chain, and a fresh list is in their place.
+pub record TookAnswers (s a : RigState) (v w : Trunk) (c : Chain) : Type 0 where
+  pub is : w ≡ record v { answers = w.answers }
+  pub goes : Goes (writer_blocks s v.answers) s a
+  pub same : SameBlocks s a
+  pub moves : a.moves ≤ s.moves + min v.answers.blocks 1
+  pub pays : Pays (min v.answers.blocks 1) 0 s a
+  pub fresh : IsFresh a w.answers
+  pub finishes : Finishes s a v.answers c
+
+-- Their last block wasn't stored: the fresh list is there.
+pub record StopsTakingAnswers (s a : RigState) (v w : Trunk) (fault : EmFault) : Type 0 where
+  pub is : w ≡ record v { answers = w.answers }
+  pub goes : Goes (writer_blocks s v.answers) s a
+  pub same : SameBlocks s a
+  pub moves : a.moves ≤ s.moves + min v.answers.blocks 1
+  pub frame : WriterHasFrame a w.answers
+  pub cause : BlockCause s a fault
+
+-- what taking them did, by its result
+abbrev pub TakesAnswers : RigState → RigState → Trunk → Trunk → Result Chain EmFault → Type 0
+TakesAnswers s a v w (Ok c) = TookAnswers s a v w c
+TakesAnswers s a v w (Err fault) = StopsTakingAnswers s a v w fault
 
 -- The answers of a tree are a chain, and its two frames are back.
 pub record GivenAnswers (s t : RigState) (v : Trunk) (c : Chain) : Type 0 where

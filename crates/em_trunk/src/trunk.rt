@@ -6,7 +6,7 @@ ghost use Rattle.em_space.specs.Rig.{Sound};
 ghost use Rattle.em_space.specs.Seen.{seen};
 ghost use Rattle.em_chain.specs.Writer.{IsWriter};
 ghost use Rattle.em_trunk.specs.Counting.{counted_moves, counted_push, counted_reset, counted_settling, with_steps};
-ghost use Rattle.em_trunk.specs.Lists.{TakesAll, GivesAnswers, LeavesTrunk};
+ghost use Rattle.em_trunk.specs.Lists.{TakesAll, TakesAnswers, GivesAnswers, LeavesTrunk};
 ghost use Rattle.em_trunk.specs.Steps.{StepsTo};
 ghost use Rattle.em_trunk.specs.Planting.{MakesFresh};
 ghost use Rattle.em_trunk.specs.Trunk.{TrunkHasFrames};
@@ -39,7 +39,7 @@ pub struct Trunk {
     pub settled: u128,
     /// Resets: calls that took out all that there was.
     pub resets: u128,
-    /// Moves that were made in its calls.
+    /// Moves that were made in its calls, but for those of `take_answers`: at most one each.
     pub spent: u128,
     /// Steps that the running call may still take.
     pub steps: u128,
@@ -199,6 +199,18 @@ impl Trunk {
     {
         let fresh = Writer::new(rig);
         let whole = mem::replace(&mut self.buffer, fresh);
+        whole.finish(rig)
+    }
+
+    /// The answers given so far, with a new list in their place. One move at most is made, and no block is taken.
+    pub fn take_answers<D: Device>(&mut self, rig: &mut Rig<'_, D>) -> Result<Chain, EmFault>
+        requires sound { Sound (seen D.state rig.old) }
+        requires is { IsWriter (seen D.state rig.old) self.old.answers }
+        requires free { 1 < (seen D.state rig.old).pool.free }
+        ensures { TakesAnswers (seen D.state rig.old) (seen D.state rig.new) self.old self.new result }
+    {
+        let fresh = Writer::new(rig);
+        let whole = mem::replace(&mut self.answers, fresh);
         whole.finish(rig)
     }
 }

@@ -11,8 +11,10 @@ usage: emtool map|queue|stab [options] FILE
 Answers a command file, or evaluates a circuit, with structures in external memory.
 
 Commands:
-  map FILE      lines `put K V`, `del K` and `get K`; prints one line for each get: the value of the
-                key by the commands before it, or `-`; nothing where a line is faulty
+  map FILE      lines `put K V`, `del K`, `get K` and `sync`; prints one line for each get: the value
+                of the key by the commands before it, or `-`; at each `sync` the lines of all gets so
+                far that weren't printed, and at the end the others; where a line is faulty, those
+                that were printed at the syncs before it
                 example: emtool map prices.txt
   queue FILE    lines `push K V` and `pop`; prints one line for each pop when it is read: the key and
                 the value of the element with the least key, of equal keys the one pushed first, or

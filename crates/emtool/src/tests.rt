@@ -4,6 +4,8 @@
 //! Most tests are tables: a row is one text, of which bars part the fields. `text_of` says how a field
 //! holds a text of several lines.
 
+ghost use Rattle.std.specs.Prelude.{◌≡◌};
+
 mod each_call;
 mod each_evaluation;
 mod ends;
@@ -12,7 +14,7 @@ mod odd_device;
 use crate::tests::odd_device::OddDevice;
 use crate::top::emtool;
 use em_ends::Status;
-use em_frames::{Grant, MemDevice};
+use em_frames::{Device, Grant, MemDevice};
 use em_io::{MemShelf, MemSink, Printer};
 use em_record::Failed;
 use std::alloc::Global;
@@ -84,31 +86,26 @@ fn failing(wrong: Wrong, part: Wrong, call: &[u64]) -> &[u64] {
     if wrong == part { call } else { &[] }
 }
 
-/// A run over a device in memory and a shelf with these texts as the files `a` and `s`. A read of the
-/// shelf gives at most 3 bytes, a call of the output takes at most 3, and one of the error stream at
+/// A run over a device and a shelf with these texts as the files `a` and `s`: how it ended, and what output and error stream
+/// took. A read of the shelf gives at most 3 bytes, a call of the output takes at most 3, and one of the error stream at
 /// most 7.
-fn run(
+fn run_over<D: Device>(
     rt: &HostRuntime,
     words: &str,
     text: &[u8],
     stimulus: &[u8],
     wrong: Wrong,
     number: u64,
-) -> Result<Ended, Fail> {
+    device: &mut D,
+) -> Result<(Status, MemSink, MemSink), Fail>
+    requires { (D.state device.old).blocks ≡ 0 }
+{
     let alloc = rt.alloc();
     let mut given = Vec::new(alloc);
     for word in words.split(' ') {
         given.push(String::from_str(alloc, word)?)?;
     }
     let call = [number];
-    let mut device = OddDevice {
-        kept: MemDevice::new(alloc, failing(wrong, Wrong::Device, &call))?,
-        blocks: 0,
-        wrong,
-        good: number,
-        first: None,
-        parted: false,
-    };
     let mut shelf = MemShelf::new(alloc, 3, failing(wrong, Wrong::Shelf, &call))?;
     shelf.add("a", text)?;
     shelf.add("s", stimulus)?;
@@ -117,11 +114,32 @@ fn run(
     let status = emtool(
         &given,
         Grant::new(alloc),
-        &mut device,
+        device,
         &mut shelf,
         &mut out,
         &mut err,
     );
+    Ok((status, out, err))
+}
+
+/// The same over a device in memory, with what the device is like after it.
+fn run(
+    rt: &HostRuntime,
+    words: &str,
+    text: &[u8],
+    stimulus: &[u8],
+    wrong: Wrong,
+    number: u64,
+) -> Result<Ended, Fail> {
+    let mut device = OddDevice {
+        kept: MemDevice::new(rt.alloc(), failing(wrong, Wrong::Device, &[number]))?,
+        blocks: 0,
+        wrong,
+        good: number,
+        first: None,
+        parted: false,
+    };
+    let (status, out, err) = run_over(rt, words, text, stimulus, wrong, number, &mut device)?;
     Ok(Ended {
         status,
         out,

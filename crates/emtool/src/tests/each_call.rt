@@ -114,8 +114,8 @@ pub(super) fn wrong_in(rt: &HostRuntime, row: &str) -> Result<Option<(u8, u64)>,
 
 /// Command files. The shelf is called once to open the file, once for each 3 bytes of it, and once where the
 /// end is found. The output of a queue is called for each 3 bytes of a line. That of the others gets all lines at
-/// the end of the run, or at its stop, and is called for each 3 bytes of them.
-const ROWS: [&str; 7] = [
+/// a sync, at the end of the run or at its stop, and is called for each 3 bytes of them.
+const ROWS: [&str; 9] = [
     // A map. The device: 25 calls; a release makes none, nor does a freed block that is taken. Call 0 begins it. Then 2 store
     // the tree's leaf and root, and 1 the block of the commands. At the end 4 load the root, load the commands, store them as
     // the leaf's buffer, and store the root; 1 loads the root and finds that buffer. The load makes 5: it loads root and leaf,
@@ -135,6 +135,22 @@ const ROWS: [&str; 7] = [
     // answers: before the very last, the lines of 127 answers were printed, and at the stop they are sent. The shelf: 261
     // calls, 259 of them for 776 bytes. The output: 86 calls, 85 of them for 3 bytes each, and one for the last of 256.
     "map --block=128 --frames=64 a|put 1 2/128*get 1/||128*2/|0|34 0,1 254|261 0|86 0+3",
+    // A sync. The device: 49 calls. Call 0 begins it, and 2 store the tree's leaf and root. At the sync 1 stores the block of
+    // the commands, and 4, 1, 5 and 1 empty the tree as above; 1 more stores the block of the value. 1 loads the root, and finds
+    // one leaf, so that the tree is as small as it can be. 1 stores the answers, 2 are those of a queue, 2 load them and store them
+    // in order, 2 end the queue, 1 reads them, and 1 reads their block to release it: at that one the line was printed. At the end
+    // come 1, 4, 1, 5 and 1 again, with 1 that loads the value; 2 load root and leaf to release them, 1 stores the answers, 2, 2 and 2
+    // are those of a queue, and 1 reads them. The shelf: 13 calls, 11 of them for 31 bytes; the sync ends in call 7. The output: 2 calls.
+    "map --block=128 --frames=64 a|put 1 5/get 1/sync/del 1/get 1/||5/-/|0|25 0,24 2|8 0,5 2|1 0,1 2",
+    // Two syncs, of which the first one has nothing to print. The device: 79 calls. 21 up to the end of the first sync: one that begins
+    // it, 2 for leaf and root, 13 for the tree as above, 1 that finds one leaf, and 4 of a queue of which no call comes. At the second
+    // sync 29 before a line is printed: 4 for each of two blocks of commands, 2 for the root, 1, 4 for root and leaf, 2 that load and store
+    // the value, 1, and 1 that finds one leaf; 2 store the answers, 4 are those of a queue, and 4 load them and store them in order. 2 read
+    // them: before the second one the lines of 127 were printed, and at the stop they are sent. 2 release their blocks. At the end 25: 4 for
+    // the block of the command, 2, 1, 4, 2 for the value and 1; 3 load root, leaf and value to release them; 1 stores the answer, 4 are those
+    // of a queue, 2 put it in order, and 1 reads it. The shelf: 266 calls, 264 of them for 792 bytes; the second sync ends in call 262. The
+    // output: 86 calls for 256 bytes, and 1 for 2.
+    "map --block=128 --frames=64 a|put 1 2/sync/128*get 1/sync/get 1/||129*2/|0|51 0,1 254,27 256|263 0,3 256|86 0+3,1 256",
     // A queue. The device: 3 calls. Call 0 begins it, and two store the leaf and the root of an empty tree. The items
     // stand in memory. The shelf: 17 calls, 15 of them for 43 bytes. The pops end in calls 8, 12, 13 and 15, and call 16
     // finds the end. The output: 7 calls, two for each line of 4 bytes.

@@ -1,9 +1,7 @@
 //! Runs that end early, or over a device that gives other records than were written.
-use crate::tests::{Wrong, field_of, run, text_of};
-use crate::top::emtool;
+use crate::tests::{Wrong, field_of, run, run_over, text_of};
 use em_ends::Status;
-use em_frames::{Grant, MemDevice};
-use em_io::{MemShelf, MemSink};
+use em_frames::MemDevice;
 use std::test::Fail;
 
 /// The words of the runs of many keys. Of the blocks, 970,752 are the transfer cost of 20,001 commands,
@@ -13,17 +11,24 @@ const LARGE: &str = "map --block=128 --frames=64 --blocks=971008 a";
 /// The lines `put K K` for K from 1 to 20,000, and a get of 1.
 const MANY: &str = "20000*put # #/get 1/";
 
+/// What goes wrong in a run, by the word of a row.
+const WRONGS: [(&str, Wrong); 6] = [
+    ("device", Wrong::Device),
+    ("shelf", Wrong::Shelf),
+    ("output", Wrong::Output),
+    ("errors", Wrong::Errors),
+    ("next", Wrong::Next),
+    ("lost", Wrong::Lost),
+];
+
 /// What the word of a row says.
 fn wrong_of(word: &str) -> Wrong {
-    match word {
-        "device" => Wrong::Device,
-        "shelf" => Wrong::Shelf,
-        "output" => Wrong::Output,
-        "errors" => Wrong::Errors,
-        "next" => Wrong::Next,
-        "lost" => Wrong::Lost,
-        _ => Wrong::Nothing,
+    for (name, wrong) in WRONGS {
+        if name == word {
+            return wrong;
+        }
     }
+    Wrong::Nothing
 }
 
 /// Whether the run of a row ends as it says, and after so many moves, if it says some.
@@ -190,35 +195,28 @@ fn lines_that_wait_are_sent_at_a_stop(rt: HostRuntime) -> Result<(), Fail> {
     Ok(())
 }
 
-/// Whether the run of a command over a device that tells is done, and prints these lines.
-fn is_answered(rt: &HostRuntime, command: &str, field: &str, lines: &str) -> Result<bool, Fail> {
-    let alloc = rt.alloc();
-    let mut words = Vec::new(alloc);
-    words.push(String::from_str(alloc, command)?)?;
-    words.push(String::from_str(alloc, "a")?)?;
-    let text = text_of(alloc, field)?;
-    let lines = text_of(alloc, lines)?;
-    let mut device = MemDevice::new(alloc, &[])?;
-    let mut shelf = MemShelf::new(alloc, 3, &[])?;
-    shelf.add("a", text.bytes())?;
-    let mut out = MemSink::new(alloc, 3, &[])?;
-    let mut err = MemSink::new(alloc, 7, &[])?;
-    let status = emtool(
-        &words,
-        Grant::new(alloc),
+/// Whether a run over a device that tells is done, and prints these lines.
+fn is_answered(rt: &HostRuntime, words: &str, field: &str, lines: &str) -> Result<bool, Fail> {
+    let text = text_of(rt.alloc(), field)?;
+    let lines = text_of(rt.alloc(), lines)?;
+    let mut device = MemDevice::new(rt.alloc(), &[])?;
+    let (status, out, _err) = run_over(
+        rt,
+        words,
+        text.bytes(),
+        b"",
+        Wrong::Nothing,
+        0,
         &mut device,
-        &mut shelf,
-        &mut out,
-        &mut err,
-    );
+    )?;
     Ok(status == Status::Done && out.bytes() == lines.bytes())
 }
 
 /// The other runs go over a device that doesn't tell.
 #[test]
 fn commands_are_answered_over_a_device_that_tells(rt: HostRuntime) -> Result<(), Fail> {
-    assert!(rt; is_answered(&rt, "map", "put 5 10/get 5/get 6/", "10/-/")?);
-    assert!(rt; is_answered(&rt, "queue", "push 4 1/pop/pop/", "4 1/-/")?);
-    assert!(rt; is_answered(&rt, "stab", "iv 0 5/stab 5/stab 6/", "0/-/")?);
+    assert!(rt; is_answered(&rt, "map a", "put 5 10/get 5/get 6/", "10/-/")?);
+    assert!(rt; is_answered(&rt, "queue a", "push 4 1/pop/pop/", "4 1/-/")?);
+    assert!(rt; is_answered(&rt, "stab a", "iv 0 5/stab 5/stab 6/", "0/-/")?);
     Ok(())
 }

@@ -1,6 +1,6 @@
 use Rattle.em_space.specs.Seen.{seen}
 use Rattle.em_answers.proofs.Moves.{queue_goes, queue_runs, unmade_runs}
-use Rattle.em_answers.proofs.ServiceMoves.{map_runs, stab_runs}
+use Rattle.em_answers.proofs.ServiceRuns.{map_runs, stab_runs}
 use Rattle.em_answers.proofs.answering.run_open.Goals as goal
 
 pub returns-in-Map-clause-runs : goal.returns-in-Map-clause-runs

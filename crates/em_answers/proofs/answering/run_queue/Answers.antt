@@ -1,19 +1,14 @@
-use Rattle.std.proofs.Common.{rules, ◌≤◌, subst, refl, IsTrue, ◌≡◌, ap, sym, ◌∙◌, None}
+use Rattle.std.proofs.Common.{◌≤◌, subst, ap, ◌∙◌, Ok, Err}
 use Rattle.em_io.specs.Feed.{Fed, rest}
 use Rattle.em_io.specs.declared.shelf.Slot.TheVariants.{First}
 use Rattle.em_space.specs.Seen.{seen}
 use Rattle.em_space.proofs.Steps.{touches_then}
-use Rattle.em_lines.specs.CommandLine.{first_fault}
-use Rattle.em_answers.specs.Limits.{asked_by, queue_limits}
-use Rattle.em_answers.specs.FileDue.{status_for}
 use Rattle.em_lines.specs.RunSize.{commands_taken}
-use Rattle.em_answers.specs.Reading.{StopCause}
-use Rattle.em_ends.specs.Stop.{fault_counts}
-use Rattle.em_ends.specs.declared.status.Status.TheVariants.{Done}
 use Rattle.em_lines.specs.declared.text.FileKind.TheVariants as kind
-use Rattle.em_ends.proofs.EndLaws.{done_whole, ended_due, ended_stop}
-use Rattle.em_answers.proofs.Moves.{calls_within}
-use Rattle.em_answers.proofs.Running.{answers_of, file_cause, file_fills, first_read, gives_up, queue_filled, queue_stops}
+use Rattle.em_ends.specs.Stop.{fault_counts}
+use Rattle.em_answers.specs.Limits.{queue_limits}
+use Rattle.em_answers.proofs.FileRuns.{runs_answered}
+use Rattle.em_answers.proofs.QueueRuns.{calls_within, gives_up, queue_filled, queue_stops}
 use Rattle.em_answers.proofs.answering.run_queue.Goals as goal
 
 pub returns-in-Ok-clause-gives : goal.returns-in-Ok-clause-gives
@@ -76,71 +71,59 @@ returns-in-Err-clause-moves g c = λ t d.
 
 pub returns-in-Ok-clause-runs : goal.returns-in-Ok-clause-runs
 returns-in-Ok-clause-runs g c =
-    let limits = queue_limits g.Q.Queue.room in
-    let stand = g.H.Shelf.stand c.args.shelf.now in
-    let text = (stand.slot First).left in
-    let r = c.in-Ok.ensures in
-    let feed = c.new-feed.ensures in
-    let none : IsTrue g.H.Shelf.tells → first_fault kind.Queue text ≡ None =
-    λ t. subst (λ (f : Fed). first_fault kind.Queue (rest f stand) ≡ None) feed (r.whole t).fault in
-    let answers = answers_of kind.Queue c.new-feed.result stand text _ _ c.serve-done.result
-    (ap (λ (f : Fed). rest f stand) feed) c.serve-done.ensures.answers in
-    record {
-      ended = ended_due (asked_by limits kind.Queue text) Done done_whole
-          (λ t d. sym (ap status_for (none t)))
-          (λ t d. rw c.in-Ok.is at (answers t d).all) (λ t d. (answers t d).part) (λ t d. tt);
-      caused = search rules;
-      reads = search rules;
-      all_read = first_read c.new-feed.result c.serve-done.new.feed (ap (λ (f : Fed). f.slot) feed)
-          r.reads c.requires.ready (λ t. (r.whole t).end);
-      no_usage = tt;
-      no_memory = tt;
-    }
-
-pub returns-in-Err-clause-runs : goal.returns-in-Err-clause-runs
-returns-in-Err-clause-runs g c =
-    let stand = g.H.Shelf.stand c.args.shelf.now in
-    let after = g.H.Shelf.stand c.serve-done.new.shelf in
     let first = seen g.D.Device.state c.args.rig.now in
     let mid = seen g.D.Device.state c.serve-done.new.rig in
     let last = seen g.D.Device.state c.abandon.new.rig in
-    let limits = queue_limits g.Q.Queue.room in
-    let text = (stand.slot First).left in
-    let counts = g.Q.Queue.counts c.serve-done.new.queue in
+    let r = c.in-Ok.ensures in
+    let l = c.abandon.ensures.leaves in
+    runs_answered g.H.Shelf g.W.Sink (queue_limits g.Q.Queue.room) kind.Queue
+    (g.Q.Queue.blocks c.args.queue first) c.args.shelf.now c.args.out.now c.serve-done.new.feed
+    c.serve-done.new.shelf c.serve-done.new.out first last c.requires.ready c.new-feed.result (Ok tt)
+    c.new-feed.ensures (record {
+      sound = l.sound;
+      touches = touches_then _ first mid last r.calls_only.touches l.touches;
+      reads = r.reads;
+      read_later = r.read_later;
+      write_later = r.write_later;
+      whole = r.whole;
+      answers = r.answers;
+      stop = tt;
+      moves = λ t. tt;
+    })
+
+pub returns-in-Err-clause-runs : goal.returns-in-Err-clause-runs
+returns-in-Err-clause-runs g c =
+    let first = seen g.D.Device.state c.args.rig.now in
+    let mid = seen g.D.Device.state c.serve-done.new.rig in
+    let last = seen g.D.Device.state c.abandon.new.rig in
+    let stand = g.H.Shelf.stand c.args.shelf.now in
+    let after = g.H.Shelf.stand c.serve-done.new.shelf in
+    let feed = c.new-feed.result in
+    let queue = c.serve-done.new.queue in
+    let counts = g.Q.Queue.counts queue in
+    let stop = c.in-Err.stop in
     let r = c.in-Err.ensures in
     let l = c.abandon.ensures.leaves in
-    let feed = c.new-feed.ensures in
     let laws = g.met.Q.Queue in
-    let calls : IsTrue g.H.Shelf.tells → counts.n
-    ≤ commands_taken kind.Queue text (after.slot First).left =
-    λ t. subst (λ (f : Fed). counts.n ≤ commands_taken kind.Queue (rest f stand)
-    (after.slot f.slot).left) feed (r.calls t) in
-    let stop = c.in-Err.stop in
-    let faults = fault_counts (g.H.Shelf.faults c.args.shelf.now) (g.W.Sink.faults c.args.out.now) in
-    let later = fault_counts (g.H.Shelf.faults c.serve-done.new.shelf)
-    (g.W.Sink.faults c.serve-done.new.out) in
-    let cause : StopCause g.H.Shelf.tells kind.Queue text faults later first mid stop =
-    subst (λ (f : Fed). StopCause g.H.Shelf.tells kind.Queue (rest f stand) faults later first mid
-    stop) feed r.stop in
-    let answers = answers_of kind.Queue c.new-feed.result stand text _ _ c.serve-done.result
-    (ap (λ (f : Fed). rest f stand) feed) c.serve-done.ensures.answers in
-    record {
-      ended = rw (c.status_of.ensures.is)
-          (ended_stop g.H.Shelf.tells (asked_by limits kind.Queue text) _ _ first last
-          (touches_then _ first mid last r.calls_only.touches l.touches) l.sound refl refl
-          (λ t d. tt) stop faults later
-          (file_cause limits g.H.Shelf.tells kind.Queue text faults later first last stop
-          (queue_stops g.H.Shelf.tells kind.Queue text faults later first mid last counts stop l cause))
-          (file_fills limits g.H.Shelf.tells kind.Queue text after.slot last stop
-          (queue_filled g.Q.Queue.room g.H.Shelf.tells text (after.slot First).left mid last counts stop
-          laws.rising_room (laws.k_most c.serve-done.new.queue mid r.frames) calls l r.full))
-          (record {
-            fault = λ t d. rw c.in-Err.is at (answers t d).fault;
-            part = λ t d. (answers t d).part;
-          }));
-      caused = search rules;
-      reads = search rules;
-      all_read = search rules;
-      no_usage = search rules;
-      no_memory = search rules;
-    }
+    rw (c.status_of.ensures.is)
+    (runs_answered g.H.Shelf g.W.Sink (queue_limits g.Q.Queue.room) kind.Queue
+    (g.Q.Queue.blocks c.args.queue first) c.args.shelf.now c.args.out.now c.serve-done.new.feed
+    c.serve-done.new.shelf c.serve-done.new.out first last c.requires.ready feed (Err stop)
+    c.new-feed.ensures (record {
+      sound = l.sound;
+      touches = touches_then _ first mid last r.calls_only.touches l.touches;
+      reads = r.reads;
+      read_later = r.read_later;
+      write_later = r.write_later;
+      whole = r.whole;
+      answers = r.answers;
+      stop = record {
+        cause = queue_stops g.H.Shelf.tells kind.Queue (rest feed stand)
+            (fault_counts (g.H.Shelf.faults c.args.shelf.now) (g.W.Sink.faults c.args.out.now))
+            (fault_counts (g.H.Shelf.faults c.serve-done.new.shelf) (g.W.Sink.faults c.serve-done.new.out))
+            first mid last counts stop l r.stop;
+        full = queue_filled g.Q.Queue.room g.H.Shelf.tells (rest feed stand) (after.slot feed.slot).left mid last
+            counts stop laws.rising_room (laws.k_most queue mid r.frames) r.calls l r.full;
+      };
+      moves = λ t. tt;
+    }))

@@ -1,10 +1,9 @@
-use Rattle.std.proofs.Common.{◌≡◌, ◌+◌, ◌++◌, ◌≤◌, [], IsTrue}
+use Rattle.std.proofs.Common.{◌≡◌, ◌+◌, ◌++◌, ◌≤◌, IsTrue}
 use Rattle.em_io.specs.Sink.{Sent}
-use Rattle.em_space.specs.Rig.{Goes}
 use Rattle.em_space.specs.Seen.{seen}
 use Rattle.em_chain.specs.Reader.{owed, reader_items}
 use Rattle.em_answers.specs.Answer.{further_words}
-use Rattle.em_answers.specs.Print.{LooksAt, intervals_at, pairs_behind}
+use Rattle.em_answers.specs.Print.{KeepsBlocks, LooksAt, intervals_at, pairs_behind}
 use Rattle.em_answers.proofs.print.add_further.Given as goal
 
 abbrev pub invariant-loop-pair : goal.invariant-loop-pair
@@ -12,7 +11,7 @@ invariant-loop-pair g l =
     let first = seen g.D.Device.state l.fn.rig in
     let now = seen g.D.Device.state l.rig in
     record {
-      goes : Goes [] first now;
+      keeps : KeepsBlocks first now;
       reader : LooksAt now l.reader;
       behind : IsTrue first.device.told
           → pairs_behind l.stab (reader_items now l.reader)

@@ -3,7 +3,7 @@ use Rattle.em_space.specs.Seen.{seen}
 use Rattle.em_chain.specs.Reader.{reader_items}
 use Rattle.em_answers.specs.Answer.{answer_line, map_text}
 use Rattle.em_answers.specs.Print.{answer_in, answers_in}
-use Rattle.em_answers.proofs.Looking.{goes_looking, looks_next, reads_on}
+use Rattle.em_answers.proofs.Looking.{keeps_looking, looks_next, reads_on}
 use Rattle.em_ends.proofs.Printing.{part_step, sent_step}
 use Rattle.em_answers.proofs.print.print_map.Goals as goal
 use Rattle.em_answers.proofs.Pieces.{into_failed, into_stopped}
@@ -14,8 +14,8 @@ returns-in_err-item-clause-prints g c = λ told.
 
 pub returns-in_err-add_answer-clause-reads : goal.returns-in_err-add_answer-clause-reads
 returns-in_err-add_answer-clause-reads g c =
-    reads_on _ _ _ _ _ c.loop-item.invariant.reader c.loop-item.invariant.goes c.next.ensures.goes
-    c.next.ensures.frame
+    reads_on _ _ _ _ _ _ c.loop-item.invariant.reader c.loop-item.invariant.keeps c.next.ensures.goes
+    c.next.ensures.costs c.next.ensures.frame
 
 pub returns-in_err-add_answer-clause-prints : goal.returns-in_err-add_answer-clause-prints
 returns-in_err-add_answer-clause-prints g c = λ told.
@@ -26,7 +26,7 @@ returns-in_err-add_answer-clause-prints g c = λ told.
     (part_step g.met.W.Sink.rule (g.met.W.Sink.is_state c.args.out.now) c.loop-item.printer
     (answer_line (answer_in c.in-Some.item)) (map_text (answers_in after)) (inv.sent told)
     (ap (λ l. c.loop-item.printer ++ map_text (answers_in l))
-    (reads.items (inv.goes.touches.told ∙ told)))
+    (reads.items (inv.keeps.goes.touches.told ∙ told)))
     (rw c.answer_in.ensures at c.in_err-add_answer.ensures.part))
 
 pub loop-item-preserved : goal.loop-item-preserved
@@ -36,13 +36,13 @@ loop-item-preserved g c =
     let reads = rw c.in-Some.is at c.in_ok-item.ensures.reads in
     let printed = c.in_ok-add_answer.ensures in
     record {
-      goes = goes_looking _ _ _ _ inv.reader inv.goes c.next.ensures.goes;
+      keeps = keeps_looking _ _ _ _ _ _ inv.reader inv.keeps c.next.ensures.goes c.next.ensures.costs;
       reader = looks_next _ _ _ _ _ inv.reader reads;
       sent = λ told.
           sent_step g.met.W.Sink.rule (g.met.W.Sink.is_state c.args.out.now) c.loop-item.printer
           (answer_line (answer_in c.in-Some.item)) (map_text (answers_in after)) (inv.sent told)
           (ap (λ l. c.loop-item.printer ++ map_text (answers_in l))
-          (reads.items (inv.goes.touches.told ∙ told)))
+          (reads.items (inv.keeps.goes.touches.told ∙ told)))
           (rw c.answer_in.ensures at printed.sent);
       later = omega (arith, inv.later, printed.cause.later);
       moves = let m = c.in_ok-item.ensures.costs.moves in omega (arith, inv.moves, m);

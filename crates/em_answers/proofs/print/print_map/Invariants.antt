@@ -1,15 +1,14 @@
-use Rattle.std.proofs.Common.{◌+◌, ◌++◌, ◌≤◌, [], IsTrue}
+use Rattle.std.proofs.Common.{◌+◌, ◌++◌, ◌≤◌, IsTrue}
 use Rattle.em_io.specs.Sink.{Sent}
-use Rattle.em_space.specs.Rig.{Goes}
 use Rattle.em_space.specs.Seen.{seen}
 use Rattle.em_chain.specs.Reader.{owed, reader_items}
 use Rattle.em_answers.specs.Answer.{map_text}
-use Rattle.em_answers.specs.Print.{LooksAt, answers_in}
+use Rattle.em_answers.specs.Print.{KeepsBlocks, LooksAt, answers_in}
 use Rattle.em_answers.proofs.print.print_map.Given as goal
 
 abbrev pub invariant-loop-item : goal.invariant-loop-item
 invariant-loop-item g l = record {
-  goes : Goes [] (seen g.D.Device.state l.fn.rig) (seen g.D.Device.state l.rig);
+  keeps : KeepsBlocks (seen g.D.Device.state l.fn.rig) (seen g.D.Device.state l.rig);
   reader : LooksAt (seen g.D.Device.state l.rig) l.reader;
   sent : IsTrue (seen g.D.Device.state l.fn.rig).device.told → Sent g.W.Sink.took
       (g.W.Sink.state l.fn.out) (l.fn.printer

@@ -1,11 +1,11 @@
-use Rattle.std.proofs.Common.{◌≡◌, ◌+◌, ◌-◌, ◌++◌, [], ap, ◌∙◌, arith, refl}
+use Rattle.std.proofs.Common.{◌≡◌, ◌+◌, ◌-◌, ◌++◌, ap, ◌∙◌, arith, refl}
 use Rattle.std.specs.Prelude.{option_to_list}
 use Rattle.em_io.proofs.Sent.{sent-nothing}
 use Rattle.em_space.specs.Seen.{seen}
-use Rattle.em_space.proofs.Steps.{goes_then}
 use Rattle.em_chain.specs.Reader.{reader_items}
 use Rattle.em_answers.specs.Answer.{numbers_line, stab_text}
 use Rattle.em_answers.specs.Print.{groups_from, intervals_at, pairs_behind}
+use Rattle.em_answers.proofs.Looking.{keeps_then}
 use Rattle.em_answers.proofs.PairLaws.{groups_next}
 use Rattle.em_ends.proofs.Printing.{sent_step}
 use Rattle.em_answers.proofs.print.print_stabs.Goals as goal
@@ -27,7 +27,7 @@ returns-in_err-next-2-clause-prints g c = λ told.
     (numbers_line (intervals_at stab items))
     (stab_text (groups_from (stab + 1) (c.args.stabs - stab - 1) (pairs_behind stab items))) _ _
     c.from_residual-in_err-next-2.ensures.1 (inv.sent told) (ap (λ l. c.loop-stab.printer ++ l) step)
-    (c.in_err-next-2.ensures.prints (inv.goes.touches.told ∙ told))
+    (c.in_err-next-2.ensures.prints (inv.keeps.goes.touches.told ∙ told))
 
 pub loop-stab-preserved : goal.loop-stab-preserved
 loop-stab-preserved g c =
@@ -40,11 +40,11 @@ loop-stab-preserved g c =
     let l = c.in_ok-next-2.ensures in
     let step = groups_next stab (c.args.stabs - stab) items (omega arith) in
     record {
-      goes = goes_then [] _ _ _ inv.goes l.reads.goes;
+      keeps = keeps_then inv.keeps l.reads.keeps;
       reader = l.behind.reader;
       none = l.behind.none;
       sent = λ told.
-          let z = inv.goes.touches.told ∙ told in
+          let z = inv.keeps.goes.touches.told ∙ told in
           let n : c.args.stabs - stab - 1 ≡ c.args.stabs - (stab + 1) = omega arith in
           sent_step g.met.W.Sink.rule (g.met.W.Sink.is_state c.args.out.now) c.loop-stab.printer
           (numbers_line (intervals_at stab items))

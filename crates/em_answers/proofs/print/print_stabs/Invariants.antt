@@ -1,11 +1,10 @@
-use Rattle.std.proofs.Common.{◌≡◌, ◌+◌, ◌-◌, ◌++◌, ◌≤◌, [], IsTrue}
+use Rattle.std.proofs.Common.{◌≡◌, ◌+◌, ◌-◌, ◌++◌, ◌≤◌, IsTrue}
 use Rattle.std.specs.Prelude.{IfNone, option_to_list}
 use Rattle.em_io.specs.Sink.{Sent}
-use Rattle.em_space.specs.Rig.{Goes}
 use Rattle.em_space.specs.Seen.{seen}
 use Rattle.em_chain.specs.Reader.{owed, reader_items}
 use Rattle.em_answers.specs.Answer.{stab_text}
-use Rattle.em_answers.specs.Print.{LooksAt, groups_from}
+use Rattle.em_answers.specs.Print.{KeepsBlocks, LooksAt, groups_from}
 use Rattle.em_answers.proofs.print.print_stabs.Given as goal
 
 abbrev pub invariant-loop-stab : goal.invariant-loop-stab
@@ -13,7 +12,7 @@ invariant-loop-stab g l =
     let first = seen g.D.Device.state l.fn.rig in
     let now = seen g.D.Device.state l.rig in
     record {
-      goes : Goes [] first now;
+      keeps : KeepsBlocks first now;
       reader : LooksAt now l.reader;
       none : IfNone l.next (l.reader.count ≡ 0);
       sent : IsTrue first.device.told → Sent g.W.Sink.took (g.W.Sink.state l.fn.out)

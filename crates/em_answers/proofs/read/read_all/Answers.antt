@@ -1,22 +1,101 @@
-use Rattle.std.proofs.Common.{◌≡◌, ◌+◌, ◌++◌, ◌∷◌, [], ap, sym, ◌∙◌, refl, arith, length, IsTrue}
+use Rattle.std.proofs.Common.{◌≡◌, ◌+◌, ◌++◌, ◌∷◌, List, [], ap, sym, subst, ◌∙◌, refl, arith, length, IsTrue}
+use Rattle.std.proofs.lemmas.List.{append-nil}
 use Rattle.em_io.specs.Feed.{rest}
 use Rattle.em_model.specs.Stab.{stab_answers}
+use Rattle.em_model.specs.Sync.{since_sync, up_to_sync}
+use Rattle.em_model.specs.declared.command.Command.{Command}
 use Rattle.em_space.specs.Seen.{seen}
-use Rattle.em_space.proofs.Paying.{pays_more}
-use Rattle.em_space.proofs.Steps.{cause_after}
-use Rattle.em_space.proofs.Within.{goes_within, within_then}
+use Rattle.em_space.proofs.Steps.{goes_nothing, same_frames}
+use Rattle.em_space.proofs.Within.{goes_within, within_same, within_then}
+use Rattle.em_chain.proofs.Keeps.{touches_none}
 use Rattle.em_lines.specs.CommandLine.{parsed_from}
 use Rattle.em_lines.specs.LineTaken.{LineTaken}
 use Rattle.em_lines.specs.Lines.{lines_of}
-use Rattle.em_answers.proofs.Listing.{alone_next, filled_call, serves_same, stabs_next, taken_most}
-use Rattle.em_lines.proofs.ReadLaws.{counted_more, counted_left, counted_read, good_more}
-use Rattle.em_answers.proofs.ServiceMoves.{alone_reads, call_reads}
+use Rattle.em_lines.proofs.ReadLaws.{counted_left, counted_more, counted_none, counted_read, good_more}
 use Rattle.em_lines.proofs.Steps.{reads_then}
+use Rattle.em_services.specs.Service.{syncs_for}
+use Rattle.em_answers.proofs.Listing.{alone_next, answers_same, stabs_next, taken_most}
+use Rattle.em_answers.proofs.ReadingStops.{stops_command}
+use Rattle.em_answers.proofs.ServiceMoves.{command_reads, given_reads}
+use Rattle.em_answers.proofs.Synced.{given_all, given_faulty, given_stopped, given_unread, printed_next, printed_none}
 use Rattle.em_answers.proofs.read.read_all.Goals as goal
+
+pub loop-next-init : goal.loop-next-init
+loop-next-init g c =
+    let r = c.requires in
+    let s = seen g.D.Device.state c.args.rig.now in
+    let service = c.args.service.now in
+    let text = rest c.args.feed.now (g.H.Shelf.stand c.args.shelf.now) in
+    let kind = g.S.Service.KIND in
+    let n = g.met.S.Service.n_is service s [] [] r.none in
+    record {
+      goes = record { sound = r.sound; touches = touches_none _ s s (goes_nothing s r.sound).touches; frames = same_frames s.pool };
+      free = r.free;
+      is = r.is;
+      within = within_same s _;
+      alone = r.alone;
+      given = [];
+      has = r.none;
+      printed = λ d. printed_none g.met.W.Sink.rule (g.met.W.Sink.is_state c.args.out.now) kind;
+      write_later = omega arith;
+      number = omega (arith, n);
+      few = omega (arith, n);
+      place = omega (arith, r.place);
+      reads = record {
+        slot = refl;
+        leaves = record { text = refl; others = λ other n. refl };
+        opened = refl;
+        ready = refl;
+        shorter = λ t. omega arith;
+        lost = λ t. refl;
+      };
+      later = omega arith;
+      stabs_most = omega arith;
+      good = λ t. rw n refl;
+      fault = λ t. rw n refl;
+      counted = λ t. rw n (counted_none kind text);
+      stabs = λ t. rw n (omega arith);
+    }
 
 pub returns-in-Err-Fault-clause-reads : goal.returns-in-Err-Fault-clause-reads
 returns-in-Err-Fault-clause-reads g c =
     reads_then _ _ _ _ _ _ _ c.loop-next.invariant.reads c.in-Err-Fault.ensures.reads.reads
+
+pub returns-in-Err-Fault-clause-synced : goal.returns-in-Err-Fault-clause-synced
+returns-in-Err-Fault-clause-synced g c = λ told d.
+    let inv = c.loop-next.invariant in
+    let faulty = rw c.in-Err-Fault.field-0-is at (c.in-Err-Fault.ensures.fault told) in
+    given_faulty g.met.W.Sink.rule (g.met.W.Sink.is_state c.args.out.now) g.S.Service.KIND inv.given
+    (inv.printed d) _ _ (inv.good told) c.at_line.result
+    (ap (λ r. r.good) (rw c.KIND.ensures at (rw inv.number at faulty)))
+
+pub returns-in-Err-Fault-clause-moves : goal.returns-in-Err-Fault-clause-moves
+returns-in-Err-Fault-clause-moves g c = λ told.
+    let inv = c.loop-next.invariant in
+    let laws = g.met.S.Service in
+    let service = c.loop-next.service in
+    let mid = seen g.D.Device.state c.loop-next.rig in
+    given_reads g.S.Service.allowance g.S.Service.room g.S.Service.KIND _ _ _ _ (g.S.Service.counts service)
+    (seen g.D.Device.state c.args.rig.now) mid inv.given _ laws.rising inv.goes inv.alone (inv.good told)
+    (laws.n_is service mid _ _ inv.has) (laws.syncs_few service mid _ _ inv.has)
+    (counted_read g.S.Service.KIND inv.reads c.in-Err-Fault.ensures.reads.reads told (inv.counted told))
+
+pub returns-in-Err-Read-clause-synced : goal.returns-in-Err-Read-clause-synced
+returns-in-Err-Read-clause-synced g c = λ told d.
+    let inv = c.loop-next.invariant in
+    given_unread g.met.W.Sink.rule (g.met.W.Sink.is_state c.args.out.now) g.S.Service.KIND inv.given
+    (inv.printed d) _ _ (inv.good told)
+
+pub returns-in-Err-Read-clause-moves : goal.returns-in-Err-Read-clause-moves
+returns-in-Err-Read-clause-moves g c = λ told.
+    let inv = c.loop-next.invariant in
+    let laws = g.met.S.Service in
+    let service = c.loop-next.service in
+    let mid = seen g.D.Device.state c.loop-next.rig in
+    given_reads g.S.Service.allowance g.S.Service.room g.S.Service.KIND _ _ _ _ (g.S.Service.counts service)
+    (seen g.D.Device.state c.args.rig.now) mid inv.given _ laws.rising inv.goes inv.alone (inv.good told)
+    (laws.n_is service mid _ _ inv.has) (laws.syncs_few service mid _ _ inv.has)
+    (counted_read g.S.Service.KIND inv.reads c.in-Err-Read.ensures.reads.reads told (inv.counted told))
 
 pub returns-in_default-clause-reads : goal.returns-in_default-clause-reads
 returns-in_default-clause-reads g c =
@@ -27,102 +106,107 @@ returns-in_default-clause-taken g c = λ told.
     counted_read g.S.Service.KIND c.loop-next.invariant.reads c.in-Ok.ensures.reads.reads told
     (c.loop-next.invariant.counted told)
 
-pub returns-in-Err-Fault-clause-moves : goal.returns-in-Err-Fault-clause-moves
-returns-in-Err-Fault-clause-moves g c = λ told.
+pub returns-in_default-clause-has : goal.returns-in_default-clause-has
+returns-in_default-clause-has g c = λ told.
     let inv = c.loop-next.invariant in
-    alone_reads g.S.Service.allowance g.S.Service.room g.S.Service.KIND _ _ _
-    (g.S.Service.counts c.loop-next.service) (seen g.D.Device.state c.args.rig.now)
-    (seen g.D.Device.state c.loop-next.rig) g.met.S.Service.rising inv.goes.sound.shape
-    inv.goes.touches.told inv.goes.touches.shape inv.alone
-    (counted_read g.S.Service.KIND inv.reads c.in-Err-Fault.ensures.reads.reads told
-    (inv.counted told))
+    let kind = g.S.Service.KIND in
+    let service = c.loop-next.service in
+    let mid = seen g.D.Device.state c.loop-next.rig in
+    let ended = rw c.in_default.is at (c.in-Ok.ensures.ended told) in
+    let none = ap (λ s. (parsed_from kind ((g.S.Service.counts service).n + 1) (lines_of s)).good) ended.0 in
+    let all = inv.good told ∙ ap (λ r. inv.given ++ r) none ∙ append-nil inv.given in
+    subst (λ (cs : List Command). g.S.Service.Has service mid (up_to_sync cs) (since_sync cs)) (sym all) inv.has
 
-pub returns-in-Err-Read-clause-moves : goal.returns-in-Err-Read-clause-moves
-returns-in-Err-Read-clause-moves g c = λ told.
+pub returns-in_default-clause-synced : goal.returns-in_default-clause-synced
+returns-in_default-clause-synced g c = λ told d.
     let inv = c.loop-next.invariant in
-    alone_reads g.S.Service.allowance g.S.Service.room g.S.Service.KIND _ _ _
-    (g.S.Service.counts c.loop-next.service) (seen g.D.Device.state c.args.rig.now)
-    (seen g.D.Device.state c.loop-next.rig) g.met.S.Service.rising inv.goes.sound.shape
-    inv.goes.touches.told inv.goes.touches.shape inv.alone
-    (counted_read g.S.Service.KIND inv.reads c.in-Err-Read.ensures.reads.reads told
-    (inv.counted told))
+    let kind = g.S.Service.KIND in
+    let ended = rw c.in_default.is at (c.in-Ok.ensures.ended told) in
+    given_all g.met.W.Sink.rule (g.met.W.Sink.is_state c.args.out.now) kind inv.given (inv.printed d) _ _
+    (inv.good told) c.loop-next.stabs
+    (ap (λ s. (parsed_from kind ((g.S.Service.counts c.loop-next.service).n + 1) (lines_of s)).good) ended.0)
 
 pub returns-in_default-clause-moves : goal.returns-in_default-clause-moves
 returns-in_default-clause-moves g c = λ told.
     let inv = c.loop-next.invariant in
-    alone_reads g.S.Service.allowance g.S.Service.room g.S.Service.KIND _ _ _
-    (g.S.Service.counts c.loop-next.service) (seen g.D.Device.state c.args.rig.now)
-    (seen g.D.Device.state c.loop-next.rig) g.met.S.Service.rising inv.goes.sound.shape
-    inv.goes.touches.told inv.goes.touches.shape inv.alone
+    let laws = g.met.S.Service in
+    let service = c.loop-next.service in
+    let mid = seen g.D.Device.state c.loop-next.rig in
+    given_reads g.S.Service.allowance g.S.Service.room g.S.Service.KIND _ _ _ _ (g.S.Service.counts service)
+    (seen g.D.Device.state c.args.rig.now) mid inv.given _ laws.rising inv.goes inv.alone (inv.good told)
+    (laws.n_is service mid _ _ inv.has) (laws.syncs_few service mid _ _ inv.has)
     (counted_read g.S.Service.KIND inv.reads c.in-Ok.ensures.reads.reads told (inv.counted told))
 
-pub returns-in-Err-clause-moves : goal.returns-in-Err-clause-moves
-returns-in-Err-clause-moves g c = λ told.
+pub returns-in_err-give-clause-goes : goal.returns-in_err-give-clause-goes
+returns-in_err-give-clause-goes g c =
     let inv = c.loop-next.invariant in
-    let t = c.in-Err.ensures in
+    goes_within _ _ (seen g.D.Device.state c.args.rig.now)
+    (seen g.D.Device.state c.loop-next.rig) (seen g.D.Device.state c.give.new.rig) inv.goes
+    inv.within c.in_err-give.ensures.goes
+
+pub returns-in_err-give-clause-reads : goal.returns-in_err-give-clause-reads
+returns-in_err-give-clause-reads g c =
+    reads_then _ _ _ _ _ _ _ c.loop-next.invariant.reads c.in-Ok.ensures.reads.reads
+
+pub returns-in_err-give-clause-moves : goal.returns-in_err-give-clause-moves
+returns-in_err-give-clause-moves g c = λ told.
+    let inv = c.loop-next.invariant in
     let l = c.in-Ok.ensures in
     let kind = g.S.Service.KIND in
-    let counts = g.S.Service.counts c.loop-next.service in
+    let laws = g.met.S.Service in
+    let service = c.loop-next.service in
+    let counts = g.S.Service.counts service in
+    let mid = seen g.D.Device.state c.loop-next.rig in
     let line = rw c.KIND.ensures at (rw inv.number at (rw c.in-Some.is at (l.taken told))) in
     let more = counted_more kind _ _ _ counts.n c.in-Some.command (inv.counted told) line in
     let taken = counted_left kind _ _ c.take_line.new.feed
     (g.H.Shelf.stand c.take_line.new.shelf) c.args.feed.now.slot (counts.n + 1) more
     (l.reads.reads.slot ∙ inv.reads.slot) (omega arith) in
-    call_reads g.S.Service.allowance g.S.Service.room kind _ _ _ (counts.n + 1) counts
-    (seen g.D.Device.state c.args.rig.now) (seen g.D.Device.state c.loop-next.rig)
-    (seen g.D.Device.state c.take.new.rig) g.met.S.Service.rising inv.goes.sound.shape
-    inv.goes.touches.told inv.goes.touches.shape inv.alone t.moves
-    (let m = taken_most kind (rest c.args.feed.now (g.H.Shelf.stand c.args.shelf.now))
-    ((g.H.Shelf.stand c.take_line.new.shelf).slot c.args.feed.now.slot).left in
-    omega (arith, taken, m))
+    command_reads g.S.Service.allowance g.S.Service.room kind _ _ _ _ counts
+    (seen g.D.Device.state c.args.rig.now) mid (seen g.D.Device.state c.give.new.rig) inv.given
+    c.in-Some.command _ laws.rising inv.goes inv.alone
+    (inv.good told ∙ ap (λ r. inv.given ++ r.good) line.from) (laws.n_is service mid _ _ inv.has)
+    (laws.syncs_few service mid _ _ inv.has) taken c.in_err-give.ensures.moves
 
-pub returns-in-Err-clause-goes : goal.returns-in-Err-clause-goes
-returns-in-Err-clause-goes g c =
+pub returns-in_err-give-clause-synced : goal.returns-in_err-give-clause-synced
+returns-in_err-give-clause-synced g c = λ told d.
     let inv = c.loop-next.invariant in
-    goes_within _ _ (seen g.D.Device.state c.args.rig.now)
-    (seen g.D.Device.state c.loop-next.rig) (seen g.D.Device.state c.take.new.rig) inv.goes
-    inv.within c.in-Err.ensures.goes
+    let v = c.in_err-give.ensures in
+    let kind = g.S.Service.KIND in
+    let line = rw c.KIND.ensures at (rw inv.number at (rw c.in-Some.is at (c.in-Ok.ensures.taken told))) in
+    given_stopped g.met.W.Sink.rule (g.met.W.Sink.is_state c.args.out.now) kind inv.given (inv.printed d) _ _
+    (inv.good told) c.in-Some.command _ (g.W.Sink.faults c.loop-next.out) (g.W.Sink.faults c.give.new.out)
+    (seen g.D.Device.state c.loop-next.rig) (seen g.D.Device.state c.give.new.rig) _ _
+    c.from_residual.ensures.1 (ap (λ r. r.good) line.from) v.cause
+    (v.prints (inv.goes.touches.told ∙ d) inv.given inv.has)
 
-pub returns-in-Err-clause-reads : goal.returns-in-Err-clause-reads
-returns-in-Err-clause-reads g c =
-    reads_then _ _ _ _ _ _ _ c.loop-next.invariant.reads c.in-Ok.ensures.reads.reads
-
-pub returns-in-Err-clause-stop : goal.returns-in-Err-clause-stop
-returns-in-Err-clause-stop g c =
+pub returns-in_err-give-clause-stop : goal.returns-in_err-give-clause-stop
+returns-in_err-give-clause-stop g c =
     let inv = c.loop-next.invariant in
-    let t = c.in-Err.ensures in
+    let v = c.in_err-give.ensures in
     let l = c.in-Ok.ensures in
     let kind = g.S.Service.KIND in
     let counts = g.S.Service.counts c.loop-next.service in
-    let held = g.S.Service.blocks c.args.service.now (seen g.D.Device.state c.args.rig.now) in
     let first = seen g.D.Device.state c.args.rig.now in
     let mid = seen g.D.Device.state c.loop-next.rig in
-    let last = seen g.D.Device.state c.take.new.rig in
-    record {
-      cause = cause_after held first mid last c.in-Err.fault inv.goes.touches t.cause;
-      full = filled_call g.S.Service.allowance g.S.Service.room (counts.n + 1) g.H.Shelf.tells
-          kind _ _ (g.S.Service.blocks c.loop-next.service mid) counts mid last c.in-Err.fault
-          g.met.S.Service.rising_room inv.goes.sound.shape t.goes.touches inv.alone
-          (pays_more t.owes (omega arith)) t.cause
-          (λ told.
-          let line = rw c.KIND.ensures at (rw inv.number at (rw c.in-Some.is at (l.taken told))) in
-          let more = counted_more kind _ _ _ counts.n c.in-Some.command (inv.counted told) line in
-          let taken = counted_left kind _ _ c.take_line.new.feed
-          (g.H.Shelf.stand c.take_line.new.shelf) c.args.feed.now.slot (counts.n + 1) more
-          (l.reads.reads.slot ∙ inv.reads.slot) (omega arith) in
-          record {
-            full = t.full;
-            most =
-                let m = taken_most kind (rest c.args.feed.now (g.H.Shelf.stand c.args.shelf.now))
-                ((g.H.Shelf.stand c.take_line.new.shelf).slot c.args.feed.now.slot).left in
-                omega (arith, taken, m);
-          });
-    }
+    let last = seen g.D.Device.state c.give.new.rig in
+    stops_command g.H.Shelf g.W.Sink g.S.Service.allowance g.S.Service.room kind c.args.feed.now c.args.shelf.now
+    c.take_line.new.shelf c.args.out.now c.loop-next.out c.give.new.out _ _ counts first mid last _ _
+    c.from_residual.ensures.1 g.met.S.Service.rising_room inv.goes v.goes.touches inv.alone inv.write_later
+    v.cause v.full (λ told.
+    let line = rw c.KIND.ensures at (rw inv.number at (rw c.in-Some.is at (l.taken told))) in
+    let more = counted_more kind _ _ _ counts.n c.in-Some.command (inv.counted told) line in
+    let taken = counted_left kind _ _ c.take_line.new.feed
+    (g.H.Shelf.stand c.take_line.new.shelf) c.args.feed.now.slot (counts.n + 1) more
+    (l.reads.reads.slot ∙ inv.reads.slot) (omega arith) in
+    let m = taken_most kind (rest c.args.feed.now (g.H.Shelf.stand c.args.shelf.now))
+    ((g.H.Shelf.stand c.take_line.new.shelf).slot c.args.feed.now.slot).left in
+    omega (arith, taken, m))
 
 pub loop-next-preserved : goal.loop-next-preserved
 loop-next-preserved g c =
     let inv = c.loop-next.invariant in
-    let t = c.in_default-take.ensures in
+    let v = c.in_ok-give.ensures in
     let l = c.in-Ok.ensures in
     let kind = g.S.Service.KIND in
     let counts = g.S.Service.counts c.loop-next.service in
@@ -132,21 +216,24 @@ loop-next-preserved g c =
     let after = rest c.take_line.new.feed (g.H.Shelf.stand c.take_line.new.shelf) in
     let first = seen g.D.Device.state c.args.rig.now in
     let mid = seen g.D.Device.state c.loop-next.rig in
-    let last = seen g.D.Device.state c.take.new.rig in
+    let last = seen g.D.Device.state c.give.new.rig in
     let held = g.S.Service.blocks c.args.service.now first in
     let line : IsTrue g.H.Shelf.tells → LineTaken kind (count + 1) before after command =
     λ told. rw c.KIND.ensures at (rw inv.number at (rw c.in-Some.is at (l.taken told))) in
-    let n = t.takes.n in
+    let n = v.takes.n in
     record {
-      goes = goes_within held _ first mid last inv.goes inv.within t.goes;
-      free = serves_same mid.pool last.pool inv.free t.goes.frames;
-      is = t.is;
-      within = within_then first mid held _ _ inv.goes.touches inv.within t.takes.within;
-      alone = alone_next g.S.Service.allowance g.S.Service.room _ _ counts
-          (g.S.Service.counts c.take.new.self) mid last g.met.S.Service.rising_room inv.goes.sound.shape
-          inv.alone t.goes.touches t.takes t.room t.moves;
+      goes = goes_within held _ first mid last inv.goes inv.within v.goes;
+      free = answers_same mid.pool last.pool inv.free v.goes.frames;
+      is = v.is;
+      within = within_then first mid held _ _ inv.goes.touches inv.within v.takes.within;
+      alone = alone_next g.S.Service.allowance g.S.Service.room (syncs_for kind (command ∷ [])) _ _ counts
+          (g.S.Service.counts c.give.new.service) mid last g.met.S.Service.rising_room inv.goes.sound.shape
+          inv.alone v.goes.touches v.takes v.room v.moves;
       given = inv.given ++ command ∷ [];
-      has = t.has inv.given inv.has;
+      has = v.has inv.given inv.has;
+      printed = λ d. printed_next g.met.W.Sink.rule (g.met.W.Sink.is_state c.args.out.now) kind inv.given
+          (inv.printed d) command (v.prints (inv.goes.touches.told ∙ d) inv.given inv.has).all;
+      write_later = omega (arith, inv.write_later, v.later);
       number = omega (arith, n, inv.number);
       few = let m = rw c.in-Some.is at l.number in omega (arith, m, n, inv.number);
       place = omega (arith, l.reads.place, inv.place, n);

@@ -1,16 +1,18 @@
 use Rattle.std.proofs.Common.{◌≡◌, ◌+◌, ◌-◌, ◌*◌, ◌≤◌, ◌^◌, ◌++◌, List, length, IsTrue}
 use Rattle.em_io.specs.Feed.{rest}
 use Rattle.em_model.specs.Stab.{stab_answers}
+use Rattle.em_model.specs.Sync.{since_sync, up_to_sync}
 use Rattle.em_model.specs.declared.command.Command.{Command}
 use Rattle.em_space.specs.Held.{Within}
-use Rattle.em_space.specs.Queue.{CanServe}
 use Rattle.em_space.specs.Rig.{Goes}
 use Rattle.em_space.specs.Seen.{seen}
 use Rattle.em_lines.specs.CommandLine.{parsed_from, first_fault, good_commands}
 use Rattle.em_lines.specs.Lines.{lines_of}
 use Rattle.em_lines.specs.Reads.{Reads}
-use Rattle.em_answers.specs.Reading.{StandsAlone}
 use Rattle.em_lines.proofs.ReadLaws.{Counted}
+use Rattle.em_services.specs.Service.{CanAnswer}
+use Rattle.em_answers.specs.Answer.{synced_text}
+use Rattle.em_answers.specs.Reading.{StandsAlone}
 use Rattle.em_answers.proofs.read.read_all.Given as goal
 
 abbrev pub invariant-loop-next : goal.invariant-loop-next
@@ -24,13 +26,16 @@ invariant-loop-next g l =
     let held = g.S.Service.blocks l.fn.service first in
     record {
       goes : Goes held first now;
-      free : CanServe now.pool;
+      free : CanAnswer now.pool;
       is : g.S.Service.IsService l.service now;
       within : Within first held (g.S.Service.blocks l.service now);
       alone : StandsAlone g.S.Service.allowance g.S.Service.room
           (g.S.Service.blocks l.service now) (g.S.Service.counts l.service) now;
       given : List Command;
-      has : g.S.Service.Has l.service now given;
+      has : g.S.Service.Has l.service now (up_to_sync given) (since_sync given);
+      printed : IsTrue first.device.told → g.W.Sink.state l.out
+          ≡ g.W.Sink.took (g.W.Sink.state l.fn.out) (synced_text kind given);
+      write_later : g.W.Sink.faults l.fn.out ≤ g.W.Sink.faults l.out;
       number : l.number ≡ n + 1;
       few : n ≤ 2 ^ 40;
       place : l.feed.place ≤ 48 * n;

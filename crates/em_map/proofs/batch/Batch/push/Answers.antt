@@ -13,15 +13,15 @@ push-requires-clause-later g c = λ told. next_later c.args.self.now
 
 pub returns-clause-takes : goal.returns-clause-takes
 returns-clause-takes g c = λ given ops. takes_command c.args.self.now
-    (record { tree = c.push.new.self; calls = c.args.self.now.calls + 1 })
+    (record { tree = c.push.new.self; calls = c.args.self.now.calls + 1; syncs = c.args.self.now.syncs })
     c.requires.is c.push.ensures.counts given
     (record { a = c.args.key; b = c.args.self.now.calls + 1; c = c.args.what; d = c.args.value })
-    c.requires.few refl ops refl c.push.result c.push.ensures.pushes
+    c.requires.few refl refl ops refl c.push.result c.push.ensures.pushes
 
 pub returns-clause-counts : goal.returns-clause-counts
 returns-clause-counts g c = counts_command c.args.self.now
-    (record { tree = c.push.new.self; calls = c.args.self.now.calls + 1 })
-    c.requires.is c.push.ensures.counts c.requires.sound refl
+    (record { tree = c.push.new.self; calls = c.args.self.now.calls + 1; syncs = c.args.self.now.syncs })
+    c.requires.is c.push.ensures.counts c.requires.sound refl refl
 
 pub returns-clause-room : goal.returns-clause-room
 returns-clause-room g c = λ told.

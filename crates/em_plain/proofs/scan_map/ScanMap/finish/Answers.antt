@@ -6,7 +6,7 @@ use Rattle.em_plain.proofs.scan_map.ScanMap.finish.Goals as goal
 pub returns-clause-most : goal.returns-clause-most
 returns-clause-most g c =
     let a = c.answer.ensures.done in
-    list_most (list_len c.args.self.list) a c.requires.sound c.requires.is (omega (arith, a.few))
+    list_most (list_len c.args.self.list) a c.requires.sound c.requires.is.list (omega (arith, a.few))
     (omega arith)
 
 pub returns-clause-full : goal.returns-clause-full

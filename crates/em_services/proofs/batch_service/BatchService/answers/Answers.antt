@@ -1,5 +1,5 @@
 use Rattle.em_space.specs.Seen.{seen}
-use Rattle.em_services.proofs.BatchAnswers.{answers_are, answers_gives, answers_items, answers_leaves, answers_moves, answers_full, answers_room_is, unfinished_full, unfinished_room}
+use Rattle.em_services.proofs.BatchAnswers.{answers_are, answers_gives, answers_items, answers_leaves, answers_moves, answers_full, answers_room_is, unfinished_full, unfinished_moves, unfinished_room}
 use Rattle.em_services.proofs.batch_service.BatchService.answers.Goals as goal
 
 pub order_answers-requires : goal.order_answers-requires
@@ -30,7 +30,7 @@ pub returns-in-Ok-clause-moves : goal.returns-in-Ok-clause-moves
 returns-in-Ok-clause-moves g c =
     answers_moves (seen g.D.Device.state c.args.rig.now) (seen g.D.Device.state c.finish.new.rig)
     (seen g.D.Device.state c.order_answers.new.rig) c.args.self c.in-Ok.answers
-    c.in-Ok.ensures.finishes c.order_answers.result c.order_answers.ensures.orders c.requires.is
+    c.in-Ok.ensures.finishes c.order_answers.result c.order_answers.ensures.orders c.requires.is c.requires.sound
     c.in-Ok.ensures.costs
 
 pub returns-in-Ok-clause-room : goal.returns-in-Ok-clause-room
@@ -58,3 +58,8 @@ returns-in-Err-clause-full g c =
     unfinished_full (seen g.D.Device.state c.args.rig.now) (seen g.D.Device.state c.finish.new.rig)
     c.args.self c.in-Err.fault c.in-Err.ensures.finishes c.requires.is c.requires.sound
     c.in-Err.ensures.over
+
+pub returns-in-Err-clause-moves : goal.returns-in-Err-clause-moves
+returns-in-Err-clause-moves g c =
+    unfinished_moves (seen g.D.Device.state c.args.rig.now) (seen g.D.Device.state c.finish.new.rig)
+    c.args.self c.in-Err.fault c.in-Err.ensures.finishes c.in-Err.ensures.costs c.requires.sound

@@ -1,4 +1,4 @@
-use Rattle.std.proofs.Common.{refl}
+use Rattle.std.proofs.Common.{◌++◌, refl}
 use Rattle.em_space.specs.Seen.{seen}
 use Rattle.em_pqueue.specs.contracts.queue.ExtQueueQueue.TheImpl.{ghosts as ext}
 use Rattle.em_ready.proofs.Queues.{fails_ext, makes_ext}
@@ -40,11 +40,11 @@ returns-in-Ok-clause-items g c =
     c.finish.ensures.finishes
 
 pub returns-in-Ok-clause-moves : goal.returns-in-Ok-clause-moves
-returns-in-Ok-clause-moves g c =
+returns-in-Ok-clause-moves g c = λ before cs h.
     finish_moves ext c.in-Ok.queue c.args.self (seen g.D.Device.state c.args.rig.now)
     (seen g.D.Device.state c.new.new.rig) c.requires.sound c.requires.is
     (makes_ext c.in-Ok.ensures.makes) (seen g.D.Device.state c.finish.new.rig) refl
-    c.finish.ensures.costs
+    c.finish.ensures.costs (before ++ cs) h
 
 pub returns-in-Ok-clause-owes : goal.returns-in-Ok-clause-owes
 returns-in-Ok-clause-owes g c =
@@ -74,11 +74,11 @@ returns-in-Err-clause-gives g c =
     c.abandon.ensures.leaves
 
 pub returns-in-Err-clause-moves : goal.returns-in-Err-clause-moves
-returns-in-Err-clause-moves g c =
+returns-in-Err-clause-moves g c = λ before cs h.
     unmade_moves c.args.self (seen g.D.Device.state c.args.rig.now)
     (seen g.D.Device.state c.new.new.rig) c.in-Err.fault c.requires.sound c.requires.is
     (fails_ext c.in-Err.ensures.stops) (seen g.D.Device.state c.abandon.new.rig)
-    c.abandon.ensures.leaves
+    c.abandon.ensures.leaves (before ++ cs) h
 
 pub returns-in-Err-clause-owes : goal.returns-in-Err-clause-owes
 returns-in-Err-clause-owes g c =
@@ -95,31 +95,31 @@ returns-in-Err-clause-cause g c =
     c.abandon.ensures.leaves
 
 pub returns-in-Ok-clause-room : goal.returns-in-Ok-clause-room
-returns-in-Ok-clause-room g c = λ cs h.
+returns-in-Ok-clause-room g c = λ before cs h.
     finish_room_is ext c.in-Ok.queue c.args.self (seen g.D.Device.state c.args.rig.now)
     (seen g.D.Device.state c.new.new.rig) c.requires.sound c.requires.is
     (makes_ext c.in-Ok.ensures.makes) (seen g.D.Device.state c.finish.new.rig) refl
-    (frames_of c.in-Ok.queue (seen g.D.Device.state c.new.new.rig) c.in-Ok.ensures.makes.is).fits cs h
+    (frames_of c.in-Ok.queue (seen g.D.Device.state c.new.new.rig) c.in-Ok.ensures.makes.is).fits (before ++ cs) h
     c.finish.ensures.costs
 
 pub returns-in-Ok-clause-full : goal.returns-in-Ok-clause-full
-returns-in-Ok-clause-full g c = λ cs h.
+returns-in-Ok-clause-full g c = λ before cs h.
     finish_full ext c.in-Ok.queue c.args.self (seen g.D.Device.state c.args.rig.now)
     (seen g.D.Device.state c.new.new.rig) c.requires.sound c.requires.is
     (makes_ext c.in-Ok.ensures.makes) (seen g.D.Device.state c.finish.new.rig) refl
-    (frames_of c.in-Ok.queue (seen g.D.Device.state c.new.new.rig) c.in-Ok.ensures.makes.is).fits cs h
+    (frames_of c.in-Ok.queue (seen g.D.Device.state c.new.new.rig) c.in-Ok.ensures.makes.is).fits (before ++ cs) h
     c.finish.result c.finish.ensures.full
 
 pub returns-in-Err-clause-room : goal.returns-in-Err-clause-room
-returns-in-Err-clause-room g c = λ cs h.
+returns-in-Err-clause-room g c = λ before cs h.
     unmade_room c.args.self (seen g.D.Device.state c.args.rig.now)
     (seen g.D.Device.state c.new.new.rig) c.in-Err.fault c.requires.sound c.requires.is
     (fails_ext c.in-Err.ensures.stops) (seen g.D.Device.state c.abandon.new.rig)
-    c.abandon.ensures.leaves cs h
+    c.abandon.ensures.leaves (before ++ cs) h
 
 pub returns-in-Err-clause-full : goal.returns-in-Err-clause-full
-returns-in-Err-clause-full g c = λ cs h.
+returns-in-Err-clause-full g c = λ before cs h.
     unmade_full c.args.self (seen g.D.Device.state c.args.rig.now)
     (seen g.D.Device.state c.new.new.rig) c.in-Err.fault c.requires.sound c.requires.is
     (fails_ext c.in-Err.ensures.stops) (seen g.D.Device.state c.abandon.new.rig)
-    c.abandon.ensures.leaves cs h
+    c.abandon.ensures.leaves (before ++ cs) h

@@ -1,0 +1,69 @@
+-- The runs of a map and of an interval list are within their transfer cost and the room.
+use Rattle.std.proofs.Common.{◌≡◌, ℕ, ◌+◌, ◌*◌, ◌≤◌, arith, Some}
+use Rattle.std.proofs.Math.Nat.{mul-le-mul, mul-le-mul_left}
+use Rattle.em_record.specs.Cost.{blocks_of, cost, room}
+use Rattle.em_record.specs.Shape.{IsShape, ShapeNumbers, payload_of}
+use Rattle.em_io.specs.declared.shelf.Shelf.{Ghosts as ShelfGhosts}
+use Rattle.em_io.specs.declared.sink.Sink.{Ghosts as SinkGhosts}
+use Rattle.em_space.specs.Rig.{RigState}
+use Rattle.em_chain.specs.Counts.{ceiling}
+use Rattle.em_tree_cost.specs.Shares.{floors_of, queue_share, stab_share}
+use Rattle.em_tree_cost.proofs.Services.{stab_cost}
+use Rattle.em_tree_cost.proofs.Wider.{blocks_wider, chain_most, floors_wider}
+use Rattle.em_lines.specs.declared.text.FileKind.TheVariants.{Map, Stab}
+use Rattle.em_ends.specs.declared.status.Status.{Status}
+use Rattle.em_ready.specs.Ready.{IsUnused}
+use Rattle.em_services.specs.BatchService.{map_share}
+use Rattle.em_services.proofs.BatchAnswers.{ceiling_share}
+use Rattle.em_answers.specs.FileRun.{Runs, RunsWithin}
+use Rattle.em_answers.specs.Reading.{service_limits}
+use Rattle.em_answers.proofs.Moves.{runs_by_cost}
+
+-- the moves of a map's run are within its transfer cost,
+map_few : (shape : ShapeNumbers) → IsShape shape → (n : ℕ)
+    → map_share shape n + ceiling n (payload_of shape) ≤ cost shape n
+map_few shape is n =
+    let q = blocks_of shape n in
+    let f = floors_of shape n in
+    let other = ceiling_share shape n n (omega arith) (let low = is.block_low in omega (arith, low)) in
+    let chain = chain_most shape n is in
+    let blocks = blocks_wider shape 2 n (2 * n) is (omega arith) in
+    let floors = floors_wider shape n (2 * n) is (omega arith) in
+    let queue : queue_share shape (2 * n) (2 * n) ≤ 240 * (2 * q + 1 + 1) * (2 * f) =
+    mul-le-mul {n₁ = 240 * (blocks_of shape (2 * n) + 1)} {m₁ = floors_of shape (2 * n)}
+    {n₂ = 240 * (2 * q + 1 + 1)} {m₂ = 2 * f} (omega (arith, blocks)) floors in
+    let some : (q + 1) * 1 ≤ (q + 1) * f = mul-le-mul_left (q + 1) (omega arith) in
+    omega (arith, other, chain, queue, some)
+
+-- and so is the run.
+pub map_runs : {H W : Type 0} (h : ShelfGhosts H) (w : SinkGhosts W) (s t : RigState) (shelf : H)
+    (out : W) (shelf_after : H) (out_after : W) (end : Status) → IsUnused s → s.moves ≡ 0
+    → RunsWithin h w (service_limits (Some map_share) (Some room)) Map s t shelf out shelf_after out_after end
+    → Runs h w Map s t shelf out shelf_after out_after end
+map_runs h w s t shelf out shelf_after out_after end unused none r =
+    let sound = unused.sound in
+    runs_by_cost Map (λ shape size. map_share shape size + ceiling size (payload_of shape))
+    room s t shelf out shelf_after out_after end r
+    (map_few s.pool.shape sound.shape) (λ n. omega arith)
+    (let moves = sound.moves_is in omega (arith, moves, none))
+
+-- the moves of a stab file's run are within its transfer cost,
+stab_few : (shape : ShapeNumbers) → IsShape shape → (n : ℕ)
+    → stab_share shape n + ceiling n (payload_of shape) ≤ cost shape n
+stab_few shape is n =
+    let other = ceiling_share shape n n (omega arith) (let low = is.block_low in omega (arith, low)) in
+    let all = stab_cost shape n (stab_share shape n) (ceiling n (payload_of shape)) 0 is (omega arith)
+    (omega (arith, other)) (omega arith) in
+    omega (arith, all)
+
+-- and so is the run.
+pub stab_runs : {H W : Type 0} (h : ShelfGhosts H) (w : SinkGhosts W) (s t : RigState) (shelf : H)
+    (out : W) (shelf_after : H) (out_after : W) (end : Status) → IsUnused s → s.moves ≡ 0
+    → RunsWithin h w (service_limits (Some stab_share) (Some room)) Stab s t shelf out shelf_after out_after end
+    → Runs h w Stab s t shelf out shelf_after out_after end
+stab_runs h w s t shelf out shelf_after out_after end unused none r =
+    let sound = unused.sound in
+    runs_by_cost Stab (λ shape size. stab_share shape size + ceiling size (payload_of shape))
+    room s t shelf out shelf_after out_after end r
+    (stab_few s.pool.shape sound.shape) (λ n. omega arith)
+    (let moves = sound.moves_is in omega (arith, moves, none))

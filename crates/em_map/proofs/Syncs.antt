@@ -1,0 +1,247 @@
+-- A sync of a batch: its tree is settled, and then its answers are handed out.
+use Rattle.std.specs.Prelude.{◌≡◌, Bool, ℕ, ◌+◌, ◌<◌, ◌≤◌, ◌^◌, List, [], ◌∷◌, ◌++◌, length, IsTrue, Result, Ok, Err, IfErr}
+use Rattle.std.proofs.Common.{sym, ap, subst, ◌∙◌, arith}
+use Rattle.std.specs.List.Sorted.{IsPermutation}
+use Rattle.std.specs.Result.{IsErrAnd}
+use Rattle.std.proofs.lemmas.List.{append-nil, length-append}
+use Rattle.std.proofs.lemmas.List.Sorted.{IsPermutation-refl, IsPermutation-trans}
+use Rattle.em_record.specs.Cost.{room}
+use Rattle.em_record.specs.Shape.{ShapeNumbers}
+use Rattle.em_record.specs.declared.record.Record.{Record}
+use Rattle.em_model.specs.Live.{live_pairs}
+use Rattle.em_model.specs.MapAnswers.{answers_after}
+use Rattle.em_model.specs.declared.command.Command.{Command}
+use Rattle.em_model.specs.declared.command.Command.TheVariants.{Sync}
+use Rattle.em_model.proofs.SyncLaws.{syncs-append}
+use Rattle.em_settle.specs.Map.{IsMapKept, IsMapOp, map_key_of, map_step_of}
+use Rattle.em_settle.specs.States.{answers_to, with_ops}
+use Rattle.em_space.specs.Queue.{Pays}
+use Rattle.em_space.specs.Rig.{RigState, Sound}
+use Rattle.em_space.specs.declared.fault.EmFault.{EmFault}
+use Rattle.em_space.proofs.Ledgers.{full_never}
+use Rattle.em_space.proofs.Paying.{pays_then}
+use Rattle.em_space.proofs.Sessions.{session_trans}
+use Rattle.em_space.proofs.Steps.{cause_after, same_frames_then}
+use Rattle.em_space.proofs.Within.{goes_within}
+use Rattle.em_chain.specs.Chain.{chain_blocks, chain_items}
+use Rattle.em_chain.specs.declared.chain.Chain.{Chain}
+use Rattle.em_tree_cost.specs.Books.{TreeCounts, count_settle}
+use Rattle.em_tree_model.specs.Meaning.{nothing, tree_answers, tree_contents}
+use Rattle.em_tree_model.specs.Owed.{owed}
+use Rattle.em_tree_model.specs.Tree.{Tree, stored_in, waiting_in}
+use Rattle.em_tree_model.proofs.Takes.{nothing_owed}
+use Rattle.em_tree.specs.Calls.{CountsCall, FullIfUntrim, SettledTrunk, StopsTrunk}
+use Rattle.em_tree.specs.Handing.{HandedAnswers, HandsAnswers, StopsHanding}
+use Rattle.em_trunk.specs.Room.{FullOverRoom, WithinRoom}
+use Rattle.em_trunk.specs.Trunk.{counts_of, given_by, model_of, trunk_blocks, trunk_unstored}
+use Rattle.em_trunk.specs.declared.trunk.Trunk.{Trunk}
+use Rattle.em_map.specs.Batch.{CountsSync, HasCommands, IsBatch, SyncedBatch, SyncsBatch, batch_blocks, contents_after, trunk_of}
+use Rattle.em_map.specs.Commands.{map_ops, ops_after}
+use Rattle.em_map.specs.Contents.{WaitsUpTo}
+use Rattle.em_map.specs.declared.batch.Batch.{Batch}
+use Rattle.em_map.proofs.Contents.{answers_follow}
+use Rattle.em_map.proofs.Live.{room_rises, stored_live}
+use Rattle.em_map.proofs.Numbers.{waits_still}
+use Rattle.em_map.proofs.Ordered.{in_order_of}
+use Rattle.em_map.proofs.Pushed.{ops_append}
+use Rattle.em_map.proofs.Rooms.{within_more}
+use Rattle.em_map.proofs.Shares.{within_batch}
+
+-- what the fault of a callee says of the result
+pub syncs_err : (s t : RigState) (b d : Batch) (result : Result Chain EmFault) (e : EmFault)
+    → IsErrAnd result (λ f. f ≡ e) → StopsTrunk s t (trunk_of b) (trunk_of d) e → SyncsBatch s t b d result
+syncs_err s t b d (Ok c) e h k = absurd h
+syncs_err s t b d (Err f) e h k =
+    subst (λ (g : EmFault). StopsTrunk s t (trunk_of b) (trunk_of d) g) (sym h) k
+
+-- a sync is no operation
+ops_synced : (before cs : List Command) → map_ops (before ++ cs ++ Sync ∷ []) ≡ map_ops (before ++ cs)
+ops_synced before cs = ops_append 1 (before ++ cs) (Sync ∷ []) ∙ append-nil (map_ops (before ++ cs))
+
+-- The numbers, once the tree was settled, or gave up: `d` has counts that are those of that tree, and at most one move more
+-- was made.
+module _ {s m : RigState} (b d : Batch) {x : Trunk} (sound : Sound s) (is : IsBatch s b) (few : b.calls < 2 ^ 40)
+    (c : CountsCall (count_settle 0) s m (trunk_of b) x) (calls : d.calls ≡ b.calls + 1) (syncs : d.syncs ≡ b.syncs + 1)
+    (same : counts_of (trunk_of d) ≡ counts_of x) where
+  pushed_same : (trunk_of d).pushed ≡ (trunk_of b).pushed
+  pushed_same = ap (λ (z : TreeCounts). z.n) (same ∙ c.counts)
+
+  longest_same : (trunk_of d).longest ≡ (trunk_of b).longest
+  longest_same = ap (λ (z : TreeCounts). z.k) (same ∙ c.counts)
+
+  settled_more : (trunk_of d).settled ≡ (trunk_of b).settled + 1
+  settled_more = ap (λ (z : TreeCounts). z.y) (same ∙ c.counts)
+
+  resets_same : (trunk_of d).resets ≡ 0
+  resets_same = ap (λ (z : TreeCounts). z.z) (same ∙ c.counts) ∙ is.unreset
+
+  spent_same : (trunk_of d).spent ≡ x.spent
+  spent_same = ap (λ (z : TreeCounts). z.spent) same
+
+  pub counts_sync : (t : RigState) → t.moves ≤ m.moves + 1 → CountsSync s t b d
+  counts_sync t more = record {
+    calls = calls;
+    syncs = syncs;
+    counts = same ∙ c.counts ∙ ap (λ n. count_settle 0 (record (counts_of (trunk_of b)) { spent = n })) (sym spent_same);
+    moves = omega (arith, more, c.spent, spent_same, syncs);
+    share = λ told.
+        let k : x.longest ≡ (trunk_of b).longest = ap (λ (z : TreeCounts). z.k) c.counts in
+        let n : x.pushed ≡ (trunk_of b).pushed = ap (λ (z : TreeCounts). z.n) c.counts in
+        let y : x.settled ≡ (trunk_of b).settled + 1 = ap (λ (z : TreeCounts). z.y) c.counts in
+        let z : x.resets ≡ 0 = ap (λ (z : TreeCounts). z.z) c.counts ∙ is.unreset in
+        let all = within_batch s.pool.shape x.pushed d.calls x.longest x.resets x.settled d.syncs x.spent d.syncs
+        sound.shape (omega (arith, n, is.pushed, calls)) (omega (arith, k, is.longest, calls)) z
+        (omega (arith, y, is.settled, syncs)) (c.share told).within (omega arith) in
+        omega (arith, all, spent_same);
+  }
+
+  -- The tree was settled, and its answers were handed out.
+  module _ {t : RigState} {h : Chain}
+      (f : SettledTrunk map_key_of map_step_of IsMapOp IsMapKept s m (trunk_of b) x)
+      (g : HandedAnswers map_key_of IsMapOp IsMapKept m t x (trunk_of d) h) where
+    abbrev v : Trunk
+    v = trunk_of b
+
+    abbrev w : Trunk
+    w = trunk_of d
+
+    told_m : IsTrue s.device.told → IsTrue m.device.told
+    told_m z = f.changes.session.touches.told ∙ z
+
+    back : IsTrue t.device.told → IsTrue s.device.told
+    back z =
+        let e : t.device.told ≡ s.device.told = g.session.touches.told ∙ f.changes.session.touches.told in
+        subst (λ (b : Bool). IsTrue b) e z
+
+    -- no operation waits
+    none_waits : IsTrue s.device.told → waiting_in (model_of t w) ≡ []
+    none_waits z = ap waiting_in (g.model (told_m z)) ∙ (f.settled z).waiting
+
+    contents_same : IsTrue s.device.told → (q : Record) → tree_contents map_key_of map_step_of (model_of t w) q
+        ≡ tree_contents map_key_of map_step_of (model_of s v) q
+    contents_same z q = ap (λ (u : Tree). tree_contents map_key_of map_step_of u q) (g.model (told_m z))
+        ∙ (f.changes.meaning z).contents q
+
+    batch_synced : IsBatch t d
+    batch_synced = record {
+      is = g.is;
+      pushed = omega (arith, pushed_same, is.pushed, calls, syncs);
+      longest = omega (arith, longest_same, is.longest, calls);
+      few = omega (arith, few, calls);
+      settled = omega (arith, settled_more, is.settled, syncs);
+      unreset = resets_same;
+      waits = λ told. let z = back told in
+          subst (λ n. WaitsUpTo n (model_of t w)) (sym calls)
+          (subst (λ (u : Tree). WaitsUpTo (b.calls + 1) u) (sym (g.model (told_m z)))
+          (waits_still b.calls (model_of s v) (model_of m x) (f.changes.meaning z).advances (is.waits z)));
+    }
+
+    has_synced : (before cs : List Command) → HasCommands s b before cs
+        → HasCommands t d (before ++ cs ++ Sync ∷ []) []
+    has_synced before cs k = record {
+      calls = omega (arith, calls, k.calls, length-append before cs, length-append (before ++ cs) (Sync ∷ []));
+      syncs = omega (arith, syncs, k.syncs, syncs-append before cs, syncs-append (before ++ cs) (Sync ∷ []));
+      contents = λ told q. let z = back told in
+          contents_same z q ∙ k.contents z q
+          ∙ sym (ap (λ ops. with_ops map_key_of map_step_of nothing ops q)
+          (ap map_ops (append-nil (before ++ cs ++ Sync ∷ [])) ∙ ops_synced before cs));
+      answers = λ told. let z = back told in
+          let none : tree_answers map_key_of map_step_of (given_by t w) (model_of t w) ≡ [] =
+          ap (λ (rs : List Record). rs ++ owed map_key_of map_step_of (model_of t w)) (g.none (told_m z))
+          ∙ nothing_owed map_key_of map_step_of (model_of t w) (none_waits z) in
+          subst (λ rs. IsPermutation [] rs) (sym none) (IsPermutation-refl []);
+    }
+
+    answers_synced : IsTrue s.device.told → (before cs : List Command) → HasCommands s b before cs
+        → IsPermutation (answers_after before cs) (chain_items t h)
+    answers_synced z before cs k =
+        subst (λ rs. IsPermutation rs (chain_items t h)) (answers_follow before cs)
+        (subst (λ rs. IsPermutation (answers_to map_key_of map_step_of (contents_after before) (ops_after before cs)) rs)
+        (sym (g.items (told_m z)))
+        (IsPermutation-trans _ _ _ (k.answers z) (f.settled z).answers))
+
+    held_synced : IsTrue s.device.told → (before cs : List Command) → HasCommands s b before cs
+        → length (batch_blocks t d) ≤ room t.pool.shape (live_pairs (before ++ cs))
+    held_synced z before cs k =
+        let model = model_of m x in
+        let live : length (stored_in model) ≤ live_pairs (before ++ cs) =
+        stored_live model (f.changes.is.running.stands (told_m z)).is (f.settled z).waiting (before ++ cs)
+        (λ q. (f.changes.meaning z).contents q ∙ k.contents z q) in
+        let most = f.held z in
+        let rises = room_rises m.pool.shape (length (stored_in model)) (live_pairs (before ++ cs)) live in
+        let lost = g.loses (told_m z) in
+        let parts = length-append (chain_blocks t h) (trunk_blocks t w) in
+        let blocks = (g.chain.told (back_t z)).list.blocks_is in
+        subst (λ (p : ShapeNumbers). length (batch_blocks t d) ≤ room p (live_pairs (before ++ cs)))
+        (sym g.session.touches.shape) (omega (arith, most, rises, lost, parts, blocks, g.blocks, g.same.used))
+      where
+        back_t : IsTrue s.device.told → IsTrue t.device.told
+        back_t z = g.session.touches.told ∙ told_m z
+
+    pub synced_batch : SyncedBatch s t b d h
+    synced_batch = record {
+      is = batch_synced;
+      chain = g.chain;
+      packed = λ z. g.packed (told_m z);
+      session = session_trans f.changes.session g.session;
+      frames = same_frames_then s.pool m.pool t.pool f.changes.frames g.frames;
+      pays = pays_then f.changes.pays g.pays g.session.touches.moves;
+      loses = λ z. let a = f.changes.loses z in let e = g.loses (told_m z) in omega (arith, a, e);
+      commands = has_synced;
+      answers = answers_synced;
+      ordered = λ z before cs k. in_order_of before cs (chain_items t h) (answers_synced z before cs k);
+      held = held_synced;
+    }
+
+  -- The last block of the answers couldn't be stored.
+  pub unhanded : {t : RigState} {e : EmFault}
+      → SettledTrunk map_key_of map_step_of IsMapOp IsMapKept s m (trunk_of b) x
+      → StopsHanding m t x (trunk_of d) e → StopsTrunk s t (trunk_of b) (trunk_of d) e
+  unhanded {t} {e} f g = record {
+    goes = goes_within (batch_blocks s b) (trunk_blocks m x) s m t
+        (record { sound = f.changes.session.sound; touches = f.changes.session.touches; frames = f.changes.frames })
+        f.changes.session.within g.stops.goes;
+    frames = g.stops.frames;
+    pays = pays_then f.changes.pays
+        (subst (λ (n : ℕ). Pays (trunk_unstored x) n m t)
+        (ap (λ (p : _). p.frames) f.changes.session.touches.shape) g.stops.pays) g.stops.goes.touches.moves;
+    cause = cause_after (batch_blocks s b) s m t e f.changes.session.touches g.stops.cause;
+  }
+
+-- What a sync did, by the result of handing out.
+module _ (s m t : RigState) (b d : Batch) (x : Trunk) (sound : Sound s) (is : IsBatch s b) (few : b.calls < 2 ^ 40)
+    (c : CountsCall (count_settle 0) s m (trunk_of b) x) (calls : d.calls ≡ b.calls + 1) (syncs : d.syncs ≡ b.syncs + 1)
+  where
+    pub synced_to : SettledTrunk map_key_of map_step_of IsMapOp IsMapKept s m (trunk_of b) x
+        → (result : Result Chain EmFault) → HandsAnswers map_key_of IsMapOp IsMapKept m t x (trunk_of d) result
+        → SyncsBatch s t b d result
+    synced_to f (Ok h) g = synced_batch b d sound is few c calls syncs g.counts f g
+    synced_to f (Err e) g = unhanded b d sound is few c calls syncs g.counts f g
+
+    pub counts_to : (result : Result Chain EmFault)
+        → HandsAnswers map_key_of IsMapOp IsMapKept m t x (trunk_of d) result → CountsSync s t b d
+    counts_to (Ok h) g = counts_sync b d sound is few c calls syncs g.counts t (omega (arith, g.moves))
+    counts_to (Err e) g = counts_sync b d sound is few c calls syncs g.counts t (omega (arith, g.moves))
+
+module _ (s m t : RigState) (b : Batch) (x w : Trunk) where
+  -- Handing answers out takes no block,
+  pub room_to : (result : Result Chain EmFault) → HandsAnswers map_key_of IsMapOp IsMapKept m t x w result
+      → WithinRoom (trunk_of b).longest s m (trunk_of b) → (trunk_of b).longest ≤ b.calls
+      → WithinRoom b.calls s t (trunk_of b)
+  room_to (Ok h) g r l =
+      let k = within_more (trunk_of b).longest b.calls l r in
+      record { most = omega (arith, k.most, g.same.most) }
+  room_to (Err e) g r l =
+      let k = within_more (trunk_of b).longest b.calls l r in
+      record { most = omega (arith, k.most, g.same.most) }
+
+  -- so that it is never refused as full.
+  pub over_to : (result : Result Chain EmFault) → HandsAnswers map_key_of IsMapOp IsMapKept m t x w result
+      → IfErr result (λ fault. IsTrue s.device.told → FullOverRoom b.calls s (trunk_of b) fault)
+  over_to (Ok h) g = tt
+  over_to (Err e) g = λ z. record { full = full_never m t e _ g.cause }
+
+  pub needs_to : (result : Result Chain EmFault) → HandsAnswers map_key_of IsMapOp IsMapKept m t x w result
+      → IfErr result (FullIfUntrim s (trunk_of b))
+  needs_to (Ok h) g = tt
+  needs_to (Err e) g = full_never m t e _ g.cause

@@ -1,0 +1,329 @@
+-- A sync of a batch, and its answers in order.
+use Rattle.std.proofs.Common.{◌≡◌, ℕ, ◌+◌, ◌*◌, ◌≤◌, ◌<◌, List, [], ◌∷◌, ◌++◌, length, length-append, ap, sym, ◌∙◌, arith, IsTrue, Some, Result, Ok, Err, OnOk, OnErr, IfOk, IfErr}
+use Rattle.em_record.specs.Cost.{room}
+use Rattle.em_record.proofs.Order.{length_order}
+use Rattle.em_record.specs.Shape.{ShapeNumbers, fan_of, payload_of}
+use Rattle.em_record.specs.declared.record.Record.{Record}
+use Rattle.em_frames.specs.Pool.{SameFrames, singles_of}
+use Rattle.em_model.specs.MapAnswers.{answers_after}
+use Rattle.em_model.specs.declared.command.Command.{Command}
+use Rattle.em_model.specs.declared.command.Command.TheVariants.{Sync}
+use Rattle.em_space.specs.Queue.{Pays}
+use Rattle.em_space.specs.Rig.{Cause, Goes, RigState, Sound, Touches}
+use Rattle.em_space.specs.declared.fault.EmFault.{EmFault}
+use Rattle.em_space.proofs.Paying.{pays_more, pays_then}
+use Rattle.em_space.proofs.Sessions.{session_as, session_others, session_then}
+use Rattle.em_space.proofs.Steps.{cause_after, same_frames_then}
+use Rattle.em_space.proofs.Apart.{off_left}
+use Rattle.em_space.proofs.Within.{touches_within}
+use Rattle.em_chain.specs.Chain.{chain_blocks, chain_items}
+use Rattle.em_chain.specs.Counts.{ceiling}
+use Rattle.em_chain.specs.declared.chain.Chain.{Chain}
+use Rattle.em_chain.proofs.Counts.{packed_blocks}
+use Rattle.em_chain.proofs.Readers.{length_items}
+use Rattle.em_plain.specs.Room.{StaysWithin}
+use Rattle.em_tree.specs.Calls.{StopsTrunk}
+use Rattle.em_tree_cost.specs.Shares.{tree_room}
+use Rattle.em_tree_cost.proofs.Rising.{queue_share_rises, tree_room_rises}
+use Rattle.em_tree_walk.proofs.Losses.{chain_length}
+use Rattle.em_trunk.specs.Room.{FullOverRoom as TreeFullOverRoom, WithinRoom as TreeWithinRoom}
+use Rattle.em_map.specs.Batch.{BatchHasFrames, CountsSync, HasCommands, SyncedBatch, batch_blocks, batch_spent, batch_unstored, trunk_of}
+use Rattle.em_map.specs.declared.batch.Batch.{Batch}
+use Rattle.em_map.proofs.Rooms.{given_blocks}
+use Rattle.em_map.proofs.Stays.{BatchStays, batch_beside, batch_frames_stay}
+use Rattle.em_ready.proofs.RoomLaws.{commands_room, over_used, room_rises, when_full}
+use Rattle.em_services.specs.BatchService.{AreAnswers, IsGivenBatch, OrdersAnswers, answers_share, batch_counts, map_share, ordering_moves, ordering_room}
+use Rattle.em_services.specs.InOrder.{lists_room}
+use Rattle.em_services.specs.Service.{CanAnswer, FullOverRoom, GivesAtSync, WithinAllowance, WithinRoom}
+use Rattle.em_services.proofs.AnswerOrder.{answers_lack, answers_most}
+use Rattle.em_services.proofs.BatchAnswers.{ceiling_share}
+use Rattle.em_services.proofs.Moves.{call_moves, share_at, sync_spends, times_rise, two_rooms, within_map}
+use Rattle.em_services.proofs.SyncRoom.{held_blocks, none_given, sync_room}
+
+-- reading and releasing a list of no more blocks
+list_more : (order blocks most all : ℕ) → blocks ≤ most → order + 3 * most ≤ all → order + 3 * blocks ≤ all
+list_more order blocks most all few h = omega (arith, few, h)
+
+list_less : (order most all : ℕ) → order + 3 * most ≤ all → order ≤ all
+list_less order most all h = omega (arith, h)
+
+-- What its tree holds while it is settled is within the room of a command more.
+own_room : (s : RigState) (b : Batch) → IsGivenBatch s b → Sound s → IsTrue s.device.told
+    → tree_room s.pool.shape b.calls + (trunk_of b).answers.blocks ≤ room s.pool.shape (b.calls + 1)
+own_room s b i sound z =
+    let given = given_blocks s b i.before i.since i.is i.has z sound.shape in
+    let one = commands_room s.pool.shape b.calls b.calls (trunk_of b).answers.blocks sound.shape (omega arith) given in
+    let more = room_rises s.pool.shape b.calls (b.calls + 1) (omega arith) in
+    omega (arith, one, more)
+
+-- The tree was settled, and handed out the answers: no more of them than commands,
+module _ (s m : RigState) (b d : Batch) (c : Chain) (f : SyncedBatch s m b d c) (i : IsGivenBatch s b) where
+  told_m : IsTrue s.device.told → IsTrue m.device.told
+  told_m z = f.session.touches.told ∙ z
+
+  handed_count : IsTrue s.device.told → c.count ≤ b.calls
+  handed_count z =
+      let n = length_items m c f.chain (told_m z) in
+      let l = answers_most i.before i.since (chain_items m c) (f.ordered z i.before i.since i.has) in
+      let calls = i.has.calls in
+      omega (arith, n, l, calls)
+
+  -- which can be put in order,
+  pub handed_are : CanAnswer s.pool → AreAnswers m c
+  handed_are free = record {
+    sound = f.session.sound;
+    free = record {
+      singles = let e = ap fan_of f.frames.shape in omega (arith, e, f.frames.free, free.singles);
+      areas = omega (arith, f.frames.free_areas, free.areas);
+      rack = f.frames.rack ∙ free.rack;
+    };
+    areas = omega (arith, f.frames.free_areas, free.areas);
+    is = f.chain;
+    few = λ z.
+        let n = handed_count (sym f.session.touches.told ∙ z) in
+        let few = i.is.few in omega (arith, n, few);
+    lacks = λ z. answers_lack i.before i.since (chain_items m c)
+        (f.ordered (sym f.session.touches.told ∙ z) i.before i.since i.has);
+  }
+
+  -- in packed blocks.
+  handed_blocks : IsTrue s.device.told → c.blocks ≡ ceiling c.count (payload_of m.pool.shape)
+  handed_blocks z = packed_blocks m c f.session.sound.shape.block_low f.chain (told_m z) (f.packed z)
+
+  handed_used : IsTrue s.device.told → m.used + length (batch_blocks s b) ≡ s.used + (c.blocks + length (batch_blocks m d))
+  handed_used z =
+      let used = f.loses z in
+      let own = chain_length f.chain (told_m z) in
+      let parts = length-append (chain_blocks m c) (batch_blocks m d) in
+      omega (arith, used, own, parts)
+
+  -- The queue's moves, those of both lists, and those of reading and releasing the second one.
+  order_share : (n : ℕ) → b.calls ≤ n → IsTrue s.device.told
+      → ordering_moves m c + 3 * ceiling c.count (payload_of m.pool.shape) ≤ answers_share s.pool.shape n
+  order_share n more z =
+      let few = handed_count z in
+      let low = f.session.sound.shape.block_low in
+      let blocks = handed_blocks z in
+      let most = ceiling_share m.pool.shape c.count n (omega (arith, few, more)) (omega (arith, low)) in
+      let queue = queue_share_rises m.pool.shape (2 * c.count) (2 * n) (2 * c.count) (2 * n)
+      (omega (arith, few, more)) (omega (arith, few, more)) in
+      rw (← f.frames.shape) (omega (arith, blocks, most, queue))
+
+  calls_one : d.calls ≤ b.calls + 1
+  calls_one =
+      let before = i.has.calls in
+      let after = (f.commands i.before i.since i.has).calls in
+      let one = length-append (i.before ++ i.since) (Sync ∷ []) in
+      let all = length-append i.before i.since in
+      omega (arith, after, before, one, all)
+
+  -- The batch's tree beside the queue and both lists,
+  order_beside : IsTrue s.device.told
+      → length (batch_blocks m d) + ordering_room m c ≤ room s.pool.shape (b.calls + 1)
+  order_beside z =
+      let few = handed_count z in
+      let blocks = handed_blocks z in
+      let has = f.commands i.before i.since i.has in
+      let own = held_blocks m d f.session.sound f.is (told_m z) in
+      let none = none_given m d (i.before ++ i.since ++ Sync ∷ []) f.session.sound f.is has (told_m z) in
+      let rises = tree_room_rises m.pool.shape d.calls (b.calls + 1) calls_one in
+      let fits = sync_room m.pool.shape c.count (b.calls + 1) (lists_room m c) f.session.sound.shape
+      (omega (arith, few)) (omega (arith, blocks)) in
+      rw (← f.frames.shape) (omega (arith, own, none, rises, fits))
+
+  -- and they were put in order, or the call gave up.
+  module _ (t : RigState) (n : CountsSync s m b d) (sound : Sound s) where
+    order_touches : (result : Result Chain EmFault) → OrdersAnswers m t c result → Touches (chain_blocks m c) m t
+    order_touches (Ok e) o = o.session.touches
+    order_touches (Err fault) o = o.goes.touches
+
+    order_sound : (result : Result Chain EmFault) → OrdersAnswers m t c result → Sound t
+    order_sound (Ok e) o = o.session.sound
+    order_sound (Err fault) o = o.goes.sound
+
+    order_frames : (result : Result Chain EmFault) → OrdersAnswers m t c result → SameFrames m.pool t.pool
+    order_frames (Ok e) o = o.frames
+    order_frames (Err fault) o = o.goes.frames
+
+    pub synced_goes : (result : Result Chain EmFault) → OrdersAnswers m t c result → Goes (batch_blocks s b) s t
+    synced_goes result o = record {
+      sound = order_sound result o;
+      touches = touches_within s m t (batch_blocks s b) (chain_blocks m c) f.session.touches
+          (record { off = λ z j u k. off_left j (chain_blocks m c) (batch_blocks m d) (f.session.within.off z j u k) })
+          (order_touches result o);
+      frames = same_frames_then s.pool m.pool t.pool f.frames (order_frames result o);
+    }
+
+    -- its two frames are out
+    frames_out : (result : Result Chain EmFault) → OrdersAnswers m t c result
+        → t.pool.free + 2 ≤ singles_of t.pool.shape
+    frames_out result o =
+        let out = f.is.is.running.frames.out in
+        let same = order_frames result o in
+        let shape = ap singles_of same.shape in
+        omega (arith, out, same.free, shape)
+
+    pub synced_frames : (result : Result Chain EmFault) → OrdersAnswers m t c result → BatchHasFrames t d
+    synced_frames result o = batch_frames_stay (chain_blocks m c) m t d (order_touches result o) (frames_out result o)
+        f.is.is.running.frames
+
+    beside : (result : Result Chain EmFault) → OrdersAnswers m t c result → BatchStays m t d
+    beside result o = batch_beside (chain_blocks m c) m t d (order_touches result o) (frames_out result o) f.is
+        (λ z. session_others (chain_blocks m c) (batch_blocks m d) f.session (sym f.session.touches.told ∙ z))
+
+    pub synced_is : (result : Result Chain EmFault) → OrdersAnswers m t c result → OnOk result (IsGivenBatch t d)
+    synced_is (Ok e) o =
+        let st = beside (Ok e) o in
+        record {
+          is = st.is;
+          before = i.before ++ i.since ++ Sync ∷ [];
+          since = [];
+          has = st.commands (i.before ++ i.since ++ Sync ∷ []) [] (f.commands i.before i.since i.has);
+        }
+    synced_is (Err fault) o = tt
+
+    pub synced_has : (result : Result Chain EmFault) → OrdersAnswers m t c result
+        → OnOk result ((before cs : List Command) → HasCommands s b before cs
+        → HasCommands t d (before ++ cs ++ Sync ∷ []) [])
+    synced_has (Ok e) o = λ before cs h.
+        (beside (Ok e) o).commands (before ++ cs ++ Sync ∷ []) [] (f.commands before cs h)
+    synced_has (Err fault) o = tt
+
+    pub synced_items : (result : Result Chain EmFault) → OrdersAnswers m t c result
+        → IfOk result (λ e. IsTrue s.device.told → (before cs : List Command) → HasCommands s b before cs
+        → chain_items t e ≡ answers_after before cs)
+    synced_items (Ok e) o = λ z before cs h. o.items (told_m z) ∙ f.ordered z before cs h
+    synced_items (Err fault) o = tt
+
+    -- the second list has no more blocks than the first
+    ordered_blocks : (e : Chain) → OrdersAnswers m t c (Ok e) → IsTrue s.device.told
+        → e.blocks ≤ ceiling c.count (payload_of m.pool.shape)
+    ordered_blocks e o z =
+        let here = o.session.touches.told ∙ told_m z in
+        let same = ap (λ (rs : List Record). length rs) (o.items (told_m z)) in
+        let count = length_items t e o.is here in
+        let first = length_items m c f.chain (told_m z) in
+        let order = length_order (chain_items m c) in
+        let blocks = packed_blocks t e o.session.sound.shape.block_low o.is here (o.packed (told_m z)) in
+        let shape = ap (λ (p : ShapeNumbers). ceiling e.count (payload_of p)) o.frames.shape in
+        let equal : e.count ≡ c.count = omega (arith, same, count, first, order) in
+        let fill = ap (λ (k : ℕ). ceiling k (payload_of m.pool.shape)) equal in
+        let all : e.blocks ≡ ceiling c.count (payload_of m.pool.shape) = blocks ∙ shape ∙ fill in
+        omega (arith, all)
+
+    sync_spent : (e : Chain) → OrdersAnswers m t c (Ok e) → IsTrue s.device.told
+        → t.moves + 3 * e.blocks + (batch_counts b).spent s.pool.shape ≤ s.moves + (batch_counts d).spent s.pool.shape
+    sync_spent e o z =
+        let calls = n.calls in
+        let rest = order_share d.calls (omega (arith, calls)) z in
+        let blocks = ordered_blocks e o z in
+        sync_spends b.syncs d.syncs (answers_share s.pool.shape b.calls) (answers_share s.pool.shape d.calls) (batch_spent b)
+        (batch_spent d) (ordering_moves m c) (3 * e.blocks) s.moves m.moves t.moves n.syncs (o.moves (told_m z)) n.moves
+        (list_more (ordering_moves m c) e.blocks (ceiling c.count (payload_of m.pool.shape))
+        (answers_share s.pool.shape d.calls) blocks rest)
+        (times_rise s.pool.shape b.calls d.calls b.syncs sound.shape (omega (arith, calls)))
+
+    pub synced_gives : (result : Result Chain EmFault) → OrdersAnswers m t c result
+        → IfOk result (GivesAtSync (Some map_share) (Some room) (batch_blocks s b) (batch_blocks t d)
+        (batch_counts b) (batch_counts d) s t)
+    synced_gives (Ok e) o = record {
+      is = o.is;
+      packed = λ z. o.packed (told_m z);
+      session = session_as (chain_blocks t e ++ batch_blocks t d)
+          (session_then (chain_blocks m c) (chain_blocks t e) (batch_blocks m d) f.session o.session)
+          (λ z. ap (λ ks. chain_blocks t e ++ ks) ((beside (Ok e) o).blocks (told_m z)));
+      n = n.calls;
+      syncs = n.syncs;
+      pays = pays_then f.pays (pays_more {p = batch_unstored d} {q = batch_unstored d} o.pays (omega arith))
+          o.session.touches.moves;
+      used = λ z.
+          let used = o.used in
+          let first = handed_used z in
+          let same = ap (λ (ks : List ℕ). length ks) ((beside (Ok e) o).blocks (told_m z)) in
+          omega (arith, used, first, same);
+      spent = λ z. sync_spent e o z;
+      share = λ z. within_map s.pool.shape d.calls d.syncs (batch_spent d) (n.share z);
+    }
+    synced_gives (Err fault) o = tt
+
+    ordered_moves : (result : Result Chain EmFault) → OrdersAnswers m t c result → IsTrue m.device.told
+        → t.moves ≤ m.moves + ordering_moves m c
+    ordered_moves (Ok e) o z = o.moves z
+    ordered_moves (Err fault) o z = o.moves z
+
+    pub synced_moves : (result : Result Chain EmFault) → OrdersAnswers m t c result
+        → WithinAllowance (Some map_share) ((batch_counts b).n + 1) ((batch_counts b).syncs + 1)
+        (batch_counts b).spent s t
+    synced_moves result o = λ z.
+        let moves : t.moves ≤ m.moves + ordering_moves m c = ordered_moves result o (told_m z) in
+        let own = n.moves in
+        let rest = order_share (b.calls + 1) (omega arith) z in
+        let share = share_at s.pool.shape (batch_spent d) d.calls (b.calls + 1) d.syncs (b.syncs + 1) n.calls n.syncs
+        (n.share z) in
+        call_moves s.pool.shape (b.calls + 1) b.calls b.syncs (b.syncs + 1) (batch_spent b) (batch_spent d)
+        (ordering_moves m c) s.moves t.moves sound.shape (omega arith) (omega arith) (omega (arith, moves, own)) share
+        (list_less (ordering_moves m c) (ceiling c.count (payload_of m.pool.shape)) (answers_share s.pool.shape (b.calls + 1))
+        rest)
+
+    order_stays : (result : Result Chain EmFault) → OrdersAnswers m t c result → IsTrue m.device.told
+        → StaysWithin c.blocks (ordering_room m c) m t
+    order_stays (Ok e) o z = o.room z
+    order_stays (Err fault) o z = o.room z
+
+    pub synced_room : (result : Result Chain EmFault) → OrdersAnswers m t c result
+        → (IsTrue s.device.told → TreeWithinRoom b.calls s m (trunk_of b))
+        → WithinRoom (Some room) ((batch_counts b).n + 1) (batch_blocks s b) s t
+    synced_room result o w = λ z. record {
+      is = two_rooms (length (batch_blocks s b)) c.blocks (length (batch_blocks m d))
+          (tree_room s.pool.shape b.calls + (trunk_of b).answers.blocks) (ordering_room m c)
+          (room s.pool.shape (b.calls + 1)) s.used m.used s.most m.most t.most (w z).most
+          (order_stays result o (told_m z)).is (handed_used z) (own_room s b i sound z) (order_beside z);
+    }
+
+    pub synced_full : (result : Result Chain EmFault) → OrdersAnswers m t c result
+        → IfErr result (FullOverRoom (Some room) ((batch_counts b).n + 1) (batch_blocks s b) s)
+    synced_full (Ok e) o = tt
+    synced_full (Err fault) o = λ z.
+        let used = handed_used z in
+        let two = order_beside z in
+        when_full fault (λ k. k + c.blocks < m.used + ordering_room m c)
+        (λ k. k + length (batch_blocks s b) < s.used + room s.pool.shape (b.calls + 1))
+        (λ k less. omega (arith, less, used, two)) (o.full (told_m z))
+
+    pub synced_owes : (result : Result Chain EmFault) → OrdersAnswers m t c result
+        → OnErr result (Pays (batch_counts b).unstored (2 * s.pool.shape.frames) s t)
+    synced_owes (Ok e) o = tt
+    synced_owes (Err fault) o =
+        let frames = ap (λ (p : ShapeNumbers). p.frames) f.frames.shape in
+        let low = sound.shape.frames_low in
+        pays_then f.pays (pays_more {p = batch_unstored d} {q = 2 * s.pool.shape.frames} o.pays (omega (arith, frames, low)))
+        o.goes.touches.moves
+
+    pub synced_cause : (result : Result Chain EmFault) → OrdersAnswers m t c result → IfErr result (Cause s t)
+    synced_cause (Ok e) o = tt
+    synced_cause (Err fault) o = cause_after (batch_blocks s b) s m t fault f.session.touches o.cause
+
+-- The sync gave up.
+module _ (s t : RigState) (b d : Batch) (fault : EmFault) (h : StopsTrunk s t (trunk_of b) (trunk_of d) fault)
+    (n : CountsSync s t b d) (i : IsGivenBatch s b) (sound : Sound s) where
+  pub unsynced_moves : WithinAllowance (Some map_share) ((batch_counts b).n + 1) ((batch_counts b).syncs + 1)
+      (batch_counts b).spent s t
+  unsynced_moves = λ z.
+      let own = n.moves in
+      let share = share_at s.pool.shape (batch_spent d) d.calls (b.calls + 1) d.syncs (b.syncs + 1) n.calls n.syncs
+      (n.share z) in
+      call_moves s.pool.shape (b.calls + 1) b.calls b.syncs (b.syncs + 1) (batch_spent b) (batch_spent d) 0 s.moves t.moves
+      sound.shape (omega arith) (omega arith) (omega (arith, own)) share (omega arith)
+
+  pub unsynced_room : (IsTrue s.device.told → TreeWithinRoom b.calls s t (trunk_of b))
+      → WithinRoom (Some room) ((batch_counts b).n + 1) (batch_blocks s b) s t
+  unsynced_room w = λ z. let most = (w z).most in let own = own_room s b i sound z in record { is = omega (arith, most, own) }
+
+  pub unsynced_full : (IsTrue s.device.told → TreeFullOverRoom b.calls s (trunk_of b) fault)
+      → FullOverRoom (Some room) ((batch_counts b).n + 1) (batch_blocks s b) s fault
+  unsynced_full over = λ z. over_used fault (length (batch_blocks s b)) s.used
+      (tree_room s.pool.shape b.calls + (trunk_of b).answers.blocks) (room s.pool.shape (b.calls + 1)) s t
+      (over z).full h.cause h.goes.touches.blocks (own_room s b i sound z)
+
+  pub unsynced_owes : Pays (batch_counts b).unstored (2 * s.pool.shape.frames) s t
+  unsynced_owes = pays_more h.pays (omega arith)

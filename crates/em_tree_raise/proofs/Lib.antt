@@ -1,0 +1,13 @@
+pub mod Listings
+pub mod ReadSubtrees
+pub mod FilledNodes
+pub mod BuiltNodes
+pub mod Stands
+pub mod ListedNodes
+pub mod RaisedNodes
+pub mod WrittenLevels
+pub mod Opened
+pub mod RaisedLevels
+pub mod Levels
+pub mod RaisedRoots
+pub mod RaisedTrees

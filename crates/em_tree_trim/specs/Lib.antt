@@ -1,0 +1,9 @@
+pub mod Trim
+pub mod Rows
+pub mod Joins
+pub mod Leaves
+pub mod Listed
+pub mod Listings
+pub mod Finding
+pub mod Looking
+pub mod Trimming

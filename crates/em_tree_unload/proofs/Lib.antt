@@ -1,0 +1,9 @@
+pub mod LeafRows
+pub mod NoneWaiting
+pub mod TreeReads
+pub mod OnWay
+pub mod TreeLeft
+pub mod Emptied
+pub mod LoneBlocks
+pub mod RemovedEmpty
+pub mod Unloads

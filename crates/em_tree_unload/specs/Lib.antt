@@ -1,0 +1,2 @@
+pub mod Unloading
+pub mod Emptying
