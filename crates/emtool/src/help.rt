@@ -12,13 +12,13 @@ Answers a command file, or evaluates a circuit, with structures in external memo
 
 Commands:
   map FILE      lines `put K V`, `del K`, `get K` and `sync`; prints one line for each get: the value
-                of the key by the commands before it, or `-`; at each `sync` the lines of all gets so
-                far that weren't printed, and at the end the others; where a line is faulty, those
-                that were printed at the syncs before it
+                of the key by the commands before it, or `-`; at each `sync`, before it reads on, the
+                lines of all gets so far that weren't printed, and at the end the others; where a line
+                is faulty, those that were printed at the syncs before it
                 example: emtool map prices.txt
-  queue FILE    lines `push K V` and `pop`; prints one line for each pop when it is read: the key and
-                the value of the element with the least key, of equal keys the one pushed first, or
-                `-`; where a line is faulty, the lines of the pops before it
+  queue FILE    lines `push K V` and `pop`; prints one line for each pop before it reads on: the key
+                and the value of the element with the least key, of equal keys the one pushed first,
+                or `-`; where a line is faulty, the lines of the pops before it
                 example: emtool queue tasks.txt
   stab FILE     lines `iv LO HI` and `stab P`; prints one line for each stab: the numbers of the
                 intervals before it that hold the point, counted from 0, or `-`; nothing where a line
