@@ -21,7 +21,8 @@ static void answer_commands(void) {
         if (command.c == 'g') {
             put_in(&answers, record_of(command.b, (uint64_t)found, found ? held.d : 0, 0));
         } else {
-            found = command.c == 'p';
+            if (command.c == 'a' && found) command.d += held.d;
+            found = command.c != 'd';
             held = command;
         }
     }

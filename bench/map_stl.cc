@@ -11,6 +11,8 @@ int main(int argc, char **argv) {
         uint64_t key = command.operand[0];
         if (command.letter == 'p') {
             held[key] = command.operand[1];
+        } else if (command.letter == 'a') {
+            held[key] += command.operand[1];
         } else if (command.letter == 'd') {
             held.erase(key);
         } else {

@@ -87,13 +87,25 @@ def texts(kind, start, count):
     return tuple("".join(f"{line}\n" for line in it).encode() for it in lines)
 
 
-def map_answers(lines):
+# how an add joins its value to that of its key
+COMBINERS = {
+    "sum": lambda old, value: (old + value) % 2**64,
+    "max": max,
+    "min": min,
+    "xor": lambda old, value: old ^ value,
+}
+
+
+def map_answers(lines, combine="sum"):
     """What a map in memory prints: at each sync, and at the end, the answers that weren't printed."""
     held, waiting = {}, []
     for line in lines:
         word, *numbers = line.split()
         if word == "put":
             held[numbers[0]] = numbers[1]
+        elif word == "add":
+            key, value = numbers
+            held[key] = str(COMBINERS[combine](int(held[key]), int(value))) if key in held else value
         elif word == "del":
             held.pop(numbers[0], None)
         elif word == "get":

@@ -5,13 +5,13 @@ use Rattle.std.proofs.lemmas.Bool.{cond-true, cond-false, eq-eqb, ne_eqb}
 use Rattle.std.proofs.lemmas.List.{length-append, length-map}
 use Rattle.std.proofs.lemmas.List.Sums.{sum_by-cons}
 use Rattle.std.proofs.lemmas.Grind.{flat_map-append}
-use Rattle.em_model.specs.Map.{Map, no_keys, map_answers_from, map_step, state_after}
+use Rattle.em_model.specs.Map.{Combiner, Map, no_keys, map_answers_from, map_step, state_after}
 use Rattle.em_model.specs.Sync.{since_sync, synced_answers, up_to_sync}
 use Rattle.em_model.proofs.SyncLaws.{map_answers-parts, sync_parts}
 use Rattle.em_lines.specs.Kind.{IsOfKind}
 use Rattle.em_model.specs.Stab.{stab_answers}
 use Rattle.em_model.specs.declared.command.Command.{Command}
-use Rattle.em_model.specs.declared.command.Command.TheVariants.{Put, Del, Get, Sync, Push, Pop, Interval, Stab}
+use Rattle.em_model.specs.declared.command.Command.TheVariants.{Put, Add, Del, Get, Sync, Push, Pop, Interval, Stab}
 use Rattle.em_model.specs.MapAnswers.{answer_record, answers_after, get_numbers, with_numbers}
 use Rattle.em_model.specs.StabAnswers.{pair_record, pairs_from, stab_pairs}
 use Rattle.em_answers.specs.Answer.{answer_line, map_text, stab_text, synced_text, text_at, text_for}
@@ -26,20 +26,21 @@ answer_back : (n : ℕ) (answer : Option ℕ) → answer_in (answer_record n ans
 answer_back n None = refl
 answer_back n (Some value) = refl
 
-answers_back : (n : ℕ) (m : Map) (cs : List Command)
-    → answers_in (with_numbers (get_numbers n cs) (map_answers_from m cs)) ≡ map_answers_from m cs
-answers_back n m [] = refl
-answers_back n m (Put key value ∷ cs) = answers_back (n + 1) (map_step m (Put key value)) cs
-answers_back n m (Del key ∷ cs) = answers_back (n + 1) (map_step m (Del key)) cs
-answers_back n m (Get key ∷ cs) =
-    ap (λ a. a ∷ answers_in (with_numbers (get_numbers (n + 1) cs) (map_answers_from m cs)))
+answers_back : (apply : Combiner) (n : ℕ) (m : Map) (cs : List Command)
+    → answers_in (with_numbers (get_numbers n cs) (map_answers_from apply m cs)) ≡ map_answers_from apply m cs
+answers_back apply n m [] = refl
+answers_back apply n m (Put key value ∷ cs) = answers_back apply (n + 1) (map_step apply m (Put key value)) cs
+answers_back apply n m (Add key value ∷ cs) = answers_back apply (n + 1) (map_step apply m (Add key value)) cs
+answers_back apply n m (Del key ∷ cs) = answers_back apply (n + 1) (map_step apply m (Del key)) cs
+answers_back apply n m (Get key ∷ cs) =
+    ap (λ a. a ∷ answers_in (with_numbers (get_numbers (n + 1) cs) (map_answers_from apply m cs)))
     (answer_back n (m key))
-    ∙ ap (λ t. m key ∷ t) (answers_back (n + 1) m cs)
-answers_back n m (Sync ∷ cs) = answers_back (n + 1) m cs
-answers_back n m (Push key value ∷ cs) = answers_back (n + 1) m cs
-answers_back n m (Pop ∷ cs) = answers_back (n + 1) m cs
-answers_back n m (Interval low high ∷ cs) = answers_back (n + 1) m cs
-answers_back n m (Stab point ∷ cs) = answers_back (n + 1) m cs
+    ∙ ap (λ t. m key ∷ t) (answers_back apply (n + 1) m cs)
+answers_back apply n m (Sync ∷ cs) = answers_back apply (n + 1) m cs
+answers_back apply n m (Push key value ∷ cs) = answers_back apply (n + 1) m cs
+answers_back apply n m (Pop ∷ cs) = answers_back apply (n + 1) m cs
+answers_back apply n m (Interval low high ∷ cs) = answers_back apply (n + 1) m cs
+answers_back apply n m (Stab point ∷ cs) = answers_back apply (n + 1) m cs
 
 -- the pairs of later stabs aren't of an earlier one
 none_at : (stab n : ℕ) (answers : List (List ℕ)) → stab + 1 ≤ n
@@ -82,28 +83,28 @@ groups_back stab (numbers ∷ answers) =
     ∙ ap (λ t. numbers ∷ t) (groups_back (stab + 1) answers)
 
 -- The text of the records of a map's answers is that of the answers.
-pub sync_text : (before cs : List Command) → map_text (answers_in (answers_after before cs))
-    ≡ map_text (map_answers_from (state_after no_keys before) cs)
-sync_text before cs = ap map_text (answers_back (1 + length before) (state_after no_keys before) cs)
+pub sync_text : (apply : Combiner) (before cs : List Command) → map_text (answers_in (answers_after apply before cs))
+    ≡ map_text (map_answers_from apply (state_after apply no_keys before) cs)
+sync_text apply before cs = ap map_text (answers_back apply (1 + length before) (state_after apply no_keys before) cs)
 
 -- At a sync it is what the sync prints,
-pub text_at_sync : (k : FileKind) (given : List Command) → k ≢ kind.Queue → IsOfKind k Sync
-    → records_text k 0 (records_for k (up_to_sync given) (since_sync given)) ≡ text_at k given Sync
-text_at_sync kind.Map given n is = sync_text (up_to_sync given) (since_sync given)
-text_at_sync kind.Queue given n is = absurd (n refl)
-text_at_sync kind.Stab given n is = absurd is
+pub text_at_sync : (apply : Combiner) (k : FileKind) (given : List Command) → k ≢ kind.Queue → IsOfKind k Sync
+    → records_text k 0 (records_for apply k (up_to_sync given) (since_sync given)) ≡ text_at apply k given Sync
+text_at_sync apply kind.Map given n is = sync_text apply (up_to_sync given) (since_sync given)
+text_at_sync apply kind.Queue given n is = absurd (n refl)
+text_at_sync apply kind.Stab given n is = absurd is
 
 -- and with what was printed before it is the text of all answers at the end.
-pub text_whole : (k : FileKind) (cs : List Command) → k ≢ kind.Queue
-    → synced_text k cs ++ records_text k (length (stab_answers cs)) (records_for k (up_to_sync cs) (since_sync cs))
-    ≡ text_for k cs
-text_whole kind.Map cs n =
-    ap (λ t. map_text (synced_answers cs) ++ t) (sync_text (up_to_sync cs) (since_sync cs))
-    ∙ sym (flat_map-append answer_line (synced_answers cs)
-    (map_answers_from (state_after no_keys (up_to_sync cs)) (since_sync cs)))
-    ∙ ap map_text (sym (map_answers-parts cs))
-text_whole kind.Queue cs n = absurd (n refl)
-text_whole kind.Stab cs n =
+pub text_whole : (apply : Combiner) (k : FileKind) (cs : List Command) → k ≢ kind.Queue
+    → synced_text apply k cs ++ records_text k (length (stab_answers cs)) (records_for apply k (up_to_sync cs) (since_sync cs))
+    ≡ text_for apply k cs
+text_whole apply kind.Map cs n =
+    ap (λ t. map_text (synced_answers apply cs) ++ t) (sync_text apply (up_to_sync cs) (since_sync cs))
+    ∙ sym (flat_map-append answer_line (synced_answers apply cs)
+    (map_answers_from apply (state_after apply no_keys (up_to_sync cs)) (since_sync cs)))
+    ∙ ap map_text (sym (map_answers-parts apply cs))
+text_whole apply kind.Queue cs n = absurd (n refl)
+text_whole apply kind.Stab cs n =
     ap (λ xs. stab_text (groups_from 0 (length (stab_answers cs)) (stab_pairs xs))) (sync_parts cs)
     ∙ ap stab_text (groups_back 0 (stab_answers cs))
 

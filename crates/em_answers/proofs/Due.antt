@@ -29,79 +29,80 @@ use Rattle.em_answers.specs.Print.{PrintCause, records_text}
 use Rattle.em_answers.specs.Reading.{IsFilled, StopCause, StopsReading}
 use Rattle.em_answers.specs.Serve.{Answers}
 use Rattle.em_answers.proofs.Answered.{text_whole}
+use Rattle.em_model.specs.Map.{Combiner}
 
 -- where a line is faulty, what was printed before it is due
-pub front_due : (k : FileKind) (text : List ℕ) (fault : _) → k ≢ kind.Queue
-    → first_fault k text ≡ Some fault → output_text k text ≡ synced_text k (good_commands k text)
-front_due kind.Map text fault n e = ap (λ f. text_unless f (text_for kind.Map (good_commands kind.Map text))
-    (synced_text kind.Map (good_commands kind.Map text))) e
-front_due kind.Queue text fault n e = absurd (n refl)
-front_due kind.Stab text fault n e = ap (λ f. text_unless f (text_for kind.Stab (good_commands kind.Stab text))
-    (synced_text kind.Stab (good_commands kind.Stab text))) e
+pub front_due : (apply : Combiner) (k : FileKind) (text : List ℕ) (fault : _) → k ≢ kind.Queue
+    → first_fault k text ≡ Some fault → output_text apply k text ≡ synced_text apply k (good_commands k text)
+front_due apply kind.Map text fault n e = ap (λ f. text_unless f (text_for apply kind.Map (good_commands kind.Map text))
+    (synced_text apply kind.Map (good_commands kind.Map text))) e
+front_due apply kind.Queue text fault n e = absurd (n refl)
+front_due apply kind.Stab text fault n e = ap (λ f. text_unless f (text_for apply kind.Stab (good_commands kind.Stab text))
+    (synced_text apply kind.Stab (good_commands kind.Stab text))) e
 
 -- and where none is, that of all answers
-pub all_due : (k : FileKind) (text : List ℕ) → first_fault k text ≡ None
-    → output_text k text ≡ text_for k (good_commands k text)
-all_due kind.Map text e = ap (λ f. text_unless f (text_for kind.Map (good_commands kind.Map text))
-    (synced_text kind.Map (good_commands kind.Map text))) e
-all_due kind.Queue text e = refl
-all_due kind.Stab text e = ap (λ f. text_unless f (text_for kind.Stab (good_commands kind.Stab text))
-    (synced_text kind.Stab (good_commands kind.Stab text))) e
+pub all_due : (apply : Combiner) (k : FileKind) (text : List ℕ) → first_fault k text ≡ None
+    → output_text apply k text ≡ text_for apply k (good_commands k text)
+all_due apply kind.Map text e = ap (λ f. text_unless f (text_for apply kind.Map (good_commands kind.Map text))
+    (synced_text apply kind.Map (good_commands kind.Map text))) e
+all_due apply kind.Queue text e = refl
+all_due apply kind.Stab text e = ap (λ f. text_unless f (text_for apply kind.Stab (good_commands kind.Stab text))
+    (synced_text apply kind.Stab (good_commands kind.Stab text))) e
 
 -- in any case what was printed at syncs is a front of it
-pub front_of_due : (k : FileKind) (text : List ℕ) → k ≢ kind.Queue
-    → (more : List ℕ) × (output_text k text ≡ synced_text k (good_commands k text) ++ more)
-front_of_due k text n = by (first_fault k text) refl
+pub front_of_due : (apply : Combiner) (k : FileKind) (text : List ℕ) → k ≢ kind.Queue
+    → (more : List ℕ) × (output_text apply k text ≡ synced_text apply k (good_commands k text) ++ more)
+front_of_due apply k text n = by (first_fault k text) refl
   where
     by : (f : _) → first_fault k text ≡ f
-        → (more : List ℕ) × (output_text k text ≡ synced_text k (good_commands k text) ++ more)
+        → (more : List ℕ) × (output_text apply k text ≡ synced_text apply k (good_commands k text) ++ more)
     by None e = (
       records_text k (length (stab_answers (good_commands k text)))
-          (records_for k (up_to_sync (good_commands k text)) (since_sync (good_commands k text))),
-      all_due k text e ∙ sym (text_whole k (good_commands k text) n),
+          (records_for apply k (up_to_sync (good_commands k text)) (since_sync (good_commands k text))),
+      all_due apply k text e ∙ sym (text_whole apply k (good_commands k text) n),
     )
-    by (Some fault) e = ([], front_due k text fault n e ∙ sym (append-nil (synced_text k (good_commands k text))))
+    by (Some fault) e = ([], front_due apply k text fault n e ∙ sym (append-nil (synced_text apply k (good_commands k text))))
 
 -- The reading stopped: at a faulty line all that is due was printed at syncs.
-fault_due : (took : List ℕ → List ℕ → List ℕ) (old new : List ℕ) (tells : Bool) (k : FileKind) (text : List ℕ)
+fault_due : (apply : Combiner) (took : List ℕ → List ℕ → List ℕ) (old new : List ℕ) (tells : Bool) (k : FileKind) (text : List ℕ)
     (faults later : Faults) (s t : RigState) (stop : Stop) → k ≢ kind.Queue → IsTrue tells
     → StopCause tells k text faults later s t stop
-    → OnFault stop (new ≡ took old (synced_text k (good_commands k text)))
-    → OnFault stop (new ≡ took old (output_text k text))
-fault_due took old new tells k text faults later s t (Fault (Text fault) line) n told cause e =
-    e ∙ ap (took old) (sym (front_due k text (fault, line) n (cause told)))
-fault_due took old new tells k text faults later s t (Fault (Aig fault) place) n told cause e = absurd cause
-fault_due took old new tells k text faults later s t Read n told cause e = tt
-fault_due took old new tells k text faults later s t Write n told cause e = tt
-fault_due took old new tells k text faults later s t (Em fault) n told cause e = tt
+    → OnFault stop (new ≡ took old (synced_text apply k (good_commands k text)))
+    → OnFault stop (new ≡ took old (output_text apply k text))
+fault_due apply took old new tells k text faults later s t (Fault (Text fault) line) n told cause e =
+    e ∙ ap (took old) (sym (front_due apply k text (fault, line) n (cause told)))
+fault_due apply took old new tells k text faults later s t (Fault (Aig fault) place) n told cause e = absurd cause
+fault_due apply took old new tells k text faults later s t Read n told cause e = tt
+fault_due apply took old new tells k text faults later s t Write n told cause e = tt
+fault_due apply took old new tells k text faults later s t (Em fault) n told cause e = tt
 
-pub reads_due : {S T : Type 0} {took : List ℕ → List ℕ → List ℕ} {old new : List ℕ} (tells : Bool) (k : FileKind)
+pub reads_due : (apply : Combiner) {S T : Type 0} {took : List ℕ → List ℕ → List ℕ} {old new : List ℕ} (tells : Bool) (k : FileKind)
     (text : List ℕ) (faults later : Faults) (s t : RigState) (stop : Stop) (result : Result T Stop)
     → k ≢ kind.Queue → IsErrAnd result (λ f. f ≡ stop) → IsTrue tells
     → StopCause tells k text faults later s t stop
-    → Answers {T = S} took (synced_text k (good_commands k text)) old new (Err stop)
-    → Answers took (output_text k text) old new result
-reads_due tells k text faults later s t stop (Ok x) n is told cause a = absurd is
-reads_due {S} {T} {took} {old} {new} tells k text faults later s t stop (Err f) n is told cause a =
-    let more = front_of_due k text n in
-    let stopped : Answers {T = T} took (output_text k text) old new (Err stop) =
+    → Answers {T = S} took (synced_text apply k (good_commands k text)) old new (Err stop)
+    → Answers took (output_text apply k text) old new result
+reads_due apply tells k text faults later s t stop (Ok x) n is told cause a = absurd is
+reads_due apply {S} {T} {took} {old} {new} tells k text faults later s t stop (Err f) n is told cause a =
+    let more = front_of_due apply k text n in
+    let stopped : Answers {T = T} took (output_text apply k text) old new (Err stop) =
     record {
       all = tt;
-      fault = fault_due took old new tells k text faults later s t stop n told cause a.fault;
+      fault = fault_due apply took old new tells k text faults later s t stop n told cause a.fault;
       part = rw (more.1) (part-more more.0 a.part);
     } in
-    subst (λ (x : Stop). Answers {T = T} took (output_text k text) old new (Err x)) (sym is) stopped
+    subst (λ (x : Stop). Answers {T = T} took (output_text apply k text) old new (Err x)) (sym is) stopped
 
 -- All was read: what was printed at syncs and the records of the other answers are all that is due.
-whole_due : (k : FileKind) (text : List ℕ) (stabs : ℕ) (items : List Record) → k ≢ kind.Queue
+whole_due : (apply : Combiner) (k : FileKind) (text : List ℕ) (stabs : ℕ) (items : List Record) → k ≢ kind.Queue
     → first_fault k text ≡ None → stabs ≡ length (stab_answers (good_commands k text))
-    → items ≡ records_for k (up_to_sync (good_commands k text)) (since_sync (good_commands k text))
-    → synced_text k (good_commands k text) ++ records_text k stabs items ≡ output_text k text
-whole_due k text stabs items n none many are =
+    → items ≡ records_for apply k (up_to_sync (good_commands k text)) (since_sync (good_commands k text))
+    → synced_text apply k (good_commands k text) ++ records_text k stabs items ≡ output_text apply k text
+whole_due apply k text stabs items n none many are =
     let good = good_commands k text in
-    ap (λ (m : ℕ). synced_text k good ++ records_text k m items) many
-    ∙ ap (λ (xs : List Record). synced_text k good ++ records_text k (length (stab_answers good)) xs) are
-    ∙ text_whole k good n ∙ sym (all_due k text none)
+    ap (λ (m : ℕ). synced_text apply k good ++ records_text k m items) many
+    ∙ ap (λ (xs : List Record). synced_text apply k good ++ records_text k (length (stab_answers good)) xs) are
+    ∙ text_whole apply k good n ∙ sym (all_due apply k text none)
 
 print_no_fault : (faults later : ℕ) (b c : RigState) (stop : Stop) (P : Type 0)
     → PrintCause faults later b c stop → OnFault stop P
@@ -110,7 +111,7 @@ print_no_fault faults later b c Read P cause = absurd cause
 print_no_fault faults later b c Write P cause = tt
 print_no_fault faults later b c (Em fault) P cause = tt
 
-module _ {IsState : List ℕ → Type 0} {took : List ℕ → List ℕ → List ℕ} (rule : IsRule IsState took)
+module _ (apply : Combiner) {IsState : List ℕ → Type 0} {took : List ℕ → List ℕ → List ℕ} (rule : IsRule IsState took)
     {old : List ℕ} (ok : IsState old) where
   -- The rig gave up before anything was printed.
   pub unprinted : {T : Type 0} (text : List ℕ) (fault : EmFault) → Answers {T = T} took text old old (Err (Em fault))
@@ -119,21 +120,21 @@ module _ {IsState : List ℕ → Type 0} {took : List ℕ → List ℕ → List 
   pub prints_due : {S T : Type 0} {mid new : List ℕ} (k : FileKind) (text : List ℕ) (stabs : ℕ)
       (items : List Record) (x : S) (faults later : ℕ) (b c : RigState) (result : Result T Stop)
       → k ≢ kind.Queue → first_fault k text ≡ None → stabs ≡ length (stab_answers (good_commands k text))
-      → items ≡ records_for k (up_to_sync (good_commands k text)) (since_sync (good_commands k text))
-      → Answers took (synced_text k (good_commands k text)) old mid (Ok x)
+      → items ≡ records_for apply k (up_to_sync (good_commands k text)) (since_sync (good_commands k text))
+      → Answers took (synced_text apply k (good_commands k text)) old mid (Ok x)
       → Prints took (records_text k stabs items) mid new result → IfErr result (PrintCause faults later b c)
-      → Answers took (output_text k text) old new result
+      → Answers took (output_text apply k text) old new result
   prints_due k text stabs items x faults later b c (Ok y) n none many are a p cause =
-      let whole = whole_due k text stabs items n none many are in
+      let whole = whole_due apply k text stabs items n none many are in
       record {
         all = p.all ∙ ap (λ s. took s (records_text k stabs items)) a.all
-            ∙ rule.both old (synced_text k (good_commands k text)) (records_text k stabs items) ok
+            ∙ rule.both old (synced_text apply k (good_commands k text)) (records_text k stabs items) ok
             ∙ ap (took old) whole;
         fault = tt;
         part = rw (← whole) (part-then rule ok a.all p.part);
       }
   prints_due k text stabs items x faults later b c (Err stop) n none many are a p cause =
-      let whole = whole_due k text stabs items n none many are in
+      let whole = whole_due apply k text stabs items n none many are in
       record {
         all = tt;
         fault = print_no_fault faults later b c stop _ cause;

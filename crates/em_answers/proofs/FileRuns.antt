@@ -28,9 +28,10 @@ use Rattle.em_ends.proofs.EndLaws.{KeepsMoves, done_whole, ended_due, ended_stop
 use Rattle.em_answers.specs.FileDue.{output_text, status_for}
 use Rattle.em_answers.specs.FileRun.{RunsWithin}
 use Rattle.em_answers.specs.Limits.{Limits, asked_by, sized}
-use Rattle.em_answers.specs.Reading.{IsFilled, KeepsAllowance, ReadsAll, StopCause, StopsReading}
+use Rattle.em_answers.specs.Reading.{IsFilled, KeepsAllowance, KeepsRoom, ReadsAll, StopCause, StopsReading}
 use Rattle.em_answers.specs.Serve.{Answers}
 use Rattle.em_answers.proofs.ServiceMoves.{run_moves}
+use Rattle.em_model.specs.Map.{Combiner}
 
 -- nothing is left where a feed has nothing more to give
 left_none : (ahead left : List ℕ) → ahead ++ left ≡ [] → left ≡ []
@@ -47,16 +48,16 @@ first_read {tells} {a} {b} f g e r ready end = record {
 }
 
 -- The cause of a stop over a command file is one of the run.
-pub file_cause : (limits : Limits) (tells : Bool) (k : FileKind) (text : List ℕ)
+pub file_cause : (apply : Combiner) (limits : Limits) (tells : Bool) (k : FileKind) (text : List ℕ)
     (faults later : Faults) (a c : RigState) (stop : Stop)
     → StopCause tells k text faults later a c stop
-    → RunCause tells (asked_by limits k text) faults later a c stop
-file_cause limits tells k text faults later a c (Fault (Text fault) line) cause =
+    → RunCause tells (asked_by apply limits k text) faults later a c stop
+file_cause apply limits tells k text faults later a c (Fault (Text fault) line) cause =
     λ t d. ap status_for (cause t)
-file_cause limits tells k text faults later a c (Fault (Aig fault) place) cause = absurd cause
-file_cause limits tells k text faults later a c Read cause = cause
-file_cause limits tells k text faults later a c Write cause = cause
-file_cause limits tells k text faults later a c (Em fault) cause = cause
+file_cause apply limits tells k text faults later a c (Fault (Aig fault) place) cause = absurd cause
+file_cause apply limits tells k text faults later a c Read cause = cause
+file_cause apply limits tells k text faults later a c Write cause = cause
+file_cause apply limits tells k text faults later a c (Em fault) cause = cause
 
 -- the blocks that are enough, by the size or by how far each slot was read
 fills_room : (room : Option (ShapeNumbers → ℕ → ℕ)) (k : FileKind) (text : List ℕ)
@@ -68,11 +69,11 @@ fills_room : (room : Option (ShapeNumbers → ℕ → ℕ)) (k : FileKind) (text
 fills_room None k text slots c used h t d = tt
 fills_room (Some f) k text slots c used h t d = h t d
 
-fills_file : (limits : Limits) (tells : Bool) (k : FileKind) (text : List ℕ)
+fills_file : (apply : Combiner) (limits : Limits) (tells : Bool) (k : FileKind) (text : List ℕ)
     (slots : Slot → SlotState) (c : RigState) (used : ℕ)
     → IsFilled limits tells k text (slots First).left c used
-    → FillsRun tells (asked_by limits k text) slots c used
-fills_file limits tells k text slots c used f = record {
+    → FillsRun tells (asked_by apply limits k text) slots c used
+fills_file apply limits tells k text slots c used f = record {
   paid = ⊎_elim
       (λ (h : 2 ^ 64 - 1 ≤ c.moves). inl h)
       (λ (h : used ≤ c.moves + 2 * c.pool.shape.frames). inr (omega (arith, h)))
@@ -81,21 +82,21 @@ fills_file limits tells k text slots c used f = record {
 }
 
 -- So is what a full device says.
-pub file_fills : (limits : Limits) (tells : Bool) (k : FileKind) (text : List ℕ)
+pub file_fills : (apply : Combiner) (limits : Limits) (tells : Bool) (k : FileKind) (text : List ℕ)
     (slots : Slot → SlotState) (c : RigState) (stop : Stop)
     → IfStopsFull stop (IsFilled limits tells k text (slots First).left c)
-    → IfStopsFull stop (FillsRun tells (asked_by limits k text) slots c)
-file_fills limits tells k text slots c (Fault fault place) f = tt
-file_fills limits tells k text slots c Read f = tt
-file_fills limits tells k text slots c Write f = tt
-file_fills limits tells k text slots c (Em em.DeviceFault) f = tt
-file_fills limits tells k text slots c (Em (em.Damaged block)) f = tt
-file_fills limits tells k text slots c (Em (em.Full used)) f =
-    fills_file limits tells k text slots c used f
+    → IfStopsFull stop (FillsRun tells (asked_by apply limits k text) slots c)
+file_fills apply limits tells k text slots c (Fault fault place) f = tt
+file_fills apply limits tells k text slots c Read f = tt
+file_fills apply limits tells k text slots c Write f = tt
+file_fills apply limits tells k text slots c (Em em.DeviceFault) f = tt
+file_fills apply limits tells k text slots c (Em (em.Damaged block)) f = tt
+file_fills apply limits tells k text slots c (Em (em.Full used)) f =
+    fills_file apply limits tells k text slots c used f
 
 -- What a call says that answers a command file from what a feed gives: how far it read, what it printed, and why it
 -- stopped.
-pub record AnswersFile {H W : Type 0} (h : ShelfGhosts H) (w : SinkGhosts W) (limits : Limits) (k : FileKind)
+pub record AnswersFile (apply : Combiner) {H W : Type 0} (h : ShelfGhosts H) (w : SinkGhosts W) (limits : Limits) (k : FileKind)
     (held : List ℕ) (shelf : H) (out : W) (feed_after : Fed) (shelf_after : H) (out_after : W) (s t : RigState)
     (result : Result (Unit {0}) Stop) (feed : Fed) : Type 0 where
   pub sound : Sound t
@@ -105,11 +106,13 @@ pub record AnswersFile {H W : Type 0} (h : ShelfGhosts H) (w : SinkGhosts W) (li
   pub write_later : w.faults out ≤ w.faults out_after
   pub whole : IsTrue h.tells
       → OnOk result (ReadsAll k (rest feed (h.stand shelf)) (rest feed_after (h.stand shelf_after)))
-  pub answers : IsTrue h.tells → IsTrue s.device.told → Answers w.took (output_text k (rest feed (h.stand shelf)))
+  pub answers : IsTrue h.tells → IsTrue s.device.told → Answers w.took (output_text apply k (rest feed (h.stand shelf)))
       (w.state out) (w.state out_after) result
   pub stop : IfErr result (StopsReading h w limits k feed shelf shelf_after out out_after s t)
   pub moves : IsTrue h.tells → KeepsAllowance limits.moves k (rest feed (h.stand shelf))
       ((h.stand shelf_after).slot feed.slot).left s t
+  pub most : KeepsRoom limits.room h.tells k (rest feed (h.stand shelf))
+      ((h.stand shelf_after).slot feed.slot).left t
 
 -- the status of a run that answered its file so
 abbrev pub answered_status : Result (Unit {0}) Stop → Status
@@ -170,7 +173,7 @@ module _ (tells : Bool) (k : FileKind) (text : List ℕ) (faults later : Faults)
   stopped_device (Em (em.Full used)) cause e = cc
   stopped_device (Em (em.Damaged block)) cause e = cc
 
-module _ {H W : Type 0} (h : ShelfGhosts H) (w : SinkGhosts W) (limits : Limits) (k : FileKind) (held : List ℕ)
+module _ (apply : Combiner) {H W : Type 0} (h : ShelfGhosts H) (w : SinkGhosts W) (limits : Limits) (k : FileKind) (held : List ℕ)
     (shelf : H) (out : W) (feed_after : Fed) (shelf_after : H) (out_after : W) (s t : RigState)
     (ready : ((h.stand shelf).slot First).ready ≡ true) where
   -- a feed of the first slot that took nothing yet
@@ -179,7 +182,7 @@ module _ {H W : Type 0} (h : ShelfGhosts H) (w : SinkGhosts W) (limits : Limits)
 
   abbrev Said : Result (Unit {0}) Stop → Type 0
   Said result =
-      AnswersFile h w limits k held shelf out feed_after shelf_after out_after s t result first_feed
+      AnswersFile apply h w limits k held shelf out feed_after shelf_after out_after s t result first_feed
 
   abbrev text : List ℕ
   text = ((h.stand shelf).slot First).left
@@ -193,17 +196,18 @@ module _ {H W : Type 0} (h : ShelfGhosts H) (w : SinkGhosts W) (limits : Limits)
     device = a.touches.faults;
   }
 
-  kept : (result : Result (Unit {0}) Stop) → Said result → KeepsMoves h.tells (asked_by limits k text)
+  kept : (result : Result (Unit {0}) Stop) → Said result → KeepsMoves h.tells (asked_by apply limits k text)
       s.pool.shape (outside h w s.device shelf out) (outside h w t.device shelf_after out_after)
   kept result a =
       run_moves limits.moves h.tells k text (h.stand shelf_after).slot s t a.sound.moves_is a.moves
 
   done : (u : Unit {0}) → Said (Ok u)
-      → RunsWithin h w limits k s t shelf out shelf_after out_after Done
+      → RunsWithin apply h w limits k s t shelf out shelf_after out_after Done
   done u a = record {
-    ended = ended_due (asked_by limits k text) Done done_whole (λ z d. sym (ap status_for (a.whole z).fault))
+    ended = ended_due (asked_by apply limits k text) Done done_whole (λ z d. sym (ap status_for (a.whole z).fault))
         (λ z d. (a.answers z d).all) (λ z d. (a.answers z d).part) (kept (Ok u) a);
     caused = record { goes_on = went_on (Ok u) a; read = λ e. cc; write = λ e. cc; device = λ e. cc };
+    most = a.most;
     reads = record { leaves = a.reads.leaves; lost = a.reads.lost };
     all_read = first_read first_feed feed_after refl a.reads ready (λ z. (a.whole z).end);
     no_usage = tt;
@@ -211,15 +215,15 @@ module _ {H W : Type 0} (h : ShelfGhosts H) (w : SinkGhosts W) (limits : Limits)
   }
 
   stopped : (stop : Stop) → Said (Err stop)
-      → RunsWithin h w limits k s t shelf out shelf_after out_after (stop_status stop)
+      → RunsWithin apply h w limits k s t shelf out shelf_after out_after (stop_status stop)
   stopped stop a =
       let faults = fault_counts (h.faults shelf) (w.faults out) in
       let later = fault_counts (h.faults shelf_after) (w.faults out_after) in
       record {
-        ended = ended_stop h.tells (asked_by limits k text) (outside h w s.device shelf out)
+        ended = ended_stop h.tells (asked_by apply limits k text) (outside h w s.device shelf out)
             (outside h w t.device shelf_after out_after) s t a.touches a.sound refl refl (kept (Err stop) a) stop
-            faults later (file_cause limits h.tells k text faults later s t stop a.stop.cause)
-            (file_fills limits h.tells k text (h.stand shelf_after).slot t stop a.stop.full)
+            faults later (file_cause apply limits h.tells k text faults later s t stop a.stop.cause)
+            (file_fills apply limits h.tells k text (h.stand shelf_after).slot t stop a.stop.full)
             (record { fault = λ z d. (a.answers z d).fault; part = λ z d. (a.answers z d).part });
         caused = record {
           goes_on = went_on (Err stop) a;
@@ -227,6 +231,7 @@ module _ {H W : Type 0} (h : ShelfGhosts H) (w : SinkGhosts W) (limits : Limits)
           write = stopped_write h.tells k text faults later s t stop a.stop.cause;
           device = stopped_device h.tells k text faults later s t stop a.stop.cause;
         };
+        most = a.most;
         reads = record { leaves = a.reads.leaves; lost = a.reads.lost };
         all_read = stopped_open stop _;
         no_usage = stopped_usage stop;
@@ -234,14 +239,14 @@ module _ {H W : Type 0} (h : ShelfGhosts H) (w : SinkGhosts W) (limits : Limits)
       }
 
   by_first : (result : Result (Unit {0}) Stop) → Said result
-      → RunsWithin h w limits k s t shelf out shelf_after out_after (answered_status result)
+      → RunsWithin apply h w limits k s t shelf out shelf_after out_after (answered_status result)
   by_first (Ok u) a = done u a
   by_first (Err stop) a = stopped stop a
 
   -- It began at the start of the first slot: this is its run.
   pub runs_answered : (feed : Fed) (result : Result (Unit {0}) Stop)
       → feed ≡ record { slot = First; ahead = []; place = 0 }
-      → AnswersFile h w limits k held shelf out feed_after shelf_after out_after s t result feed
-      → RunsWithin h w limits k s t shelf out shelf_after out_after (answered_status result)
+      → AnswersFile apply h w limits k held shelf out feed_after shelf_after out_after s t result feed
+      → RunsWithin apply h w limits k s t shelf out shelf_after out_after (answered_status result)
   runs_answered feed result e a = by_first result
-      (subst (AnswersFile h w limits k held shelf out feed_after shelf_after out_after s t result) e a)
+      (subst (AnswersFile apply h w limits k held shelf out feed_after shelf_after out_after s t result) e a)

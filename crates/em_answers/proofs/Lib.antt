@@ -10,6 +10,7 @@ pub mod Pieces
 pub mod QueueModel
 pub mod QueueRuns
 pub mod ReadingStops
+pub mod Rooms
 pub mod Running
 pub mod Served
 pub mod ServiceMoves

@@ -3,7 +3,7 @@ use Rattle.std.proofs.Common.{◌≡◌, ℕ, suc, ◌+◌, ◌*◌, ◌-◌, �
 use Rattle.em_record.specs.Shape.{IsShape, ShapeNumbers, fan_of}
 use Rattle.em_model.specs.Stab.{NumberedInterval, stab_answer_of, stab_answers, stab_answers_from, stab_step}
 use Rattle.em_model.specs.declared.command.Command.{Command}
-use Rattle.em_model.specs.declared.command.Command.TheVariants.{Put, Del, Get, Sync, Push, Pop, Interval, Stab}
+use Rattle.em_model.specs.declared.command.Command.TheVariants.{Put, Add, Del, Get, Sync, Push, Pop, Interval, Stab}
 use Rattle.em_frames.specs.Pool.{GivenFrames, LentFrames, PoolCounts, SameFrames}
 use Rattle.em_space.specs.Held.{Within}
 use Rattle.em_space.specs.Queue.{Pays}
@@ -12,7 +12,7 @@ use Rattle.em_space.specs.declared.fault.EmFault.{EmFault}
 use Rattle.em_space.specs.declared.fault.EmFault.TheVariants as em
 use Rattle.em_space.proofs.Within.{touches_within, within_none, within_then}
 use Rattle.em_lines.specs.CommandLine.{good_commands}
-use Rattle.em_services.specs.Service.{CanAnswer, GivesFrames, MakesService, RisesBySize, ServiceCounts, TakesCommand, WithinAllowance, WithinRoom, size_of, FullOverRoom}
+use Rattle.em_services.specs.Service.{CanAnswer, CanSync, GivesFrames, MakesService, RisesBySize, ServiceCounts, TakesCommand, WithinAllowance, WithinRoom, size_of, FullOverRoom}
 use Rattle.em_ready.specs.Ready.{IsReady, IsUnused}
 use Rattle.em_lines.specs.RunSize.{commands_taken, pairs_reported, run_size}
 use Rattle.em_answers.specs.Reading.{IsFilled, StandsAlone, service_limits}
@@ -36,6 +36,7 @@ stabs_same : (xs ys : List NumberedInterval) (cs : List Command)
     → length (stab_answers_from xs cs) ≡ length (stab_answers_from ys cs)
 stabs_same xs ys [] = refl
 stabs_same xs ys (Put key value ∷ cs) = stabs_same xs ys cs
+stabs_same xs ys (Add key value ∷ cs) = stabs_same xs ys cs
 stabs_same xs ys (Del key ∷ cs) = stabs_same xs ys cs
 stabs_same xs ys (Get key ∷ cs) = stabs_same xs ys cs
 stabs_same xs ys (Sync ∷ cs) = stabs_same xs ys cs
@@ -49,6 +50,7 @@ stabs_same xs ys (Stab point ∷ cs) = ap suc (stabs_same xs ys cs)
 pub stabs_next : (c : Command) (cs : List Command)
     → length (stab_answers (c ∷ cs)) ≡ length (stab_answer_of [] c) + length (stab_answers cs)
 stabs_next (Put key value) cs = omega arith
+stabs_next (Add key value) cs = omega arith
 stabs_next (Del key) cs = omega arith
 stabs_next (Get key) cs = omega arith
 stabs_next Sync cs = omega arith
@@ -60,7 +62,7 @@ stabs_next (Stab point) cs = omega arith
 
 -- The frames of a call are free beside those of a service,
 pub serves_beside : (frames : ℕ) (p q : PoolCounts) → IsReady p → LentFrames frames p q
-    → frames ≤ 4 → CanAnswer q
+    → frames ≤ 4 → CanSync q
 serves_beside frames p q r l few =
     let f = ap (λ (x : ShapeNumbers). fan_of x) l.shape in
     record {
@@ -81,8 +83,8 @@ answers_beside frames p q r ready l few s =
       rack = s.rack ∙ l.rack ∙ ready.rack;
     }
 
-pub answers_same : (p q : PoolCounts) → CanAnswer p → SameFrames p q → CanAnswer q
-answers_same p q c s =
+pub syncs_same : (p q : PoolCounts) → CanSync p → SameFrames p q → CanSync q
+syncs_same p q c s =
     let f = ap (λ (x : ShapeNumbers). fan_of x) s.shape in
     record {
       singles = omega (arith, c.singles, s.free, f);

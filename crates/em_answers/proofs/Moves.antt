@@ -42,6 +42,7 @@ use Rattle.em_ends.proofs.EndLaws.{ended_stop}
 use Rattle.em_ready.proofs.Queues.{can_serve, fails_ext, makes_ext, most_ext}
 use Rattle.em_ready.proofs.RoomLaws.{more_times, room_some}
 use Rattle.em_answers.proofs.Running.{alone_new, goes_given_up}
+use Rattle.em_model.specs.Map.{Combiner}
 
 -- a number of blocks that a full device has fewer of, for a lesser one
 if_less : (s : Status) (few many : ℕ) → few ≤ many → IfEndsFull s (λ used. used < few)
@@ -62,14 +63,14 @@ held_to moves most = record { moves = Some moves; room = Some most }
 
 -- A run within numbers that are at most the transfer cost and the room is within these, on a device that
 -- moved none before.
-pub ended_by_cost : {took : List ℕ → List ℕ → List ℕ} (tells : Bool) (kind : FileKind)
+pub ended_by_cost : {took : List ℕ → List ℕ → List ℕ} (apply : Combiner) (tells : Bool) (kind : FileKind)
     (text : List ℕ) (f most : ShapeNumbers → ℕ → ℕ) (shape : ShapeNumbers)
     (blocks : ℕ) (old new : Outside) (s : Status)
-    → Ended tells took (asked_by (held_to f most) kind text) shape blocks old new s
+    → Ended tells took (asked_by apply (held_to f most) kind text) shape blocks old new s
     → ((n : ℕ) → f shape n ≤ cost shape n) → ((n : ℕ) → most shape n ≤ room shape n)
     → old.device.moves ≡ 0
-    → Ended tells took (asked_by by_cost kind text) shape blocks old new s
-ended_by_cost tells kind text f most shape blocks old new s e few small none =
+    → Ended tells took (asked_by apply by_cost kind text) shape blocks old new s
+ended_by_cost apply tells kind text f most shape blocks old new s e few small none =
     let n = run_size kind text (new.stand.slot First).left in
     let y = syncs_in kind text (new.stand.slot First).left in
     let within : (y + 1) * f shape n ≤ (y + 1) * cost shape n = mul-le-mul_left (y + 1) (few n) in
@@ -87,20 +88,26 @@ ended_by_cost tells kind text f most shape blocks old new s e few small none =
       damaged = e.damaged;
     }
 
-module _ {H W : Type 0} {h : ShelfGhosts H} {w : SinkGhosts W} where
+module _ (apply : Combiner) {H W : Type 0} {h : ShelfGhosts H} {w : SinkGhosts W} where
   -- So is the run of a command file.
   pub runs_by_cost : (kind : FileKind) (f most : ShapeNumbers → ℕ → ℕ) (s t : RigState)
       (shelf : H) (out : W) (shelf_after : H) (out_after : W) (end : Status)
-      → RunsWithin h w (held_to f most) kind s t shelf out shelf_after out_after end
+      → RunsWithin apply h w (held_to f most) kind s t shelf out shelf_after out_after end
       → ((n : ℕ) → f s.pool.shape n ≤ cost s.pool.shape n)
       → ((n : ℕ) → most s.pool.shape n ≤ room s.pool.shape n)
+      → ((n : ℕ) → most t.pool.shape n ≤ room t.pool.shape n)
       → s.device.moves ≡ 0
-      → RunsWithin h w by_cost kind s t shelf out shelf_after out_after end
-  runs_by_cost kind f most s t shelf out shelf_after out_after end r few small none = record {
-    ended = ended_by_cost h.tells kind ((h.stand shelf).slot First).left f most s.pool.shape s.blocks
+      → RunsWithin apply h w by_cost kind s t shelf out shelf_after out_after end
+  runs_by_cost kind f most s t shelf out shelf_after out_after end r few small last none = record {
+    ended = ended_by_cost apply h.tells kind ((h.stand shelf).slot First).left f most s.pool.shape s.blocks
         (outside h w s.device shelf out) (outside h w t.device shelf_after out_after) end r.ended few
         small none;
     caused = r.caused;
+    most = λ z d.
+        let within = r.most z d in
+        let wide =
+        last (run_size kind ((h.stand shelf).slot First).left ((h.stand shelf_after).slot First).left) in
+        omega (arith, within, wide);
     reads = r.reads;
     all_read = r.all_read;
     no_usage = r.no_usage;
@@ -111,11 +118,11 @@ module _ {H W : Type 0} {h : ShelfGhosts H} {w : SinkGhosts W} where
   -- moves were counted from the first on.
   pub runs_before : (kind : FileKind) (f most : ShapeNumbers → ℕ → ℕ) (r s t : RigState)
       (shelf : H) (out : W) (shelf_after : H) (out_after : W) (end : Status) → Touches [] r s
-      → RunsWithin h w (queue_limits (Some most)) kind s t shelf out shelf_after out_after end
+      → RunsWithin apply h w (queue_limits (Some most)) kind s t shelf out shelf_after out_after end
       → (IsTrue h.tells → IsTrue s.device.told
       → t.device.moves ≤ f s.pool.shape (run_size kind ((h.stand shelf).slot First).left
       ((h.stand shelf_after).slot First).left))
-      → RunsWithin h w (held_to f most) kind r t shelf out shelf_after out_after end
+      → RunsWithin apply h w (held_to f most) kind r t shelf out shelf_after out_after end
   runs_before kind f most r s t shelf out shelf_after out_after end a x m = record {
     ended = record {
       answers = λ z d. x.ended.answers z (a.told ∙ d);
@@ -150,6 +157,7 @@ module _ {H W : Type 0} {h : ShelfGhosts H} {w : SinkGhosts W} where
       write = x.caused.write;
       device = λ e. let v = x.caused.device e in omega (arith, v, a.faults);
     };
+    most = x.most;
     reads = x.reads;
     all_read = x.all_read;
     no_usage = x.no_usage;
@@ -168,12 +176,12 @@ cost_some shape n =
     omega (arith, more)
 
 -- what a device says that is full before a queue was made
-new_fills : (tells : Bool) (text : List ℕ) (old : Outside) (s t : RigState) (fault : EmFault)
+new_fills : (apply : Combiner) (tells : Bool) (text : List ℕ) (old : Outside) (s t : RigState) (fault : EmFault)
     → FailsToMake s t fault → IsShape s.pool.shape → t.pool.shape ≡ s.pool.shape → s.used ≡ 0 → s.moves ≡ 0
-    → IfStopsFull (Em fault) (FillsRun tells (asked_by by_cost Queue text) old.stand.slot t)
-new_fills tells text old s t em.DeviceFault f is same used none = tt
-new_fills tells text old s t (em.Damaged block) f is same used none = tt
-new_fills tells text old s t (em.Full n) f is same used none =
+    → IfStopsFull (Em fault) (FillsRun tells (asked_by apply by_cost Queue text) old.stand.slot t)
+new_fills apply tells text old s t em.DeviceFault f is same used none = tt
+new_fills apply tells text old s t (em.Damaged block) f is same used none = tt
+new_fills apply tells text old s t (em.Full n) f is same used none =
     let frames = ap (λ (p : ShapeNumbers). p.frames) same in
     let cause = f.cause in
     let few = f.used in
@@ -191,14 +199,14 @@ new_fills tells text old s t (em.Full n) f is same used none =
     }
 
 -- No queue was made.
-pub ended_unmade : {IsState : List ℕ → Type 0} {took : List ℕ → List ℕ → List ℕ}
+pub ended_unmade : (apply : Combiner) {IsState : List ℕ → Type 0} {took : List ℕ → List ℕ → List ℕ}
     (rule : IsRule IsState took) (tells : Bool) (text : List ℕ) (old new : Outside)
     (s t : RigState) (fault : EmFault) → IsState old.output → new.output ≡ old.output
     → old.device ≡ s.device → new.device ≡ t.device → Sound s → FailsToMake s t fault
     → s.used ≡ 0 → s.moves ≡ 0
-    → Ended tells took (asked_by by_cost Queue text) s.pool.shape s.blocks old new (em_status fault)
-ended_unmade rule tells text old new s t fault ok same before after sound f used none =
-    let asked = asked_by by_cost Queue text in
+    → Ended tells took (asked_by apply by_cost Queue text) s.pool.shape s.blocks old new (em_status fault)
+ended_unmade apply rule tells text old new s t fault ok same before after sound f used none =
+    let asked = asked_by apply by_cost Queue text in
     let first : old.device.moves ≡ s.moves =
     ap (λ (d : DeviceState). d.moves) before ∙ sound.moves_is in
     let last : new.device.moves ≡ t.moves =
@@ -207,9 +215,9 @@ ended_unmade rule tells text old new s t fault ok same before after sound f used
     ended_stop tells asked old new s t f.goes.touches f.goes.sound before after
     (λ z d. let some = cost_some s.pool.shape (run_size Queue text (new.stand.slot First).left) in
     omega (arith, some, first, last, few)) (Em fault) (fault_counts 0 0) (fault_counts 0 0) f.cause
-    (new_fills tells text new s t fault f sound.shape f.goes.touches.shape used none) (record {
+    (new_fills apply tells text new s t fault f sound.shape f.goes.touches.shape used none) (record {
       fault = λ z d. tt;
-      part = λ z d. part-of (sent-nothing rule ok (output_text Queue text) same);
+      part = λ z d. part-of (sent-nothing rule ok (output_text apply Queue text) same);
     })
 
 -- A new queue on a rig of which no block is or was in use: it is alone,
@@ -228,23 +236,25 @@ pub queue_goes : {s t u : RigState} {q : ExtQueue} → IsNewQueue s t q → Give
 queue_goes n x = goes_given_up (makes_ext n) x
 
 -- and its run is within the transfer cost and the room.
-pub queue_runs : {H W : Type 0} {h : ShelfGhosts H} {w : SinkGhosts W} {s t u : RigState}
+pub queue_runs : (apply : Combiner) {H W : Type 0} {h : ShelfGhosts H} {w : SinkGhosts W} {s t u : RigState}
     {q : ExtQueue} {shelf : H} {out : W} {shelf_after : H} {out_after : W} {end : Status}
     → IsUnused s → s.moves ≡ 0 → IsNewQueue s t q → GivesUp ext q t u
-    → RunsWithin h w (queue_limits (Some tree_room)) Queue t u shelf out shelf_after out_after end
+    → RunsWithin apply h w (queue_limits (Some tree_room)) Queue t u shelf out shelf_after out_after end
     → (IsTrue h.tells → IsTrue t.device.told → WithinCalls (Some queue_share) t.pool.shape
     (commands_taken Queue ((h.stand shelf).slot First).left ((h.stand shelf_after).slot First).left)
     u.moves)
-    → RunsWithin h w by_cost Queue s u shelf out shelf_after out_after end
-queue_runs {s = s} {t = t} {u = u} {shelf = shelf} {out = out} {shelf_after = shelf_after}
+    → RunsWithin apply h w by_cost Queue s u shelf out shelf_after out_after end
+queue_runs apply {s = s} {t = t} {u = u} {shelf = shelf} {out = out} {shelf_after = shelf_after}
     {out_after = out_after} {end = end} unused none n x r within =
     let sound = unused.sound in
     let f : ShapeNumbers → ℕ → ℕ = λ shape size. queue_share shape size size in
-    runs_by_cost Queue f tree_room s u shelf out shelf_after out_after end
-    (runs_before Queue f tree_room s t u shelf out shelf_after out_after end n.session.touches r
+    let fits : (p : ShapeNumbers) → IsShape p → (n : ℕ) → tree_room p n ≤ room p n =
+    λ p is n. queue_run_room p n n (tree_room p n) is (omega arith) (omega arith) in
+    runs_by_cost apply Queue f tree_room s u shelf out shelf_after out_after end
+    (runs_before apply Queue f tree_room s t u shelf out shelf_after out_after end n.session.touches r
     (λ z d. let m = within z d in let e = x.sound.moves_is in omega (arith, m, e)))
     (queue_few s.pool.shape sound.shape)
-    (λ n. queue_run_room s.pool.shape n n (tree_room s.pool.shape n) sound.shape (omega arith) (omega arith))
+    (fits s.pool.shape sound.shape) (fits u.pool.shape x.sound.shape)
     (sound.moves_is ∙ none)
 
 -- a run that ended as the rig gave up isn't done
@@ -281,16 +291,16 @@ unmade_write (em.Full n) P e = cc
 unmade_write (em.Damaged block) P e = cc
 
 -- So is the run if no queue was made.
-pub unmade_runs : {H W : Type 0} {h : ShelfGhosts H} {w : SinkGhosts W}
+pub unmade_runs : (apply : Combiner) {H W : Type 0} {h : ShelfGhosts H} {w : SinkGhosts W}
     {IsState : List ℕ → Type 0} {s t : RigState} {shelf : H} {out : W} {fault : EmFault}
     → IsRule IsState w.took → IsState (w.state out) → IsUnused s → s.moves ≡ 0
     → StopsNewTrunk s t fault
-    → RunsWithin h w by_cost Queue s t shelf out shelf out (em_status fault)
-unmade_runs {h = h} {w = w} {s = s} {t = t} {shelf = shelf} {out = out} {fault = fault} rule ok
+    → RunsWithin apply h w by_cost Queue s t shelf out shelf out (em_status fault)
+unmade_runs apply {h = h} {w = w} {s = s} {t = t} {shelf = shelf} {out = out} {fault = fault} rule ok
     unused none x =
     let a = x.goes.touches in
     record {
-      ended = ended_unmade rule h.tells ((h.stand shelf).slot First).left
+      ended = ended_unmade apply rule h.tells ((h.stand shelf).slot First).left
           (outside h w s.device shelf out) (outside h w t.device shelf out) s t fault ok refl refl refl
           unused.sound (fails_ext x) unused.used none;
       caused = record {
@@ -304,6 +314,11 @@ unmade_runs {h = h} {w = w} {s = s} {t = t} {shelf = shelf} {out = out} {fault =
         write = λ e. unmade_write fault _ e;
         device = λ e. unmade_device s t fault x.cause e;
       };
+      most = λ z d.
+          let few = (fails_ext x).most in
+          let wide = room_some t.pool.shape
+          (run_size Queue ((h.stand shelf).slot First).left ((h.stand shelf).slot First).left) in
+          omega (arith, few, wide, unused.used, unused.none_ever);
       reads = record {
         leaves = record { text = refl; others = λ other n. refl };
         lost = λ z. refl;

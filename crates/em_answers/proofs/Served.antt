@@ -33,12 +33,17 @@ next_answer q c left cs e =
     ap (λ l. queue_text (queue_answers_from q l)) e
     ∙ flat_map-append popped_line (queue_answer_of q c) (queue_answers_from (queue_step q c) cs)
 
+-- No more blocks were in use at once than its number says, whether its call gave up or not.
+pub most_next : (held : List ℕ) (s t : RigState) (c d : QueueCounts) → IsAlone s c → Serves held c d s t
+    → t.most ≤ d.most
+most_next held s t c d a v = let m = v.most in let n = v.more in omega (arith, m, n, a.used, a.most)
+
 -- The queue stays alone on the device.
 pub alone_next : (held : List ℕ) (s t : RigState) (c d : QueueCounts) → IsAlone s c
     → Serves held c d s t → Served c d s t → IsAlone t d
 alone_next held s t c d a v w = record {
   used = let u = w.used in omega (arith, u, a.used);
-  most = let m = v.most in let n = v.more in omega (arith, m, n, a.used, a.most);
+  most = most_next held s t c d a v;
   paid = ⊎_elim
       (λ (x : 2 ^ 64 - 1 ≤ s.moves). inl (let m = v.touches.moves in omega (arith, x, m)))
       (λ (x : s.used ≤ s.moves + c.unstored).

@@ -16,8 +16,10 @@ use Rattle.em_ready.specs.Ready.{IsUnused}
 use Rattle.em_services.specs.BatchService.{map_share}
 use Rattle.em_services.proofs.BatchAnswers.{ceiling_share}
 use Rattle.em_answers.specs.FileRun.{Runs, RunsWithin}
+use Rattle.em_answers.specs.Limits.{Limits}
 use Rattle.em_answers.specs.Reading.{service_limits}
 use Rattle.em_answers.proofs.Moves.{runs_by_cost}
+use Rattle.em_model.specs.Map.{Combiner}
 
 -- the moves of a map's run are within its transfer cost,
 map_few : (shape : ShapeNumbers) → IsShape shape → (n : ℕ)
@@ -36,15 +38,15 @@ map_few shape is n =
     omega (arith, other, chain, queue, some)
 
 -- and so is the run.
-pub map_runs : {H W : Type 0} (h : ShelfGhosts H) (w : SinkGhosts W) (s t : RigState) (shelf : H)
+pub map_runs : {H W : Type 0} (apply : Combiner) (h : ShelfGhosts H) (w : SinkGhosts W) (s t : RigState) (shelf : H)
     (out : W) (shelf_after : H) (out_after : W) (end : Status) → IsUnused s → s.moves ≡ 0
-    → RunsWithin h w (service_limits (Some map_share) (Some room)) Map s t shelf out shelf_after out_after end
-    → Runs h w Map s t shelf out shelf_after out_after end
-map_runs h w s t shelf out shelf_after out_after end unused none r =
+    → RunsWithin apply h w (service_limits (Some map_share) (Some room)) Map s t shelf out shelf_after out_after end
+    → Runs apply h w Map s t shelf out shelf_after out_after end
+map_runs apply h w s t shelf out shelf_after out_after end unused none r =
     let sound = unused.sound in
-    runs_by_cost Map (λ shape size. map_share shape size + ceiling size (payload_of shape))
+    runs_by_cost apply Map (λ shape size. map_share shape size + ceiling size (payload_of shape))
     room s t shelf out shelf_after out_after end r
-    (map_few s.pool.shape sound.shape) (λ n. omega arith)
+    (map_few s.pool.shape sound.shape) (λ n. omega arith) (λ n. omega arith)
     (let moves = sound.moves_is in omega (arith, moves, none))
 
 -- the moves of a stab file's run are within its transfer cost,
@@ -56,14 +58,30 @@ stab_few shape is n =
     (omega (arith, other)) (omega arith) in
     omega (arith, all)
 
--- and so is the run.
-pub stab_runs : {H W : Type 0} (h : ShelfGhosts H) (w : SinkGhosts W) (s t : RigState) (shelf : H)
+-- An interval list has no adds, so that its run is the same by any combiner.
+stab_joined : {H W : Type 0} (first apply : Combiner) (h : ShelfGhosts H) (w : SinkGhosts W) (limits : Limits)
+    (s t : RigState) (shelf : H) (out : W) (shelf_after : H) (out_after : W) (end : Status)
+    → RunsWithin first h w limits Stab s t shelf out shelf_after out_after end
+    → RunsWithin apply h w limits Stab s t shelf out shelf_after out_after end
+stab_joined first apply h w limits s t shelf out shelf_after out_after end r = record {
+  ended = r.ended;
+  caused = r.caused;
+  most = r.most;
+  reads = r.reads;
+  all_read = r.all_read;
+  no_usage = r.no_usage;
+  no_memory = r.no_memory;
+}
+
+-- and so is the run, by any combiner.
+pub stab_runs : {H W : Type 0} (first apply : Combiner) (h : ShelfGhosts H) (w : SinkGhosts W) (s t : RigState) (shelf : H)
     (out : W) (shelf_after : H) (out_after : W) (end : Status) → IsUnused s → s.moves ≡ 0
-    → RunsWithin h w (service_limits (Some stab_share) (Some room)) Stab s t shelf out shelf_after out_after end
-    → Runs h w Stab s t shelf out shelf_after out_after end
-stab_runs h w s t shelf out shelf_after out_after end unused none r =
+    → RunsWithin first h w (service_limits (Some stab_share) (Some room)) Stab s t shelf out shelf_after out_after end
+    → Runs apply h w Stab s t shelf out shelf_after out_after end
+stab_runs first apply h w s t shelf out shelf_after out_after end unused none r =
     let sound = unused.sound in
-    runs_by_cost Stab (λ shape size. stab_share shape size + ceiling size (payload_of shape))
-    room s t shelf out shelf_after out_after end r
-    (stab_few s.pool.shape sound.shape) (λ n. omega arith)
+    runs_by_cost apply Stab (λ shape size. stab_share shape size + ceiling size (payload_of shape))
+    room s t shelf out shelf_after out_after end
+    (stab_joined first apply h w (service_limits (Some stab_share) (Some room)) s t shelf out shelf_after out_after end r)
+    (stab_few s.pool.shape sound.shape) (λ n. omega arith) (λ n. omega arith)
     (let moves = sound.moves_is in omega (arith, moves, none))

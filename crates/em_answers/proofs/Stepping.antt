@@ -6,7 +6,7 @@ use Rattle.em_io.specs.Sink.{IsRule}
 use Rattle.em_io.proofs.Sent.{part-of, sent-nothing}
 use Rattle.em_model.specs.Sync.{since_sync, up_to_sync}
 use Rattle.em_model.specs.declared.command.Command.{Command}
-use Rattle.em_model.specs.declared.command.Command.TheVariants.{Put, Del, Get, Sync, Push, Pop, Interval, Stab}
+use Rattle.em_model.specs.declared.command.Command.TheVariants.{Put, Add, Del, Get, Sync, Push, Pop, Interval, Stab}
 use Rattle.em_model.proofs.SyncLaws.{no_sync, since_same, since_synced, sync_parts, up_to_same, up_to_synced}
 use Rattle.em_frames.specs.Pool.{PoolCounts, SameFrames, singles_of}
 use Rattle.em_space.specs.Held.{Apart, Within}
@@ -36,6 +36,7 @@ use Rattle.em_ends.specs.Stop.{IfStopsFull, Prints}
 use Rattle.em_ends.specs.declared.stop.Stop.{Stop}
 use Rattle.em_ends.specs.declared.stop.Stop.TheVariants.{Fault, Read, Write, Em}
 use Rattle.em_answers.proofs.Answered.{text_at_sync}
+use Rattle.em_model.specs.Map.{Combiner}
 
 -- The frames of a service are out after calls that lent none.
 out_same : (frames : ℕ) (p q : PoolCounts) → FramesOut frames p → SameFrames p q → FramesOut frames q
@@ -46,30 +47,30 @@ out_same frames p q out same =
     record { is = omega (arith, is, free, shape) }
 
 -- A service stays as it is over calls on others: the law of a service,
-abbrev pub StaysLaw : {S : Type 0} → ServiceGhosts S → Type 0
+abbrev pub StaysLaw : {S R : Type 0} → ServiceGhosts S R → Type 0
 StaysLaw {S} v = (x : S) (held : List ℕ) (s t : RigState) → v.IsService x s → Touches held s t
     → (IsTrue s.device.told → Apart (v.blocks x s) held) → FramesOut v.frames t.pool
     → v.IsService x t × (IsTrue s.device.told → v.blocks x t ≡ v.blocks x s)
     × ((before cs : List Command) → v.Has x s before cs → v.Has x t before cs)
 
 -- and what it says of two moments.
-pub record ServiceStays {S : Type 0} (v : ServiceGhosts S) (x : S) (s t : RigState) : Type 0 where
+pub record ServiceStays {S R : Type 0} (v : ServiceGhosts S R) (x : S) (s t : RigState) : Type 0 where
   pub is : v.IsService x t
   pub blocks : IsTrue s.device.told → v.blocks x t ≡ v.blocks x s
   pub has : (before cs : List Command) → v.Has x s before cs → v.Has x t before cs
 
 -- So does what is left of it after a fault.
-abbrev pub FramesLaw : {S : Type 0} → ServiceGhosts S → Type 0
+abbrev pub FramesLaw : {S R : Type 0} → ServiceGhosts S R → Type 0
 FramesLaw {S} v = (x : S) (held : List ℕ) (s t : RigState) → v.HasItsFrames x s → Touches held s t
     → FramesOut v.frames t.pool → v.HasItsFrames x t
 
-pub frames_over : {S : Type 0} (v : ServiceGhosts S) (law : FramesLaw v) (x : S) (held : List ℕ) (s t : RigState)
+pub frames_over : {S R : Type 0} (v : ServiceGhosts S R) (law : FramesLaw v) (x : S) (held : List ℕ) (s t : RigState)
     → v.HasItsFrames x s → FramesOut v.frames s.pool → Goes held s t → v.HasItsFrames x t
 frames_over v law x held s t has out goes =
     law x held s t has goes.touches (out_same v.frames s.pool t.pool out goes.frames)
 
 -- A service that held these blocks gave a list at a sync.
-pub record GaveList {S : Type 0} (v : ServiceGhosts S) (x : S) (held : List ℕ) (a : ServiceCounts)
+pub record GaveList {S R : Type 0} (v : ServiceGhosts S R) (x : S) (held : List ℕ) (a : ServiceCounts)
     (s m : RigState) (c : Chain) : Type 0 where
   pub goes : Goes held s m
   pub is : v.IsService x m
@@ -93,7 +94,7 @@ list_spent None s m t a b c moves spent = tt
 list_spent (Some f) s m t a b c moves spent = omega (arith, moves, spent)
 
 -- The list of a sync is printed,
-module _ {S : Type 0} (v : ServiceGhosts S) (law : StaysLaw v) {x : S} {held : List ℕ} {a : ServiceCounts}
+module _ {S R : Type 0} (v : ServiceGhosts S R) (law : StaysLaw v) {x : S} {held : List ℕ} {a : ServiceCounts}
     {c : Chain} {s m p : RigState} (g : GaveList v x held a s m c) (k : KeepsBlocks m p) where
   printed_stays : ServiceStays v x m p
   printed_stays =
@@ -274,35 +275,36 @@ has_answered before after c (Ok x) e h =
 has_answered before after c (Err stop) e h = tt
 
 -- What is printed then is the text of the sync.
-pub prints_sync : {took : List ℕ → List ℕ → List ℕ} {old new : List ℕ} {T : Type 0} {result : Result T Stop}
+pub prints_sync : (apply : Combiner) {took : List ℕ → List ℕ → List ℕ} {old new : List ℕ} {T : Type 0} {result : Result T Stop}
     (k : FileKind) (given : List Command) (c : Command) → c ≡ Sync → k ≢ kind.Queue → IsOfKind k Sync
-    → Prints took (records_text k 0 (records_for k (up_to_sync given) (since_sync given))) old new result
-    → Prints took (text_at k given c) old new result
-prints_sync {took} {old} {new} {T} {result} k given c e no_queue is p =
+    → Prints took (records_text k 0 (records_for apply k (up_to_sync given) (since_sync given))) old new result
+    → Prints took (text_at apply k given c) old new result
+prints_sync apply {took} {old} {new} {T} {result} k given c e no_queue is p =
     subst (λ (text : List ℕ). Prints took text old new result)
-    (text_at_sync k given no_queue is ∙ ap (text_at k given) (sym e)) p
+    (text_at_sync apply k given no_queue is ∙ ap (text_at apply k given) (sym e)) p
 
 -- Another command prints nothing.
-nothing_at : (k : FileKind) (given : List Command) (c : Command) → (c ≡ Sync → ⊥) → text_at k given c ≡ []
-nothing_at kind.Map given (Put key value) other = refl
-nothing_at kind.Map given (Del key) other = refl
-nothing_at kind.Map given (Get key) other = refl
-nothing_at kind.Map given Sync other = absurd (other refl)
-nothing_at kind.Map given (Push key value) other = refl
-nothing_at kind.Map given Pop other = refl
-nothing_at kind.Map given (Interval low high) other = refl
-nothing_at kind.Map given (Stab point) other = refl
-nothing_at kind.Queue given c other = refl
-nothing_at kind.Stab given c other = refl
+nothing_at : (apply : Combiner) (k : FileKind) (given : List Command) (c : Command) → (c ≡ Sync → ⊥) → text_at apply k given c ≡ []
+nothing_at apply kind.Map given (Put key value) other = refl
+nothing_at apply kind.Map given (Add key value) other = refl
+nothing_at apply kind.Map given (Del key) other = refl
+nothing_at apply kind.Map given (Get key) other = refl
+nothing_at apply kind.Map given Sync other = absurd (other refl)
+nothing_at apply kind.Map given (Push key value) other = refl
+nothing_at apply kind.Map given Pop other = refl
+nothing_at apply kind.Map given (Interval low high) other = refl
+nothing_at apply kind.Map given (Stab point) other = refl
+nothing_at apply kind.Queue given c other = refl
+nothing_at apply kind.Stab given c other = refl
 
-module _ {IsState : List ℕ → Type 0} {took : List ℕ → List ℕ → List ℕ} (rule : IsRule IsState took)
+module _ (apply : Combiner) {IsState : List ℕ → Type 0} {took : List ℕ → List ℕ → List ℕ} (rule : IsRule IsState took)
     {old : List ℕ} (ok : IsState old) where
   all_of_none : {T : Type 0} (result : Result T Stop) → OnOk result (old ≡ took old [])
   all_of_none (Ok x) = sym (rule.nothing old ok)
   all_of_none (Err stop) = tt
 
   pub prints_other : {T : Type 0} (k : FileKind) (given : List Command) (c : Command) (result : Result T Stop)
-      → (c ≡ Sync → ⊥) → Prints took (text_at k given c) old old result
+      → (c ≡ Sync → ⊥) → Prints took (text_at apply k given c) old old result
   prints_other k given c result other =
-      subst (λ (text : List ℕ). Prints took text old old result) (sym (nothing_at k given c other))
+      subst (λ (text : List ℕ). Prints took text old old result) (sym (nothing_at apply k given c other))
       (record { all = all_of_none result; part = part-of (sent-nothing rule ok [] refl) })

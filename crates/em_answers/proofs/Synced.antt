@@ -5,10 +5,10 @@ use Rattle.std.proofs.lemmas.Grind.{flat_map-append}
 use Rattle.em_io.specs.Sink.{IsRule, Sent}
 use Rattle.em_io.proofs.Sent.{part-of, part-more, part-rest}
 use Rattle.em_space.specs.Rig.{RigState}
-use Rattle.em_model.specs.Map.{map_answers_from, no_keys, state_after}
+use Rattle.em_model.specs.Map.{Combiner, map_answers_from, no_keys, state_after}
 use Rattle.em_model.specs.Sync.{since_sync, synced_answers, up_to_sync}
 use Rattle.em_model.specs.declared.command.Command.{Command}
-use Rattle.em_model.specs.declared.command.Command.TheVariants.{Put, Del, Get, Sync, Push, Pop, Interval, Stab}
+use Rattle.em_model.specs.declared.command.Command.TheVariants.{Put, Add, Del, Get, Sync, Push, Pop, Interval, Stab}
 use Rattle.em_model.proofs.SyncLaws.{map_answers-parts, sync_parts, synced_answers-same, synced_answers-sync, syncs-append}
 use Rattle.em_lines.specs.CommandLine.{good_commands}
 use Rattle.em_lines.specs.RunSize.{commands_taken}
@@ -25,46 +25,47 @@ use Rattle.em_ends.specs.declared.stop.Stop.{Stop}
 use Rattle.em_ends.specs.declared.stop.Stop.TheVariants.{Fault, Read, Write, Em}
 
 -- nothing was printed of no command
-pub synced_none : (k : FileKind) → synced_text k [] ≡ []
-synced_none kind.Map = refl
-synced_none kind.Queue = refl
-synced_none kind.Stab = refl
+pub synced_none : (apply : Combiner) (k : FileKind) → synced_text apply k [] ≡ []
+synced_none apply kind.Map = refl
+synced_none apply kind.Queue = refl
+synced_none apply kind.Stab = refl
 
 -- a command that is no sync prints nothing
-same_text : (given : List Command) (c : Command) → synced_answers (given ++ c ∷ []) ≡ synced_answers given
-    → map_text (synced_answers (given ++ c ∷ [])) ≡ map_text (synced_answers given) ++ []
-same_text given c e = ap map_text e ∙ sym (append-nil (map_text (synced_answers given)))
+same_text : (apply : Combiner) (given : List Command) (c : Command) → synced_answers apply (given ++ c ∷ []) ≡ synced_answers apply given
+    → map_text (synced_answers apply (given ++ c ∷ [])) ≡ map_text (synced_answers apply given) ++ []
+same_text apply given c e = ap map_text e ∙ sym (append-nil (map_text (synced_answers apply given)))
 
 -- One command more.
-pub synced_next : (k : FileKind) (given : List Command) (c : Command)
-    → synced_text k (given ++ c ∷ []) ≡ synced_text k given ++ text_at k given c
-synced_next kind.Map given Sync =
-    ap map_text (synced_answers-sync given ∙ map_answers-parts given)
-    ∙ flat_map-append answer_line (synced_answers given)
-    (map_answers_from (state_after no_keys (up_to_sync given)) (since_sync given))
-synced_next kind.Map given (Put k v) = same_text given (Put k v) (synced_answers-same given (Put k v ∷ []) refl)
-synced_next kind.Map given (Del k) = same_text given (Del k) (synced_answers-same given (Del k ∷ []) refl)
-synced_next kind.Map given (Get k) = same_text given (Get k) (synced_answers-same given (Get k ∷ []) refl)
-synced_next kind.Map given (Push k v) = same_text given (Push k v) (synced_answers-same given (Push k v ∷ []) refl)
-synced_next kind.Map given Pop = same_text given Pop (synced_answers-same given (Pop ∷ []) refl)
-synced_next kind.Map given (Interval l h) = same_text given (Interval l h) (synced_answers-same given (Interval l h ∷ []) refl)
-synced_next kind.Map given (Stab p) = same_text given (Stab p) (synced_answers-same given (Stab p ∷ []) refl)
-synced_next kind.Queue given c = refl
-synced_next kind.Stab given c = refl
+pub synced_next : (apply : Combiner) (k : FileKind) (given : List Command) (c : Command)
+    → synced_text apply k (given ++ c ∷ []) ≡ synced_text apply k given ++ text_at apply k given c
+synced_next apply kind.Map given Sync =
+    ap map_text (synced_answers-sync apply given ∙ map_answers-parts apply given)
+    ∙ flat_map-append answer_line (synced_answers apply given)
+    (map_answers_from apply (state_after apply no_keys (up_to_sync given)) (since_sync given))
+synced_next apply kind.Map given (Put k v) = same_text apply given (Put k v) (synced_answers-same apply given (Put k v ∷ []) refl)
+synced_next apply kind.Map given (Add k v) = same_text apply given (Add k v) (synced_answers-same apply given (Add k v ∷ []) refl)
+synced_next apply kind.Map given (Del k) = same_text apply given (Del k) (synced_answers-same apply given (Del k ∷ []) refl)
+synced_next apply kind.Map given (Get k) = same_text apply given (Get k) (synced_answers-same apply given (Get k ∷ []) refl)
+synced_next apply kind.Map given (Push k v) = same_text apply given (Push k v) (synced_answers-same apply given (Push k v ∷ []) refl)
+synced_next apply kind.Map given Pop = same_text apply given Pop (synced_answers-same apply given (Pop ∷ []) refl)
+synced_next apply kind.Map given (Interval l h) = same_text apply given (Interval l h) (synced_answers-same apply given (Interval l h ∷ []) refl)
+synced_next apply kind.Map given (Stab p) = same_text apply given (Stab p) (synced_answers-same apply given (Stab p ∷ []) refl)
+synced_next apply kind.Queue given c = refl
+synced_next apply kind.Stab given c = refl
 
 -- what later commands will print
-abbrev pub synced_rest : FileKind → (given rest : List Command) → List ℕ
-synced_rest k given [] = []
-synced_rest k given (c ∷ cs) = text_at k given c ++ synced_rest k (given ++ c ∷ []) cs
+abbrev pub synced_rest : (apply : Combiner) → FileKind → (given rest : List Command) → List ℕ
+synced_rest apply k given [] = []
+synced_rest apply k given (c ∷ cs) = text_at apply k given c ++ synced_rest apply k (given ++ c ∷ []) cs
 
-pub synced_all : (k : FileKind) (given rest : List Command)
-    → synced_text k (given ++ rest) ≡ synced_text k given ++ synced_rest k given rest
-synced_all k given [] = ap (synced_text k) (append-nil given) ∙ sym (append-nil (synced_text k given))
-synced_all k given (c ∷ cs) =
-    ap (synced_text k) (sym (append_assoc given (c ∷ []) cs))
-    ∙ synced_all k (given ++ c ∷ []) cs
-    ∙ ap (λ t. t ++ synced_rest k (given ++ c ∷ []) cs) (synced_next k given c)
-    ∙ append_assoc (synced_text k given) (text_at k given c) (synced_rest k (given ++ c ∷ []) cs)
+pub synced_all : (apply : Combiner) (k : FileKind) (given rest : List Command)
+    → synced_text apply k (given ++ rest) ≡ synced_text apply k given ++ synced_rest apply k given rest
+synced_all apply k given [] = ap (synced_text apply k) (append-nil given) ∙ sym (append-nil (synced_text apply k given))
+synced_all apply k given (c ∷ cs) =
+    ap (synced_text apply k) (sym (append_assoc given (c ∷ []) cs))
+    ∙ synced_all apply k (given ++ c ∷ []) cs
+    ∙ ap (λ t. t ++ synced_rest apply k (given ++ c ∷ []) cs) (synced_next apply k given c)
+    ∙ append_assoc (synced_text apply k given) (text_at apply k given c) (synced_rest apply k (given ++ c ∷ []) cs)
 
 -- The syncs among commands that were given are among those that were taken.
 pub syncs_given : (k : FileKind) (text left : List ℕ) (given rest : List Command)
@@ -119,61 +120,61 @@ never_fault faults after s t Read P cause = tt
 never_fault faults after s t Write P cause = tt
 never_fault faults after s t (Em fault) P cause = tt
 
-module _ {IsState : List ℕ → Type 0} {took : List ℕ → List ℕ → List ℕ} (rule : IsRule IsState took)
+module _ (apply : Combiner) {IsState : List ℕ → Type 0} {took : List ℕ → List ℕ → List ℕ} (rule : IsRule IsState took)
     {old : List ℕ} (ok : IsState old) where
   -- Before the first command nothing was printed.
-  pub printed_none : (k : FileKind) → old ≡ took old (synced_text k [])
-  printed_none k = sym (ap (took old) (synced_none k) ∙ rule.nothing old ok)
+  pub printed_none : (k : FileKind) → old ≡ took old (synced_text apply k [])
+  printed_none k = sym (ap (took old) (synced_none apply k) ∙ rule.nothing old ok)
 
-  module _ (k : FileKind) (given : List Command) {now : List ℕ} (p : now ≡ took old (synced_text k given)) where
+  module _ (k : FileKind) (given : List Command) {now : List ℕ} (p : now ≡ took old (synced_text apply k given)) where
     -- A command printed what it prints.
-    pub printed_next : (c : Command) {new : List ℕ} → new ≡ took now (text_at k given c)
-        → new ≡ took old (synced_text k (given ++ c ∷ []))
+    pub printed_next : (c : Command) {new : List ℕ} → new ≡ took now (text_at apply k given c)
+        → new ≡ took old (synced_text apply k (given ++ c ∷ []))
     printed_next c q =
-        q ∙ ap (λ s. took s (text_at k given c)) p
-        ∙ rule.both old (synced_text k given) (text_at k given c) ok
-        ∙ ap (took old) (sym (synced_next k given c))
+        q ∙ ap (λ s. took s (text_at apply k given c)) p
+        ∙ rule.both old (synced_text apply k given) (text_at apply k given c) ok
+        ∙ ap (took old) (sym (synced_next apply k given c))
 
     module _ (good rest : List Command) (e : good ≡ given ++ rest) where
-      front : Sent took old (synced_text k good) now (synced_rest k given rest)
+      front : Sent took old (synced_text apply k good) now (synced_rest apply k given rest)
       front = record {
-        sent = synced_text k given;
+        sent = synced_text apply k given;
         state = p;
-        all = sym (synced_all k given rest) ∙ ap (synced_text k) (sym e);
+        all = sym (synced_all apply k given rest) ∙ ap (synced_text apply k) (sym e);
       }
 
-      all_given : rest ≡ [] → now ≡ took old (synced_text k good)
+      all_given : rest ≡ [] → now ≡ took old (synced_text apply k good)
       all_given none =
-          p ∙ ap (λ cs. took old (synced_text k cs)) (sym (e ∙ ap (λ r. given ++ r) none ∙ append-nil given))
+          p ∙ ap (λ cs. took old (synced_text apply k cs)) (sym (e ∙ ap (λ r. given ++ r) none ∙ append-nil given))
 
       -- All commands were given,
-      pub given_all : {T : Type 0} (x : T) → rest ≡ [] → Answers took (synced_text k good) old now (Ok x)
+      pub given_all : {T : Type 0} (x : T) → rest ≡ [] → Answers took (synced_text apply k good) old now (Ok x)
       given_all x none = record { all = all_given none; fault = tt; part = part-of front }
 
       -- or those before a faulty line,
       pub given_faulty : {T : Type 0} (stop : Stop) → rest ≡ []
-          → Answers {T = T} took (synced_text k good) old now (Err stop)
+          → Answers {T = T} took (synced_text apply k good) old now (Err stop)
       given_faulty stop none =
           record { all = tt; fault = on_fault stop _ (all_given none); part = part-of front }
 
       -- or the shelf failed before a line,
-      pub given_unread : {T : Type 0} → Answers {T = T} took (synced_text k good) old now (Err Read)
+      pub given_unread : {T : Type 0} → Answers {T = T} took (synced_text apply k good) old now (Err Read)
       given_unread = record { all = tt; fault = tt; part = part-of front }
 
       -- or a command stopped.
       pub given_stopped : {S T : Type 0} (c : Command) (cs : List Command) {new : List ℕ} (faults after : ℕ)
           (s t : RigState) (stop : Stop) (result : Result T Stop) → IsErrAnd result (λ f. f ≡ stop)
           → rest ≡ c ∷ cs → SyncCause faults after s t stop
-          → Prints {T = S} took (text_at k given c) now new (Err stop)
-          → Answers took (synced_text k good) old new result
+          → Prints {T = S} took (text_at apply k given c) now new (Err stop)
+          → Answers took (synced_text apply k good) old new result
       given_stopped c cs faults after s t stop (Ok x) is next cause q = absurd is
       given_stopped {S} {T} c cs {new} faults after s t stop (Err f) is next cause q =
-          let left : synced_rest k given rest ≡ text_at k given c ++ synced_rest k (given ++ c ∷ []) cs =
-          ap (synced_rest k given) next in
-          let stopped : Answers {T = T} took (synced_text k good) old new (Err stop) =
+          let left : synced_rest apply k given rest ≡ text_at apply k given c ++ synced_rest apply k (given ++ c ∷ []) cs =
+          ap (synced_rest apply k given) next in
+          let stopped : Answers {T = T} took (synced_text apply k good) old new (Err stop) =
           record {
             all = tt;
             fault = never_fault faults after s t stop _ cause;
-            part = part-rest rule ok front (rw left (part-more (synced_rest k (given ++ c ∷ []) cs) q.part));
+            part = part-rest rule ok front (rw left (part-more (synced_rest apply k (given ++ c ∷ []) cs) q.part));
           } in
-          subst (λ (x : Stop). Answers {T = T} took (synced_text k good) old new (Err x)) (sym is) stopped
+          subst (λ (x : Stop). Answers {T = T} took (synced_text apply k good) old new (Err x)) (sym is) stopped

@@ -1,7 +1,7 @@
 -- What is printed for the commands of a command file: docs/FORMATS.md, "Output".
 use Rattle.std.specs.Prelude.{ℕ, List, [], ◌∷◌, ◌++◌, Option, Some, None, decimal, codes}
 use Rattle.std.specs.List.{flat_map}
-use Rattle.em_model.specs.Map.{map_answers, map_answers_from, no_keys, state_after}
+use Rattle.em_model.specs.Map.{Combiner, map_answers, map_answers_from, no_keys, state_after}
 use Rattle.em_model.specs.Queue.{queue_answers}
 use Rattle.em_model.specs.Stab.{stab_answers}
 use Rattle.em_model.specs.Sync.{since_sync, synced_answers, up_to_sync}
@@ -52,20 +52,20 @@ abbrev pub stab_text : List (List ℕ) → List ℕ
 stab_text answers = flat_map numbers_line answers
 
 -- the text of the answers to some commands of a file of this kind
-abbrev pub text_for : FileKind → List Command → List ℕ
-text_for Map commands = map_text (map_answers commands)
-text_for Queue commands = queue_text (queue_answers commands)
-text_for Stab commands = stab_text (stab_answers commands)
+abbrev pub text_for : Combiner → FileKind → List Command → List ℕ
+text_for apply Map commands = map_text (map_answers apply commands)
+text_for apply Queue commands = queue_text (queue_answers commands)
+text_for apply Stab commands = stab_text (stab_answers commands)
 
 -- The text that was printed before the end of some commands of a file that is read into a service: of a map the answers
 -- at its syncs, of an interval list nothing.
-abbrev pub synced_text : FileKind → List Command → List ℕ
-synced_text Map commands = map_text (synced_answers commands)
-synced_text Queue commands = []
-synced_text Stab commands = []
+abbrev pub synced_text : Combiner → FileKind → List Command → List ℕ
+synced_text apply Map commands = map_text (synced_answers apply commands)
+synced_text apply Queue commands = []
+synced_text apply Stab commands = []
 
 -- the text that one command more prints, after these: at a map's sync that of the answers to the gets since the last one
-abbrev pub text_at : FileKind → List Command → Command → List ℕ
-text_at Map given Sync =
-    map_text (map_answers_from (state_after no_keys (up_to_sync given)) (since_sync given))
-text_at kind given command = []
+abbrev pub text_at : Combiner → FileKind → List Command → Command → List ℕ
+text_at apply Map given Sync =
+    map_text (map_answers_from apply (state_after apply no_keys (up_to_sync given)) (since_sync given))
+text_at apply kind given command = []

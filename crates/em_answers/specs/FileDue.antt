@@ -1,5 +1,6 @@
 -- What a command file is due: the text on the output, and the status.
 use Rattle.std.specs.Prelude.{ℕ, List, Option, Some, None}
+use Rattle.em_model.specs.Map.{Combiner}
 use Rattle.em_answers.specs.Answer.{synced_text, text_for}
 use Rattle.em_lines.specs.CommandLine.{first_fault, good_commands}
 use Rattle.em_ends.specs.declared.status.Malform.TheVariants.{Text}
@@ -25,9 +26,9 @@ text_unless (Some fault) all before = before
 
 -- The text that is due on the output. A queue answers each pop at once, and so prints the answers before a faulty
 -- line; a map answers at each sync and at the end; an interval list answers after the whole file.
-abbrev pub output_text : FileKind → List ℕ → List ℕ
-output_text Map text = text_unless (first_fault Map text) (text_for Map (good_commands Map text))
-    (synced_text Map (good_commands Map text))
-output_text Queue text = text_for Queue (good_commands Queue text)
-output_text Stab text = text_unless (first_fault Stab text) (text_for Stab (good_commands Stab text))
-    (synced_text Stab (good_commands Stab text))
+abbrev pub output_text : Combiner → FileKind → List ℕ → List ℕ
+output_text apply Map text = text_unless (first_fault Map text) (text_for apply Map (good_commands Map text))
+    (synced_text apply Map (good_commands Map text))
+output_text apply Queue text = text_for apply Queue (good_commands Queue text)
+output_text apply Stab text = text_unless (first_fault Stab text) (text_for apply Stab (good_commands Stab text))
+    (synced_text apply Stab (good_commands Stab text))

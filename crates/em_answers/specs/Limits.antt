@@ -5,6 +5,7 @@ use Rattle.em_record.specs.Shape.{ShapeNumbers}
 use Rattle.em_io.specs.Shelf.{SlotState}
 use Rattle.em_io.specs.declared.shelf.Slot.{Slot}
 use Rattle.em_io.specs.declared.shelf.Slot.TheVariants.{First}
+use Rattle.em_model.specs.Map.{Combiner}
 use Rattle.em_answers.specs.FileDue.{due_status, output_text}
 use Rattle.em_lines.specs.RunSize.{run_size, syncs_taken}
 use Rattle.em_lines.specs.declared.text.FileKind.{FileKind}
@@ -40,20 +41,20 @@ abbrev pub for_each : Option (ShapeNumbers → ℕ → ℕ) → (syncs size : (S
 for_each None syncs size = None
 for_each (Some f) syncs size = Some (λ shape slots. (syncs slots + 1) * f shape (size slots))
 
--- what a command file asks of a run with these limits
-abbrev pub asked_by : Limits → FileKind → List ℕ → Asked
-asked_by limits kind text = record {
+-- what a command file whose adds are joined so asks of a run with these limits
+abbrev pub asked_by : Combiner → Limits → FileKind → List ℕ → Asked
+asked_by apply limits kind text = record {
   status = due_status kind text;
   status_told = false;
-  output = output_text kind text;
+  output = output_text apply kind text;
   moves = for_each limits.moves (λ slots. syncs_in kind text (slots First).left)
       (λ slots. run_size kind text (slots First).left);
   room = sized limits.room (λ slots. run_size kind text (slots First).left);
 }
 
 -- what a command file asks: its run is held to the transfer cost and the room
-abbrev pub asked_of_file : FileKind → List ℕ → Asked
-asked_of_file kind text = asked_by by_cost kind text
+abbrev pub asked_of_file : Combiner → FileKind → List ℕ → Asked
+asked_of_file apply kind text = asked_by apply by_cost kind text
 
 -- What the run of a queue is held to by itself: the room that it states, if it does. Of its moves its
 -- allowance tells.

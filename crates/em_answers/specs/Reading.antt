@@ -52,6 +52,13 @@ KeepsAllowance (Some f) kind text left old new =
     IsTrue old.device.told
     → new.moves ≤ (syncs_in kind text left + 1) * f old.pool.shape (run_size kind text left)
 
+-- Over a shelf and a device that tell, at no moment of a run were more blocks in use than this room says by the size of
+-- what was read of a text, if there is such a number.
+abbrev pub KeepsRoom : Option (ShapeNumbers → ℕ → ℕ) → Bool → FileKind → (text left : List ℕ) → RigState
+    → Type 0
+KeepsRoom room tells kind text left new = IsTrue tells → IsTrue new.device.told
+    → IfSome room (λ f. new.most ≤ f new.pool.shape (run_size kind text left))
+
 -- What a full device says, where this much of the text is left: its blocks are at most the moves and
 -- two for each frame, and fewer than are enough for a run of this size with these limits.
 pub record IsFilled (limits : Limits) (tells : Bool) (kind : FileKind) (text left : List ℕ)

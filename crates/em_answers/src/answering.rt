@@ -9,6 +9,8 @@ ghost use Rattle.em_ready.specs.Ready.{IsReady, IsUnused};
 ghost use Rattle.em_answers.specs.FileRun.{Runs, RunsWithin};
 ghost use Rattle.em_lines.specs.RunSize.{commands_taken};
 ghost use Rattle.em_answers.specs.Reading.{service_limits};
+ghost use Rattle.em_model.specs.Map.{Combiner};
+ghost use Rattle.em_settle.specs.Add.{apply_of};
 
 use crate::read::answer_file;
 use crate::serving::serve;
@@ -20,27 +22,30 @@ use em_map::Batch;
 use em_pqueue::ExtQueue;
 use em_segment::Stab;
 use em_services::Service;
+use em_settle::{AddSettle, Combine, Settle};
 use em_space::{Queue, Rig};
 
-/// Answers the commands of the open slot by a new service of type S, and prints the answers at each sync and at the
+/// Answers the commands of the open slot by a new service of type S that this rule makes, and prints the answers at each sync and at the
 /// end.
 pub fn run_service<D: Device, H: Shelf, W: Sink, S: Service>(
+    rule: S::Rule,
     rig: &mut Rig<'_, D>,
     shelf: &mut H,
     out: &mut W,
 ) -> Status
+    requires rule { S.IsRule rule }
     requires unused { IsUnused (seen D.state rig.old) }
     requires none_moved { (seen D.state rig.old).moves ≡ 0 }
     requires free { IsReady (seen D.state rig.old).pool }
     requires ready { ((H.stand shelf.old).slot Slot.First).ready ≡ true }
     ensures goes { Goes [] (seen D.state rig.old) (seen D.state rig.new) }
-    ensures runs { RunsWithin H.Shelf W.Sink
+    ensures runs { RunsWithin (S.combiner_of rule) H.Shelf W.Sink
         (service_limits S.allowance S.room)
         S.KIND (seen D.state rig.old) (seen D.state rig.new)
         shelf.old out.old shelf.new out.new result }
 {
     let mut feed = Feed::new(Slot::First);
-    match answer_file::<D, H, W, S>(rig, &mut feed, shelf, out) {
+    match answer_file::<D, H, W, S>(rig, rule, &mut feed, shelf, out) {
         Ok(()) => Status::Done,
         Err(stop) => status_of(stop),
     }
@@ -61,7 +66,7 @@ pub fn run_queue<D: Device, H: Shelf, W: Sink, Q: Queue>(
     requires alone { IsAlone (seen D.state rig.old) (Q.counts queue) }
     requires ready { ((H.stand shelf.old).slot Slot.First).ready ≡ true }
     ensures gives { GivesUp Q.Queue queue (seen D.state rig.old) (seen D.state rig.new) }
-    ensures runs { RunsWithin H.Shelf W.Sink (queue_limits Q.room)
+    ensures runs { (apply : Combiner) → RunsWithin apply H.Shelf W.Sink (queue_limits Q.room)
         FileKind.Queue (seen D.state rig.old) (seen D.state rig.new)
         shelf.old out.old shelf.new out.new result }
     ensures moves { IsTrue H.tells → IsTrue (seen D.state rig.old).device.told
@@ -78,10 +83,29 @@ pub fn run_queue<D: Device, H: Shelf, W: Sink, Q: Queue>(
     }
 }
 
-/// Answers the commands of the open slot, on a rig of which no block is or was in use.
-#[tactic(auto, using(crate::proofs::Moves::queue_alone, crate::proofs::Moves::queue_serves))]
-pub fn run_open<D: Device, H: Shelf, W: Sink>(
-    kind: FileKind,
+/// Answers the commands of a map file in the open slot, whose adds are joined by these rules.
+fn run_map<D: Device, H: Shelf, W: Sink, F: Fn(u64, u64) -> u64 + Drop>(
+    settle: AddSettle<F>,
+    rig: &mut Rig<'_, D>,
+    shelf: &mut H,
+    out: &mut W,
+) -> Status
+    requires rule { ⟦<AddSettle<F> as Settle>⟧.IsReady settle }
+    requires unused { IsUnused (seen D.state rig.old) }
+    requires free { IsReady (seen D.state rig.old).pool }
+    requires none_moved { (seen D.state rig.old).moves ≡ 0 }
+    requires ready { ((H.stand shelf.old).slot Slot.First).ready ≡ true }
+    ensures goes { Goes [] (seen D.state rig.old) (seen D.state rig.new) }
+    ensures runs { Runs (apply_of settle.kind) H.Shelf W.Sink FileKind.Map
+        (seen D.state rig.old) (seen D.state rig.new)
+        shelf.old out.old shelf.new out.new result }
+{
+    run_service::<D, H, W, Batch<F>>(settle, rig, shelf, out)
+}
+
+/// The same by the closure of this combiner.
+fn run_combined<D: Device, H: Shelf, W: Sink>(
+    combine: Combine,
     rig: &mut Rig<'_, D>,
     shelf: &mut H,
     out: &mut W,
@@ -91,15 +115,54 @@ pub fn run_open<D: Device, H: Shelf, W: Sink>(
     requires none_moved { (seen D.state rig.old).moves ≡ 0 }
     requires ready { ((H.stand shelf.old).slot Slot.First).ready ≡ true }
     ensures goes { Goes [] (seen D.state rig.old) (seen D.state rig.new) }
-    ensures runs { Runs H.Shelf W.Sink kind (seen D.state rig.old) (seen D.state rig.new)
+    ensures runs { Runs (apply_of combine) H.Shelf W.Sink FileKind.Map
+        (seen D.state rig.old) (seen D.state rig.new)
+        shelf.old out.old shelf.new out.new result }
+{
+    match combine {
+        Combine::Sum => {
+            let sum = AddSettle::new(|x: u64, y: u64| x.wrapping_add(y), Combine::Sum);
+            run_map(sum, rig, shelf, out)
+        }
+        Combine::Max => {
+            let greatest = AddSettle::new(|x: u64, y: u64| x.max(y), Combine::Max);
+            run_map(greatest, rig, shelf, out)
+        }
+        Combine::Min => {
+            let least = AddSettle::new(|x: u64, y: u64| x.min(y), Combine::Min);
+            run_map(least, rig, shelf, out)
+        }
+        Combine::Xor => {
+            let exclusive = AddSettle::new(|x: u64, y: u64| x ^ y, Combine::Xor);
+            run_map(exclusive, rig, shelf, out)
+        }
+    }
+}
+
+/// Answers the commands of the open slot, on a rig of which no block is or was in use. The adds of a map file are joined
+/// by this combiner.
+#[tactic(auto, using(crate::proofs::Moves::queue_alone, crate::proofs::Moves::queue_serves))]
+pub fn run_open<D: Device, H: Shelf, W: Sink>(
+    kind: FileKind,
+    combine: Combine,
+    rig: &mut Rig<'_, D>,
+    shelf: &mut H,
+    out: &mut W,
+) -> Status
+    requires unused { IsUnused (seen D.state rig.old) }
+    requires free { IsReady (seen D.state rig.old).pool }
+    requires none_moved { (seen D.state rig.old).moves ≡ 0 }
+    requires ready { ((H.stand shelf.old).slot Slot.First).ready ≡ true }
+    ensures goes { Goes [] (seen D.state rig.old) (seen D.state rig.new) }
+    ensures runs { Runs (apply_of combine) H.Shelf W.Sink kind (seen D.state rig.old) (seen D.state rig.new)
         shelf.old out.old shelf.new out.new result }
 {
     match kind {
-        FileKind::Map => run_service::<D, H, W, Batch>(rig, shelf, out),
+        FileKind::Map => run_combined(combine, rig, shelf, out),
         FileKind::Queue => match ExtQueue::new(rig) {
             Ok(queue) => run_queue(rig, queue, shelf, out),
             Err(fault) => status_of(Stop::Em(fault)),
         },
-        FileKind::Stab => run_service::<D, H, W, Stab>(rig, shelf, out),
+        FileKind::Stab => run_service::<D, H, W, Stab>((), rig, shelf, out),
     }
 }

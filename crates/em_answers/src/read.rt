@@ -19,10 +19,10 @@ ghost use Rattle.em_chain.specs.Counts.{ceiling};
 ghost use Rattle.em_answers.specs.Answer.{synced_text, text_at};
 ghost use Rattle.em_answers.specs.FileDue.{output_text};
 ghost use Rattle.em_answers.specs.Print.{records_text};
-ghost use Rattle.em_answers.specs.Reading.{FullAtSync, KeepsAllowance, StandsAlone, StopsReading, SyncCause, moves_within, service_limits, ReadsAll};
+ghost use Rattle.em_answers.specs.Reading.{FullAtSync, KeepsAllowance, KeepsRoom, StandsAlone, StopsReading, SyncCause, moves_within, service_limits, ReadsAll};
 ghost use Rattle.em_answers.specs.Serve.{Answers as AnswersAll};
 ghost use Rattle.em_ends.specs.Stop.{IfStopsFull, Prints};
-ghost use Rattle.em_services.specs.Service.{CanAnswer, TakesCommand, WithinAllowance, WithinRoom, records_for, syncs_for};
+ghost use Rattle.em_services.specs.Service.{CanSync, TakesCommand, WithinAllowance, WithinRoom, records_for, syncs_for};
 
 use crate::print::{Answers, print_answers};
 use em_chain::discard;
@@ -53,11 +53,12 @@ fn answer_sync<D: Device, W: Sink, S: Service>(
 ) -> Result<(), Stop>
     requires sound { Sound (seen D.state rig.old) }
     requires is { S.IsService service.old (seen D.state rig.old) }
-    requires free { CanAnswer (seen D.state rig.old).pool }
+    requires free { CanSync (seen D.state rig.old).pool }
     requires few { (S.counts service.old).n < 2 ^ 40 }
     requires kind { IsOfKind S.KIND variants.Sync }
     ensures goes { Goes (S.blocks service.old (seen D.state rig.old))
         (seen D.state rig.old) (seen D.state rig.new) }
+    ensures joins { S.combiner service.new ≡ S.combiner service.old }
     ensures frames { S.HasItsFrames service.new (seen D.state rig.new) }
     ensures is { OnOk result (S.IsService service.new (seen D.state rig.new)) }
     ensures has { OnOk result ((before cs : List commands.Command)
@@ -75,7 +76,7 @@ fn answer_sync<D: Device, W: Sink, S: Service>(
         (seen D.state rig.old) (seen D.state rig.new) }
     ensures prints { IsTrue (seen D.state rig.old).device.told → (before cs : List commands.Command)
         → S.Has service.old (seen D.state rig.old) before cs
-        → Prints W.took (records_text S.KIND 0 (records_for S.KIND before cs))
+        → Prints W.took (records_text S.KIND 0 (records_for (S.combiner service.old) S.KIND before cs))
         (W.state out.old) (W.state out.new) result }
     ensures later { W.faults out.old ≤ W.faults out.new }
     ensures full { IfErr result (λ stop. IfStopsFull stop (FullAtSync S.room
@@ -100,11 +101,12 @@ fn give<D: Device, W: Sink, S: Service>(
 ) -> Result<(), Stop>
     requires sound { Sound (seen D.state rig.old) }
     requires is { S.IsService service.old (seen D.state rig.old) }
-    requires free { CanAnswer (seen D.state rig.old).pool }
+    requires free { CanSync (seen D.state rig.old).pool }
     requires few { (S.counts service.old).n < 2 ^ 40 }
     requires kind { IsOfKind S.KIND command }
     ensures goes { Goes (S.blocks service.old (seen D.state rig.old))
         (seen D.state rig.old) (seen D.state rig.new) }
+    ensures joins { S.combiner service.new ≡ S.combiner service.old }
     ensures frames { S.HasItsFrames service.new (seen D.state rig.new) }
     ensures is { OnOk result (S.IsService service.new (seen D.state rig.new)) }
     ensures has { OnOk result ((given : List commands.Command)
@@ -123,7 +125,7 @@ fn give<D: Device, W: Sink, S: Service>(
         (seen D.state rig.old) (seen D.state rig.new) }
     ensures prints { IsTrue (seen D.state rig.old).device.told → (given : List commands.Command)
         → S.Has service.old (seen D.state rig.old) (up_to_sync given) (since_sync given)
-        → Prints W.took (text_at S.KIND given command) (W.state out.old) (W.state out.new) result }
+        → Prints W.took (text_at (S.combiner service.old) S.KIND given command) (W.state out.old) (W.state out.new) result }
     ensures later { W.faults out.old ≤ W.faults out.new }
     ensures full { IfErr result (λ stop. IfStopsFull stop (FullAtSync S.room
         (S.blocks service.old (seen D.state rig.old)) (S.counts service.old)
@@ -155,11 +157,12 @@ fn read_all<D: Device, H: Shelf, W: Sink, S: Service>(
     requires alone { StandsAlone S.allowance S.room
         (S.blocks service.old (seen D.state rig.old)) (S.counts service.old)
         (seen D.state rig.old) }
-    requires free { CanAnswer (seen D.state rig.old).pool }
+    requires free { CanSync (seen D.state rig.old).pool }
     requires ready { ((H.stand shelf.old).slot feed.old.slot).ready ≡ true }
     requires place { feed.old.place ≡ 0 }
     ensures goes { Goes (S.blocks service.old (seen D.state rig.old))
         (seen D.state rig.old) (seen D.state rig.new) }
+    ensures joins { S.combiner service.new ≡ S.combiner service.old }
     ensures frames { S.HasItsFrames service.new (seen D.state rig.new) }
     ensures is { OnOk result (S.IsService service.new (seen D.state rig.new)) }
     ensures within { OnOk result (Within (seen D.state rig.old)
@@ -183,7 +186,7 @@ fn read_all<D: Device, H: Shelf, W: Sink, S: Service>(
         ≡ length (stab_answers (good_commands S.KIND (rest feed.old (H.stand shelf.old))))) }
     ensures synced { IsTrue H.tells → IsTrue (seen D.state rig.old).device.told
         → AnswersAll W.took
-        (synced_text S.KIND (good_commands S.KIND (rest feed.old (H.stand shelf.old))))
+        (synced_text (S.combiner service.old) S.KIND (good_commands S.KIND (rest feed.old (H.stand shelf.old))))
         (W.state out.old) (W.state out.new) result }
     ensures stop { IfErr result (StopsReading H.Shelf W.Sink
         (service_limits S.allowance S.room) S.KIND feed.old shelf.old shelf.new out.old out.new
@@ -191,6 +194,8 @@ fn read_all<D: Device, H: Shelf, W: Sink, S: Service>(
     ensures moves { IsTrue H.tells → KeepsAllowance S.allowance S.KIND
         (rest feed.old (H.stand shelf.old)) ((H.stand shelf.new).slot feed.old.slot).left
         (seen D.state rig.old) (seen D.state rig.new) }
+    ensures most { KeepsRoom S.room H.tells S.KIND (rest feed.old (H.stand shelf.old))
+        ((H.stand shelf.new).slot feed.old.slot).left (seen D.state rig.new) }
 {
     let mut number: u64 = 1;
     let mut stabs: u64 = 0;
@@ -209,15 +214,17 @@ fn read_all<D: Device, H: Shelf, W: Sink, S: Service>(
     }
 }
 
-/// Gives all commands of a file to a new service of type S, on a rig of which no block is or was in use. At each
+/// Gives all commands of a file to a new service of type S by this rule, on a rig of which no block is or was in use. At each
 /// sync the answers that are due are printed; those of the others are handed out. The service is given up.
 #[tactic(auto, using(crate::proofs::Listing::serves_beside, crate::proofs::Listing::answers_beside, crate::proofs::Listing::alone_made, crate::proofs::Listing::ended_service, crate::proofs::Listing::left_service))]
 fn read_answers<D: Device, H: Shelf, W: Sink, S: Service>(
     rig: &mut Rig<'_, D>,
+    rule: S::Rule,
     feed: &mut Feed,
     shelf: &mut H,
     out: &mut W,
 ) -> Result<Answers, Stop>
+    requires rule { S.IsRule rule }
     requires unused { IsUnused (seen D.state rig.old) }
     requires none_moved { (seen D.state rig.old).moves ≡ 0 }
     requires free { IsReady (seen D.state rig.old).pool }
@@ -231,7 +238,7 @@ fn read_answers<D: Device, H: Shelf, W: Sink, S: Service>(
     ensures whole { IsTrue H.tells → OnOk result (ReadsAll S.KIND
         (rest feed.old (H.stand shelf.old)) (rest feed.new (H.stand shelf.new))) }
     ensures records { IsTrue H.tells → IsTrue (seen D.state rig.old).device.told
-        → IfOk result (λ a. chain_items (seen D.state rig.new) a.records ≡ records_for S.KIND
+        → IfOk result (λ a. chain_items (seen D.state rig.new) a.records ≡ records_for (S.combiner_of rule) S.KIND
         (up_to_sync (good_commands S.KIND (rest feed.old (H.stand shelf.old))))
         (since_sync (good_commands S.KIND (rest feed.old (H.stand shelf.old))))) }
     ensures stabs { IsTrue H.tells → IfOk result (λ a. a.stabs
@@ -242,7 +249,7 @@ fn read_answers<D: Device, H: Shelf, W: Sink, S: Service>(
         ((H.stand shelf.new).slot feed.old.slot).left) (payload_in (seen D.state rig.old))) }
     ensures synced { IsTrue H.tells → IsTrue (seen D.state rig.old).device.told
         → AnswersAll W.took
-        (synced_text S.KIND (good_commands S.KIND (rest feed.old (H.stand shelf.old))))
+        (synced_text (S.combiner_of rule) S.KIND (good_commands S.KIND (rest feed.old (H.stand shelf.old))))
         (W.state out.old) (W.state out.new) result }
     ensures stop { IfErr result (StopsReading H.Shelf W.Sink
         (service_limits S.allowance S.room) S.KIND feed.old shelf.old shelf.new out.old out.new
@@ -250,8 +257,10 @@ fn read_answers<D: Device, H: Shelf, W: Sink, S: Service>(
     ensures moves { IsTrue H.tells → KeepsAllowance S.allowance S.KIND
         (rest feed.old (H.stand shelf.old)) ((H.stand shelf.new).slot feed.old.slot).left
         (seen D.state rig.old) (seen D.state rig.new) }
+    ensures most { KeepsRoom S.room H.tells S.KIND (rest feed.old (H.stand shelf.old))
+        ((H.stand shelf.new).slot feed.old.slot).left (seen D.state rig.new) }
 {
-    let mut service = match S::new(rig) {
+    let mut service = match S::new(rig, rule) {
         Ok(service) => service,
         Err(fault) => return Err(Stop::Em(fault)),
     };
@@ -267,14 +276,16 @@ fn read_answers<D: Device, H: Shelf, W: Sink, S: Service>(
     }
 }
 
-/// Answers a file by a new service of type S, on a rig of which no block is or was in use: its commands are given to
+/// Answers a file by a new service of type S that this rule makes, on a rig of which no block is or was in use: its commands are given to
 /// the service, and the answers printed at each sync and at the end. The service is given up.
 pub fn answer_file<D: Device, H: Shelf, W: Sink, S: Service>(
     rig: &mut Rig<'_, D>,
+    rule: S::Rule,
     feed: &mut Feed,
     shelf: &mut H,
     out: &mut W,
 ) -> Result<(), Stop>
+    requires rule { S.IsRule rule }
     requires unused { IsUnused (seen D.state rig.old) }
     requires none_moved { (seen D.state rig.old).moves ≡ 0 }
     requires free { IsReady (seen D.state rig.old).pool }
@@ -287,7 +298,7 @@ pub fn answer_file<D: Device, H: Shelf, W: Sink, S: Service>(
     ensures whole { IsTrue H.tells → OnOk result (ReadsAll S.KIND
         (rest feed.old (H.stand shelf.old)) (rest feed.new (H.stand shelf.new))) }
     ensures answers { IsTrue H.tells → IsTrue (seen D.state rig.old).device.told
-        → AnswersAll W.took (output_text S.KIND (rest feed.old (H.stand shelf.old)))
+        → AnswersAll W.took (output_text (S.combiner_of rule) S.KIND (rest feed.old (H.stand shelf.old)))
         (W.state out.old) (W.state out.new) result }
     ensures stop { IfErr result (StopsReading H.Shelf W.Sink
         (service_limits S.allowance S.room) S.KIND feed.old shelf.old shelf.new out.old out.new
@@ -295,7 +306,9 @@ pub fn answer_file<D: Device, H: Shelf, W: Sink, S: Service>(
     ensures moves { IsTrue H.tells → KeepsAllowance (moves_within S.allowance) S.KIND
         (rest feed.old (H.stand shelf.old)) ((H.stand shelf.new).slot feed.old.slot).left
         (seen D.state rig.old) (seen D.state rig.new) }
+    ensures most { KeepsRoom S.room H.tells S.KIND (rest feed.old (H.stand shelf.old))
+        ((H.stand shelf.new).slot feed.old.slot).left (seen D.state rig.new) }
 {
-    let answers = read_answers::<D, H, W, S>(rig, feed, shelf, out)?;
+    let answers = read_answers::<D, H, W, S>(rig, rule, feed, shelf, out)?;
     print_answers(S::KIND, rig, &answers, out)
 }

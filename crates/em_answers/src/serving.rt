@@ -3,14 +3,14 @@
 ghost use Rattle.std.specs.Prelude.{◌≡◌, ◌+◌, ◌<◌, ◌≤◌, ◌^◌, ◌++◌, [], true, length, IfErr, IfOk, IsTrue, OnOk};
 ghost use Rattle.em_io.specs.Feed.{rest};
 ghost use Rattle.em_io.specs.Sink.{Sent, SentPart};
-ghost use Rattle.em_model.specs.Queue.{queue_answer_of, queue_step};
+ghost use Rattle.em_model.specs.Queue.{queue_answer_of, queue_answers, queue_step};
 ghost use Rattle.em_space.specs.Held.{Within};
 ghost use Rattle.em_space.specs.Numbered.{NumberedTo};
 ghost use Rattle.em_space.specs.Queue.{CanServe, IsNew, Pays, Served, Serves, LacksBlocks};
 ghost use Rattle.em_space.specs.Rig.{Sound};
 ghost use Rattle.em_space.specs.Seen.{seen};
 ghost use Rattle.em_record.specs.Count.{HasCause};
-ghost use Rattle.em_answers.specs.Answer.{queue_text, text_for};
+ghost use Rattle.em_answers.specs.Answer.{queue_text};
 ghost use Rattle.em_answers.specs.Print.{PrintsInto};
 ghost use Rattle.em_lines.specs.CommandLine.{good_commands};
 ghost use Rattle.em_lines.specs.Kind.{IsOfKind};
@@ -144,8 +144,8 @@ fn serve_lines<D: Device, H: Shelf, W: Sink, Q: Queue>(
     ensures whole { IsTrue H.tells → OnOk result (ReadsAll FileKind.Queue
         (rest feed.old (H.stand shelf.old)) (rest feed.new (H.stand shelf.new))) }
     ensures answers { IsTrue H.tells → IsTrue (seen D.state rig.old).device.told
-        → AnswersInto W.took (text_for FileKind.Queue
-        (good_commands FileKind.Queue (rest feed.old (H.stand shelf.old))))
+        → AnswersInto W.took (queue_text (queue_answers
+        (good_commands FileKind.Queue (rest feed.old (H.stand shelf.old)))))
         (W.state out.old) (W.state out.new) printer.new result }
     ensures calls { IsTrue H.tells → (Q.counts queue.new).n
         ≤ commands_taken FileKind.Queue (rest feed.old (H.stand shelf.old))
@@ -157,6 +157,7 @@ fn serve_lines<D: Device, H: Shelf, W: Sink, Q: Queue>(
         (seen D.state rig.old) (seen D.state rig.new)) }
     ensures full { IfErr result (λ stop. IfStopsFull stop
         (IsFilledBy Q.room (Q.counts queue.new) (seen D.state rig.new))) }
+    ensures most { (seen D.state rig.new).most ≤ (Q.counts queue.new).most }
 {
     let mut number: u64 = 1;
     let mut pushes: u64 = 0;
@@ -200,8 +201,8 @@ pub fn serve<D: Device, H: Shelf, W: Sink, Q: Queue>(
     ensures whole { IsTrue H.tells → OnOk result (ReadsAll FileKind.Queue
         (rest feed.old (H.stand shelf.old)) (rest feed.new (H.stand shelf.new))) }
     ensures answers { IsTrue H.tells → IsTrue (seen D.state rig.old).device.told
-        → Answers W.took (text_for FileKind.Queue
-        (good_commands FileKind.Queue (rest feed.old (H.stand shelf.old))))
+        → Answers W.took (queue_text (queue_answers
+        (good_commands FileKind.Queue (rest feed.old (H.stand shelf.old)))))
         (W.state out.old) (W.state out.new) result }
     ensures calls { IsTrue H.tells → (Q.counts queue.new).n
         ≤ commands_taken FileKind.Queue (rest feed.old (H.stand shelf.old))
@@ -213,6 +214,7 @@ pub fn serve<D: Device, H: Shelf, W: Sink, Q: Queue>(
         (seen D.state rig.old) (seen D.state rig.new)) }
     ensures full { IfErr result (λ stop. IfStopsFull stop
         (IsFilledBy Q.room (Q.counts queue.new) (seen D.state rig.new))) }
+    ensures most { (seen D.state rig.new).most ≤ (Q.counts queue.new).most }
 {
     let mut printer = Printer::new();
     let done = serve_lines(rig, queue, feed, shelf, &mut printer, out);

@@ -6,7 +6,11 @@ use std::test::Fail;
 #[test]
 fn each_definition_answers_its_commands(rt: HostRuntime) -> Result<(), Fail> {
     let put = Command::Put { key: 5, value: 10 };
-    let gotten = map_answers_of(rt.alloc(), &[put, Command::Get { key: 5 }])?;
+    let gotten = map_answers_of(
+        rt.alloc(),
+        &|x: u64, y: u64| x.wrapping_add(y),
+        &[put, Command::Get { key: 5 }],
+    )?;
     assert_eq!(rt;
         (gotten.len(), gotten.first().copied()),
         (1, Some(Some(10)))

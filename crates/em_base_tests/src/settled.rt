@@ -1,10 +1,10 @@
-//! Operations of three kinds of rules, as worked out by hand: of a map and of a bag from the table in the
-//! README of `em_settle`, and of rules that store a closure.
+//! Operations of each kind of rules, as worked out by hand: of a map, of a map with adds and of a bag from the
+//! table in the README of `em_settle`, and of other rules that store a closure.
 
 use crate::joined::JoinSettle;
 use crate::words::words;
 use em_record::Record;
-use em_settle::{BagSettle, MapSettle, Settle, Step};
+use em_settle::{AddSettle, BagSettle, Combine, MapSettle, Settle, Step};
 use std::test::Fail;
 
 /// A line for each operation of a map: the stored record of its key or `-`, the operation, what is stored
@@ -32,6 +32,37 @@ const BAG: &str = "\
 const JOINED: &str = "\
 5 0 0 30|5 1 0 10|5 0 0 30|-|5 0 0 0
 5 0 0 30|5 2 0 40|5 0 0 40|-|5 0 0 0
+";
+
+/// The same of adds of 2 by the sum: to 3, to the greatest value, to nothing; and of a put, a del and a get.
+const SUM: &str = "\
+5 0 0 3|5 1 3 2|5 0 0 5|-|5 0 0 0
+5 0 0 18446744073709551615|5 1 3 2|5 0 0 1|-|5 0 0 0
+-|5 1 3 2|5 0 0 2|-|5 0 0 0
+5 0 0 3|5 1 0 2|5 0 0 2|-|5 0 0 0
+5 0 0 3|5 4 1 0|-|-|5 0 0 0
+5 0 0 3|5 2 2 0|5 0 0 3|2 1 3 0|5 0 0 0
+";
+
+/// By the greater of both.
+const MAX: &str = "\
+5 0 0 3|5 1 3 2|5 0 0 3|-|5 0 0 0
+5 0 0 0|5 1 3 2|5 0 0 2|-|5 0 0 0
+-|5 1 3 0|5 0 0 0|-|5 0 0 0
+";
+
+/// By the lesser. Nothing isn't zero.
+const MIN: &str = "\
+5 0 0 3|5 1 3 2|5 0 0 2|-|5 0 0 0
+5 0 0 0|5 1 3 2|5 0 0 0|-|5 0 0 0
+-|5 1 3 2|5 0 0 2|-|5 0 0 0
+";
+
+/// By the bitwise exclusive or.
+const XOR: &str = "\
+5 0 0 3|5 1 3 2|5 0 0 1|-|5 0 0 0
+5 0 0 18446744073709551615|5 1 3 2|5 0 0 18446744073709551613|-|5 0 0 0
+-|5 1 3 2|5 0 0 2|-|5 0 0 0
 ";
 
 /// The record of four numbers, and none of another text.
@@ -90,6 +121,21 @@ fn rows_done<S: Settle>(settle: &S, rows: &str) -> Result<u64, Fail>
         number = number.saturating_add(1);
     }
     Ok(number)
+}
+
+#[test]
+fn adds_are_joined_by_their_kind(rt: HostRuntime) -> Result<(), Fail> {
+    let sum = AddSettle::new(|x: u64, y: u64| x.wrapping_add(y), Combine::Sum);
+    assert_eq!(rt; rows_done(&sum, SUM)?, 6);
+    let max = AddSettle::new(|x: u64, y: u64| x.max(y), Combine::Max);
+    assert_eq!(rt; rows_done(&max, MAX)?, 3);
+    let min = AddSettle::new(|x: u64, y: u64| x.min(y), Combine::Min);
+    assert_eq!(rt; rows_done(&min, MIN)?, 3);
+    let xor = AddSettle::new(|x: u64, y: u64| x ^ y, Combine::Xor);
+    assert_eq!(rt; rows_done(&xor, XOR)?, 3);
+    assert_eq!(rt; xor.kind(), Combine::Xor);
+    assert_eq!(rt; xor.apply(6, 3), 5);
+    Ok(())
 }
 
 #[test]

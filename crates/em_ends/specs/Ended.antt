@@ -3,7 +3,7 @@ use Rattle.std.specs.Prelude.{◌≡◌, ℕ, ◌+◌, ◌-◌, ◌*◌, ◌<◌
 use Rattle.em_record.specs.Count.{Rose}
 use Rattle.em_record.specs.Shape.{ShapeNumbers}
 use Rattle.em_io.specs.Sink.{SentPart}
-use Rattle.em_io.specs.Shelf.{Stand}
+use Rattle.em_io.specs.Shelf.{SlotState, Stand}
 use Rattle.em_io.specs.declared.shelf.Shelf.{Ghosts as ShelfGhosts}
 use Rattle.em_io.specs.declared.sink.Sink.{Ghosts as SinkGhosts}
 use Rattle.em_io.specs.declared.shelf.Slot.{Slot}
@@ -73,8 +73,14 @@ pub record Caused (old new : Outside) (status : Status) : Type 0 where
   pub write : status ≡ WriteFault → Rose old.write_faults new.write_faults
   pub device : status ≡ DeviceFault → Rose old.device.faults new.device.faults
 
+-- Over a shelf and a device that tell, at no moment of a run were more blocks in use than its room, by how far each
+-- slot was read, if there is such a number.
+abbrev pub KeepsRoom : Asked → Bool → (s t : RigState) → (Slot → SlotState) → Type 0
+KeepsRoom asked tells s t slots = IsTrue tells → IsTrue s.device.told
+    → IfSome asked.room (λ f. t.most ≤ f s.pool.shape slots)
+
 -- The run over the files of these names, of which this was asked, on a rig of which no block is or was in use:
--- how it ended, and why; and which slots were opened and read.
+-- how it ended, and why; how many blocks it took at most; and which slots were opened and read.
 pub record RunsFiles {H W : Type 0} (h : ShelfGhosts H) (w : SinkGhosts W) (asked : Asked)
     (good : Type 0) (names : Slot → Option (List ℕ)) (s t : RigState) (shelf : H) (out : W) (shelf_after : H)
     (out_after : W) (status : Status) : Type 0 where
@@ -82,6 +88,7 @@ pub record RunsFiles {H W : Type 0} (h : ShelfGhosts H) (w : SinkGhosts W) (aske
       (outside h w s.device shelf out) (outside h w t.device shelf_after out_after) status
   pub caused : Caused (outside h w s.device shelf out)
       (outside h w t.device shelf_after out_after) status
+  pub most : KeepsRoom asked h.tells s t (h.stand shelf_after).slot
   pub opens : OpensSlots good h.tells s.device.told names (h.stand shelf) (h.stand shelf_after) status
   pub all_read : ReadsNamed h.tells names (h.stand shelf_after) status
   pub no_usage : OnUsage status ⊥

@@ -21,7 +21,7 @@ use Rattle.aig_text.specs.Source.{Source, left, source}
 use Rattle.aig_text.proofs.Lines.{of_error}
 use Rattle.aig_edges.specs.Build.{UsesUp}
 use Rattle.aig_edges.specs.Graph.{edge_count, graph_blocks}
-use Rattle.aig_edges.specs.Room.{FullInRoom, IsTreeRoom}
+use Rattle.aig_edges.specs.Room.{FullInRoom, IsInRoom, IsTreeRoom}
 use Rattle.aig_edges.specs.declared.graph.Graph.{Graph}
 use Rattle.aig_edges.specs.declared.graph.Ordered.{Ordered}
 use Rattle.aig_edges.proofs.Room.{em_by}
@@ -33,9 +33,9 @@ use Rattle.em_ready.specs.Ready.{IsUnused}
 use Rattle.em_ends.specs.Stop.{circuit_stop}
 use Rattle.em_ends.specs.declared.stop.Stop.{Stop}
 use Rattle.em_eval.proofs.Circuit.{ReadsFrom, read_of, reads_all, reads_first, text_of}
-use Rattle.em_eval.proofs.CircuitMade.{HasGraph, StopsAt, used_up_stops}
+use Rattle.em_eval.proofs.CircuitMade.{HasGraph, MostAt, StopsAt, used_up_stops}
 use Rattle.em_eval.proofs.CircuitMoves.{KeepsCircuit}
-use Rattle.em_eval.proofs.EvalRoom.{packed_short, room_as}
+use Rattle.em_eval.proofs.EvalRoom.{packed_short, room_after, room_as}
 use Rattle.em_chain.specs.declared.chain.Chain.{Chain}
 
 -- A stop is handed on.
@@ -44,11 +44,13 @@ pub stopped_by : {start : Option ℕ} {H : Type 0} (h : ShelfGhosts H) (feed las
     → ReadsFrom h.tells (source h feed shelf) (source h last after)
     → StopsAt start h.tells (source h feed shelf) (source h last after) s t stop
     → KeepsCircuit start h.tells (source h feed shelf) (source h last after) s t
+    → MostAt start h.tells (source h feed shelf) (source h last after) s t
     → ReadsCircuit start h s t shelf after result
-stopped_by {start} h feed last shelf after s t stop result is r stops moves =
+stopped_by {start} h feed last shelf after s t stop result is r stops moves most =
     of_error (λ (k : Result Ordered Stop). ReadsCircuit start h s t shelf after k) result stop is (record {
       answers = record { cause = stops.cause; full = stops.full; room = stops.room };
       moves = moves;
+      most = most;
       reads = reads_first r;
       later = r.advances.later;
     })
@@ -73,25 +75,42 @@ order_stops c stop.Read unused h up stops cause pays room = absurd stops
 order_stops c (stop.Em fault) unused h up stops cause pays room =
     used_up_stops c fault unused h.session.touches h.pays up cause pays room
 
--- The graph and a queue that was never called stand alone, and the graph's lists are short: so ordering it is full
--- only over the circuit's room.
+-- The graph and a queue that was never called stand alone, and the graph's lists are short: so ordering it keeps to
+-- the circuit's room,
+order_both : {Q : Type 0} {q : QueueGhosts Q} {start : Option ℕ} {tells : Bool} {a d : Source}
+    {s w x : RigState} {g : Graph} {c : QueueCounts} {ks : List ℕ} (result : Result Ordered AigStop)
+    → HasGraph start tells a d s w g c ks → IsTreeRoom q.room w.pool.shape → c.k ≡ 0
+    → OrdersBlocks q c w x g result → IsTrue s.device.told
+    → IsInRoom g.header w x × IfEm result (FullInRoom g.header w)
+order_both {w = w} {g = g} result h tree none b told = b.alone (record {
+  told = h.session.touches.told ∙ told;
+  room_is = tree;
+  few = omega (arith, none);
+  used = omega (arith, h.used);
+})
+    (record {
+      gates = packed_short w g.gates _ h.is.gates.count_is (omega (arith, h.fill.gates));
+      edges = packed_short w g.edges _ h.is.edges.count_is (omega (arith, h.fill.edges));
+      sources = packed_short w g.sources _ h.is.sources.count_is (omega (arith, h.fill.sources));
+    })
+
+pub order_most : {Q : Type 0} {q : QueueGhosts Q} {start : Option ℕ} {tells : Bool} {a d : Source}
+    {s w x : RigState} {g : Graph} {c : QueueCounts} {ks : List ℕ} (result : Result Ordered AigStop)
+    → HasGraph start tells a d s w g c ks → IsTreeRoom q.room w.pool.shape → c.k ≡ 0
+    → OrdersBlocks q c w x g result → MostAt start tells a d s w → MostAt start tells a d s x
+order_most {start = start} {a = a} {d = d} {s = s} {w = w} {x = x} {g = g} result h tree none b before z told =
+    let size = h.size z in
+    room_after s w x g.header (read_of start a d) h.session.touches.shape (omega (arith, size)) (before z told)
+    (order_both result h tree none b told).0
+
+-- and is full only over it.
 pub order_room : {Q : Type 0} {q : QueueGhosts Q} {start : Option ℕ} {tells : Bool} {a d : Source}
     {s w x : RigState} {g : Graph} {c : QueueCounts} {ks : List ℕ} (result : Result Ordered AigStop)
     → HasGraph start tells a d s w g c ks → IsTreeRoom q.room w.pool.shape → c.k ≡ 0
     → OrdersBlocks q c w x g result → IsTrue tells → IsTrue s.device.told
     → IfEm result (λ fault. IfFull fault (λ used. used < eval_room s.pool.shape (read_of start a d)))
 order_room {start = start} {a = a} {d = d} {s = s} {w = w} {g = g} result h tree none b z told =
-    let alone = b.alone (record {
-      told = h.session.touches.told ∙ told;
-      room_is = tree;
-      few = omega (arith, none);
-      used = omega (arith, h.used);
-    })
-    (record {
-      gates = packed_short w g.gates _ h.is.gates.count_is (omega (arith, h.fill.gates));
-      edges = packed_short w g.edges _ h.is.edges.count_is (omega (arith, h.fill.edges));
-      sources = packed_short w g.sources _ h.is.sources.count_is (omega (arith, h.fill.sources));
-    }) in
+    let alone = order_both result h tree none b told in
     em_by result {P = FullInRoom g.header w}
     {Q = λ (fault : EmFault). IfFull fault (λ used. used < eval_room s.pool.shape (read_of start a d))}
     (λ fault full. room_as fault h.session.touches.shape (sym (h.size z)) full.is) alone.1
@@ -112,7 +131,8 @@ module _ {start : Option ℕ} {H : Type 0} (h : ShelfGhosts H) (feed last : Fed)
     (up : UsesUp (ks ++ graph_blocks w g) c w x)
     (orders : OrdersGraph (ks ++ graph_blocks w g) w x g o)
     (stores : StoresOrdered c w x g (Ok o))
-    (moves : KeepsCircuit start h.tells (source h feed shelf) (source h last after) s x) where
+    (moves : KeepsCircuit start h.tells (source h feed shelf) (source h last after) s x)
+    (most : MostAt start h.tells (source h feed shelf) (source h last after) s x) where
   abbrev a : Source
   a = source h feed shelf
 
@@ -156,6 +176,7 @@ module _ {start : Option ℕ} {H : Type 0} (h : ShelfGhosts H) (feed last : Fed)
           omega (arith, orders.room, same);
     };
     moves = moves;
+    most = most;
     reads = reads_first r;
     later = r.advances.later;
   }

@@ -1,5 +1,5 @@
 -- From a circuit's text to its graph: what is made, and a queue beside it, is all that is on the rig.
-use Rattle.std.proofs.Common.{◌≡◌, ℕ, ◌+◌, ◌-◌, ◌*◌, ◌≤◌, ◌^◌, ◌⊎◌, inl, inr, ⊎_elim, Bool, List, [], ◌++◌, ap, sym, subst, ◌∙◌, arith, IsTrue, Result, Ok, Err, Option, ◌<◌}
+use Rattle.std.proofs.Common.{◌≡◌, ℕ, ◌+◌, ◌-◌, ◌*◌, ◌≤◌, ◌^◌, ◌⊎◌, inl, inr, ⊎_elim, Bool, List, [], ◌++◌, ap, sym, subst, ◌∙◌, arith, IsTrue, max, Result, Ok, Err, Option, ◌<◌}
 use Rattle.em_record.specs.Shape.{ShapeNumbers, payload_of}
 use Rattle.em_io.specs.declared.shelf.Slot.TheVariants.{First}
 use Rattle.em_space.specs.Ledger.{Session}
@@ -13,6 +13,9 @@ use Rattle.em_space.proofs.Paying.{owes_of_pays, pays_of_owes, pays_then}
 use Rattle.em_space.proofs.Sessions.{session_trans}
 use Rattle.em_space.proofs.Steps.{cause_after}
 use Rattle.em_space.proofs.Within.{touches_within}
+use Rattle.em_pqueue.specs.contracts.queue.ExtQueueQueue.TheImpl.{ghosts as ext}
+use Rattle.em_pqueue.specs.declared.queue.ExtQueue.{ExtQueue}
+use Rattle.em_tree_cost.specs.Shares.{tree_room}
 use Rattle.em_chain.specs.Chain.{payload_in}
 use Rattle.em_chain.specs.Counts.{ceiling}
 use Rattle.aig_defs.specs.declared.circuit.Header.{Header}
@@ -32,7 +35,7 @@ use Rattle.aig_text.proofs.PartsLaws.{parts_of, parts_stay}
 use Rattle.aig_edges.specs.Build.{UsesUp, parts_size}
 use Rattle.aig_edges.specs.BuildGraph.{BuildsGraph, StopsBuilding, StoresSorted}
 use Rattle.aig_edges.specs.Graph.{IsGraph, IsGraphOf, edge_count, graph_blocks, graph_size}
-use Rattle.aig_edges.specs.Room.{BuildsInRoom, FullInRoom, IsTreeRoom}
+use Rattle.aig_edges.specs.Room.{BuildsInRoom, FullInRoom, IsInRoom, IsTreeRoom}
 use Rattle.aig_edges.specs.declared.graph.Graph.{Graph}
 use Rattle.aig_edges.proofs.GraphLaws.{GraphStays, graph_stays}
 use Rattle.aig_edges.proofs.Room.{em_by}
@@ -48,7 +51,7 @@ use Rattle.em_ends.specs.declared.stop.Stop.{Stop}
 use Rattle.em_ends.specs.declared.stop.Stop.TheVariants.{Em}
 use Rattle.em_eval.proofs.Circuit.{ReadsFrom, given_least, left_first, read_of, text_of}
 use Rattle.em_eval.proofs.CircuitCosts.{GraphFills, PartsFill}
-use Rattle.em_eval.proofs.EvalRoom.{full_less, graph_small, packed_short, room_as, text_small}
+use Rattle.em_eval.proofs.EvalRoom.{full_less, graph_beside, graph_small, makes_within, packed_short, room_after, room_as, text_beside, text_small}
 use Rattle.em_ready.proofs.Queues.{frames_back, frames_lent, session_made}
 use Rattle.em_chain.specs.declared.chain.Chain.{Chain}
 
@@ -56,6 +59,11 @@ use Rattle.em_chain.specs.declared.chain.Chain.{Chain}
 abbrev pub RoomAt : Option ℕ → Bool → Source → Source → RigState → Stop → Type 0
 RoomAt start tells a d s stop = IsTrue tells → IsTrue s.device.told
     → IfStopsFull stop (λ used. used < eval_room s.pool.shape (read_of start a d))
+
+-- If they tell, at no moment more blocks were in use than that.
+abbrev pub MostAt : Option ℕ → Bool → Source → Source → RigState → RigState → Type 0
+MostAt start tells a d s t = IsTrue tells → IsTrue s.device.told
+    → t.most ≤ eval_room s.pool.shape (read_of start a d)
 
 -- No edges were made, by the text at first and at the end.
 pub record StopsAt (start : Option ℕ) (tells : Bool) (a d : Source) (s t : RigState) (stop : Stop) : Type 0 where
@@ -126,6 +134,48 @@ text_few start {a = a} {d = d} {s = s} unused r takes z =
     let few = (takes_first start r takes z).used in
     let small = text_small s.pool.shape (read_of start a d) unused.sound.shape in
     omega (arith, few, small, unused.used)
+
+-- At no moment it took more.
+pub text_most : (start : Option ℕ) {tells : Bool} {a d : Source} {s t : RigState} → IsUnused s → ReadsFrom tells a d
+    → (IsTrue tells → (given : ℕ) → d.feed.place ≤ given
+    → TakesAtMost (text_size start given (left a)) s t)
+    → MostAt start tells a d s t
+text_most start {a = a} {d = d} {s = s} unused r takes z told =
+    let few = (takes_first start r takes z).most in
+    let small = text_small s.pool.shape (read_of start a d) unused.sound.shape in
+    omega (arith, few, small, unused.used, unused.none_ever)
+
+-- Nor was more in use where no queue was made beside few blocks,
+pub refused_most : (start : Option ℕ) {tells : Bool} {a d : Source} {s t u : RigState} {fault : EmFault} → IsUnused s
+    → ReadsFrom tells a d → MostAt start tells a d s t → FailsToMake t u fault
+    → (IsTrue tells → t.used + 2 < eval_room s.pool.shape (read_of start a d)) → MostAt start tells a d s u
+refused_most start unused r before f small z told =
+    let first = before z told in
+    let few = small z in
+    omega (arith, first, few, f.most)
+
+-- or where one was made beside blocks that leave it its room.
+queue_most : (start : Option ℕ) {tells : Bool} {a d : Source} {s t u : RigState} {q : ExtQueue} → IsUnused s
+    → ReadsFrom tells a d → Touches [] s t → MostAt start tells a d s t → MakesQueue ext t u q
+    → (IsTrue tells → tree_room s.pool.shape 0 + t.used ≤ eval_room s.pool.shape (read_of start a d))
+    → MostAt start tells a d s u
+queue_most start {a = a} {d = d} {s = s} {t = t} {u = u} unused r touches before makes small z told =
+    let room = eval_room s.pool.shape (read_of start a d) in
+    both_within t.most u.most room (before z told) (makes_within room makes (touches.told ∙ told)
+    (subst (λ (x : ShapeNumbers). tree_room x 0 + t.used ≤ room) (sym touches.shape) (small z)))
+  where
+    both_within : (m n most : ℕ) → m ≤ most → n ≤ max m most → n ≤ most
+    both_within m n most a b = omega (arith, a, b)
+
+-- The text was read, and a queue was made.
+pub parts_most : (start : Option ℕ) {tells : Bool} {a d : Source} {s t u : RigState} {p : Parts} {q : ExtQueue}
+    → IsUnused s → ReadsFrom tells a d → ReadsEither tells start a d s t (Ok p) → MakesQueue ext t u q
+    → MostAt start tells a d s u
+parts_most start {a = a} {d = d} {s = s} {t = t} unused r h makes =
+    queue_most start unused r h.goes.touches (text_most start {t = t} unused r h.takes) makes (λ z.
+    let few = (takes_first start r h.takes z).used in
+    let small = text_beside s.pool.shape (read_of start a d) unused.sound.shape in
+    omega (arith, few, small, unused.used))
 
 -- the parts weren't read
 pub text_stops : {start : Option ℕ} {tells : Bool} {a d : Source} {s t : RigState} (e : AigStop) → IsUnused s
@@ -246,25 +296,42 @@ used_up_stops {s = s} {u = u} {v = v} c fault unused touches first up cause pays
     (owes_of_pays 0 (u.pool.shape.frames + 2) (u.pool.shape.frames + 2) all (omega arith))
     (omega (arith, frames)) room
 
--- The parts and a queue that was never called stand alone, and the parts' lists are short: so making the graph is
--- full only over the circuit's room.
+-- The parts and a queue that was never called stand alone, and the parts' lists are short: so making the graph keeps
+-- to the circuit's room,
+build_both : {Q : Type 0} {q : QueueGhosts Q} {start : Option ℕ} {tells : Bool} {a d : Source}
+    {s u v : RigState} {p : Parts} {c : QueueCounts} {ks : List ℕ} (result : Result Graph AigStop)
+    → HasParts start tells a d s u p c ks → IsTreeRoom q.room u.pool.shape → c.k ≡ 0
+    → BuildsInRoom q c u v p result → IsTrue s.device.told
+    → IsInRoom p.header u v × IfEm result (FullInRoom p.header u)
+build_both {u = u} {p = p} result h tree none b told = b.alone (record {
+  told = h.session.touches.told ∙ told;
+  room_is = tree;
+  few = omega (arith, none);
+  used = omega (arith, h.used);
+})
+    (record {
+      defs = packed_short u p.defs _ h.is.defs.count_is (omega (arith, h.fill.defs));
+      gates = packed_short u p.gates _ h.is.gates.count_is (omega (arith, h.fill.gates));
+      uses = packed_short u p.uses _ h.is.uses.count_is (omega (arith, h.fill.uses));
+    })
+
+pub build_most : {Q : Type 0} {q : QueueGhosts Q} {start : Option ℕ} {tells : Bool} {a d : Source}
+    {s u v : RigState} {p : Parts} {c : QueueCounts} {ks : List ℕ} (result : Result Graph AigStop)
+    → HasParts start tells a d s u p c ks → IsTreeRoom q.room u.pool.shape → c.k ≡ 0
+    → BuildsInRoom q c u v p result → MostAt start tells a d s u → MostAt start tells a d s v
+build_most {start = start} {a = a} {d = d} {s = s} {u = u} {v = v} {p = p} result h tree none b before z told =
+    let size = h.size z in
+    room_after s u v p.header (read_of start a d) h.session.touches.shape (omega (arith, size)) (before z told)
+    (build_both result h tree none b told).0
+
+-- and is full only over it.
 pub build_room : {Q : Type 0} {q : QueueGhosts Q} {start : Option ℕ} {tells : Bool} {a d : Source}
     {s u v : RigState} {p : Parts} {c : QueueCounts} {ks : List ℕ} (result : Result Graph AigStop)
     → HasParts start tells a d s u p c ks → IsTreeRoom q.room u.pool.shape → c.k ≡ 0
     → BuildsInRoom q c u v p result → IsTrue tells → IsTrue s.device.told
     → IfEm result (λ fault. IfFull fault (λ used. used < eval_room s.pool.shape (read_of start a d)))
 build_room {start = start} {a = a} {d = d} {s = s} {u = u} {p = p} result h tree none b z told =
-    let alone = b.alone (record {
-      told = h.session.touches.told ∙ told;
-      room_is = tree;
-      few = omega (arith, none);
-      used = omega (arith, h.used);
-    })
-    (record {
-      defs = packed_short u p.defs _ h.is.defs.count_is (omega (arith, h.fill.defs));
-      gates = packed_short u p.gates _ h.is.gates.count_is (omega (arith, h.fill.gates));
-      uses = packed_short u p.uses _ h.is.uses.count_is (omega (arith, h.fill.uses));
-    }) in
+    let alone = build_both result h tree none b told in
     em_by result {P = FullInRoom p.header u}
     {Q = λ (fault : EmFault). IfFull fault (λ used. used < eval_room s.pool.shape (read_of start a d))}
     (λ fault full. room_as fault h.session.touches.shape (sym (h.size z)) full.is) alone.1
@@ -337,11 +404,43 @@ graph_few {start = start} {a = a} {d = d} {s = s} {u = u} {v = v} {p = p} c g h 
     (subst (λ (x : ShapeNumbers). v.used + 2 < eval_room x (circuit_size p.header))
     h.session.touches.shape here)
 
+-- With the room of a queue that was never called they are within it.
+graph_leaves : {start : Option ℕ} {tells : Bool} {a d : Source} {s u v : RigState} {p : Parts} {ks : List ℕ}
+    (c : QueueCounts) (g : Graph) → HasParts start tells a d s u p c ks
+    → BuildsGraph (ks ++ parts_blocks u p) u v p g → StoresSorted c u v p (Ok g) → IsTrue tells
+    → tree_room s.pool.shape 0 + v.used ≤ eval_room s.pool.shape (read_of start a d)
+graph_leaves {start = start} {a = a} {d = d} {s = s} {u = u} {v = v} {p = p} c g h builds stores z =
+    let used = stores.0 in
+    let small = graph_beside u.pool.shape p.header h.sound.shape in
+    let here : tree_room u.pool.shape 0 + v.used ≤ eval_room u.pool.shape (circuit_size p.header) =
+    omega (
+      arith,
+      used,
+      h.used,
+      builds.gates,
+      builds.edges,
+      builds.sources,
+      h.is.resets.blocks_is,
+      small,
+    ) in
+    subst (λ (n : ℕ). tree_room s.pool.shape 0 + v.used ≤ eval_room s.pool.shape n) (sym (h.size z))
+    (subst (λ (x : ShapeNumbers). tree_room x 0 + v.used ≤ eval_room x (circuit_size p.header))
+    h.session.touches.shape here)
+
 -- The queue was used up: all frames are back, and no block that was in use at first was changed.
 pub graph_goes : {start : Option ℕ} {tells : Bool} {a d : Source} {s u v : RigState} {p : Parts} (c : QueueCounts)
     (ks : List ℕ) → HasParts start tells a d s u p c ks → UsesUp (ks ++ parts_blocks u p) c u v
     → Goes [] s v
 graph_goes {u = u} {p = p} c ks h up = ends_goes c (ks ++ parts_blocks u p) h.session h.frames up
+
+-- The graph was made, and another queue.
+pub graph_most : {start : Option ℕ} {tells : Bool} {a d : Source} {s u v w : RigState} {p : Parts} {ks : List ℕ}
+    {q : ExtQueue} (c : QueueCounts) (g : Graph) → IsUnused s → ReadsFrom tells a d
+    → HasParts start tells a d s u p c ks → UsesUp (ks ++ parts_blocks u p) c u v
+    → BuildsGraph (ks ++ parts_blocks u p) u v p g → StoresSorted c u v p (Ok g) → MostAt start tells a d s v
+    → MakesQueue ext v w q → MostAt start tells a d s w
+graph_most {start = start} {ks = ks} c g unused r h up builds stores before makes =
+    queue_most start unused r (graph_goes c ks h up).touches before makes (graph_leaves c g h builds stores)
 
 module _ {start : Option ℕ} {tells : Bool} {a d : Source} {s u v w : RigState} {p : Parts} (c : QueueCounts)
     (ks : List ℕ) (g : Graph) (h : HasParts start tells a d s u p c ks)

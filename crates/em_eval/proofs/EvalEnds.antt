@@ -1,5 +1,5 @@
 -- How the steps of an evaluation end: its rig, what went out, and why it stopped.
-use Rattle.std.proofs.Common.{◌≡◌, Bool, ℕ, ◌+◌, ◌-◌, ◌*◌, ◌<◌, ◌≤◌, ◌^◌, ◌⊎◌, List, [], ◌++◌, ap, sym, subst, ◌∙◌, refl, arith, IsTrue, inl, inr, ⊎_elim, Result, Ok, Err, IfErr, OnOk}
+use Rattle.std.proofs.Common.{◌≡◌, Bool, ℕ, ◌+◌, ◌-◌, ◌*◌, ◌<◌, ◌≤◌, ◌^◌, ◌⊎◌, List, [], ◌++◌, ap, sym, subst, ◌∙◌, refl, arith, IsTrue, inl, inr, ⊎_elim, max, Result, Ok, Err, IfErr, OnOk}
 use Rattle.em_record.specs.Shape.{ShapeNumbers, fan_of, payload_of}
 use Rattle.em_io.specs.Sink.{IsRule, Sent, SentPart}
 use Rattle.em_io.specs.declared.shelf.Shelf.{Ghosts as ShelfGhosts}
@@ -18,6 +18,8 @@ use Rattle.em_space.proofs.Paying.{pays_more, pays_then}
 use Rattle.em_space.proofs.Sessions.{session_none, session_trans}
 use Rattle.em_space.proofs.Steps.{cause_after, touches_then}
 use Rattle.em_space.proofs.Within.{goes_wider, touches_within}
+use Rattle.em_pqueue.specs.contracts.queue.ExtQueueQueue.TheImpl.{ghosts as ext}
+use Rattle.em_pqueue.specs.declared.queue.ExtQueue.{ExtQueue}
 use Rattle.aig_defs.specs.declared.circuit.Gate.{Gate}
 use Rattle.aig_defs.specs.declared.circuit.Header.{Header}
 use Rattle.aig_defs.specs.Begun.{circuit_size}
@@ -25,7 +27,7 @@ use Rattle.aig_defs.specs.Circuit.{Circuit, resets}
 use Rattle.aig_defs.specs.Stimulus.{output_lines, stimulus_of}
 use Rattle.aig_defs.specs.Value.{run_of}
 use Rattle.aig_edges.specs.Graph.{IsOrdered, IsOrderedOf, edge_count, ordered_blocks, ordered_size}
-use Rattle.aig_edges.specs.Room.{HoldsAllBlocks, IsShort, IsTreeRoom}
+use Rattle.aig_edges.specs.Room.{HoldsAllBlocks, IsInRoom, IsShort, IsTreeRoom, circuit_room}
 use Rattle.aig_edges.specs.declared.graph.Ordered.{Ordered}
 use Rattle.aig_edges.proofs.OrderedLaws.{OrderedStays, ordered_stays}
 use Rattle.aig_sweep.specs.Room.{BeginsInRoom, IsShortSweeper, SweepsAlone}
@@ -43,7 +45,7 @@ use Rattle.em_ends.specs.declared.stop.Stop.{Stop}
 use Rattle.em_ends.specs.declared.stop.Stop.TheVariants.{Fault, Read, Write, Em}
 use Rattle.em_ready.proofs.Queues.{frames_back, session_made}
 use Rattle.em_ends.proofs.Printing.{ends_by}
-use Rattle.em_eval.proofs.EvalRoom.{alone_more, edges_small, full_less, packed_short, room_as}
+use Rattle.em_eval.proofs.EvalRoom.{alone_more, edges_beside, edges_small, full_less, in_room_then, makes_within, packed_short, room_as}
 
 -- What went out of the lines of the steps, after what was pending was sent.
 module _ {IsState : List ℕ → Type 0} {took : List ℕ → List ℕ → List ℕ} (rule : IsRule IsState took)
@@ -156,6 +158,14 @@ edges_short {s = s} {m = m} {o = o} can makes =
     makes.session.touches.shape in
     packed_short m o.edges (edge_count o.header) can.is.edges.count_is (omega (arith, can.packed, same))
 
+-- Making the queue kept to the circuit's room.
+pub begins_within : {s m : RigState} {o : Ordered} {q : ExtQueue} → CanBegin s o → MakesQueue ext s m q
+    → IsTrue s.device.told → IsInRoom o.header s m
+begins_within {s} {m} {o} can makes z =
+    let small = edges_beside s.pool.shape o.header can.sound.shape in
+    makes_within (eval_room s.pool.shape (circuit_size o.header)) makes z
+    (omega (arith, can.alone, can.packed, can.is.resets.blocks_is, small))
+
 -- It wasn't made.
 pub record Unmade {Q : Type 0} (queue : QueueGhosts Q) (s m t : RigState) (o : Ordered) (q : Q)
     (fault : EmFault) : Type 0 where
@@ -196,6 +206,14 @@ module _ {Q : Type 0} {queue : QueueGhosts Q} {s m t : RigState} {o : Ordered} {
       let both = begins (alone_more (omega arith) (stands_alone u.can u.makes tree z))
       (edges_short u.can u.makes) in
       room_as fault u.makes.session.touches.shape refl both.1.is
+
+  -- At no moment more blocks were in use.
+  pub unmade_most : IsTreeRoom queue.room m.pool.shape → BeginsInRoom {T = Sweeper Q} queue m t o q (Err fault)
+      → (IsTrue s.device.told → IsInRoom o.header s m) → IsTrue s.device.told → IsInRoom o.header s t
+  unmade_most tree begins first z =
+      let both = begins (alone_more (omega arith) (stands_alone u.can u.makes tree z))
+      (edges_short u.can u.makes) in
+      in_room_then s m t o.header o.header u.makes.session.touches.shape refl (first z) both.0
 
   -- all blocks but a few were moved
   pub unmade_paid : (2 ^ 64 - 1 ≤ t.moves) ⊎ (t.used ≤ t.moves + 2 * t.pool.shape.frames)
@@ -249,6 +267,14 @@ module _ {Q : Type 0} {queue : QueueGhosts Q} {s m a : RigState} {o : Ordered} {
   pub made_short : IsShortSweeper a e
   made_short = begun_short u.begins (still_ordered u.can.is u.makes.session.touches).is
       (edges_short u.can u.makes)
+
+  -- At no moment more blocks were in use than the circuit's room.
+  pub made_most : IsTreeRoom queue.room m.pool.shape → BeginsInRoom {T = Sweeper Q} queue m a o q (Ok e)
+      → (IsTrue s.device.told → IsInRoom o.header s m) → IsTrue s.device.told → IsInRoom o.header s a
+  made_most tree begins first z =
+      let both = begins (alone_more (omega arith) (stands_alone u.can u.makes tree z))
+      (edges_short u.can u.makes) in
+      in_room_then s m a o.header o.header u.makes.session.touches.shape refl (first z) both.0
 
   -- no call of its queue came
   pub counts_same : queue.counts e.queue ≡ queue.counts q
@@ -462,7 +488,16 @@ module _ {H W Q : Type 0} {h : ShelfGhosts H} {w : SinkGhosts W} {queue : QueueG
         (fault_counts (h.faults shelf_after) (w.faults mid)) a b done v.steps.cause fills_all)
         (λ rose. tt)
 
-    -- it is so only over the circuit's room
+    -- at no moment more blocks were in use than the circuit's room
+    pub most_all : IsTreeRoom queue.room m.pool.shape → (IsTrue s.device.told → IsInRoom o.header s a)
+        → IsTrue s.device.told → IsInRoom o.header s t
+    most_all tree begun z =
+        let own = v.steps.most (made_alone v.made tree z) (made_short v.made) in
+        let same : t.most ≡ b.most = ap (λ (x : RigState). x.most) v.leaves.same in
+        subst (λ (n : ℕ). n ≤ max s.most (circuit_room s o.header)) (sym same)
+        (in_room_then s a b o.header e.header (made_touches v.made).shape v.made.begins.header (begun z) own)
+
+    -- it is full only over that
     pub room_all : IsTreeRoom queue.room m.pool.shape → IsTrue s.device.told → IfErr result
         (λ stop. IfStopsFull stop (λ used. used < eval_room s.pool.shape (circuit_size o.header)))
     room_all tree z =
@@ -477,10 +512,11 @@ module _ {H W Q : Type 0} {h : ShelfGhosts H} {w : SinkGhosts W} {queue : QueueG
         (λ rose. tt)
 
     -- So the evaluation ended as promised, if its moves are those of its steps.
-    pub runs_all : IsTreeRoom queue.room m.pool.shape → (wide : Bool)
+    pub runs_all : IsTreeRoom queue.room m.pool.shape → (IsTrue s.device.told → IsInRoom o.header s a)
+        → (wide : Bool)
         → KeepsSteps wide h s t o shelf shelf_after
         → RunsSteps wide h w s t o shelf shelf_after out out_after result
-    runs_all tree wide moves = record {
+    runs_all tree begun wide moves = record {
       goes = ran_goes ran;
       reads = v.steps.reads;
       read_later = v.steps.read_later;
@@ -493,6 +529,7 @@ module _ {H W Q : Type 0} {h : ShelfGhosts H} {w : SinkGhosts W} {queue : QueueG
       prints = prints_due;
       cause = cause_all;
       full = full_all;
+      most = most_all tree begun;
       room = room_all tree;
       moves = moves;
     }
@@ -502,9 +539,10 @@ pub runs_none : {H W : Type 0} (wide : Bool) (h : ShelfGhosts H) (w : SinkGhosts
     {fault : EmFault} (shelf : H) (out : W) → IsRule w.IsState w.took → w.IsState (w.state out)
     → Goes (ordered_blocks s o) s t → Cause s t fault
     → (2 ^ 64 - 1 ≤ t.moves) ⊎ (t.used ≤ t.moves + 2 * t.pool.shape.frames)
+    → (IsTrue s.device.told → IsInRoom o.header s t)
     → (IsTrue s.device.told → IfFull fault (λ used. used < eval_room s.pool.shape (circuit_size o.header)))
     → KeepsSteps wide h s t o shelf shelf → RunsSteps wide h w s t o shelf shelf out out (Err (Em fault))
-runs_none wide h w {s = s} {t = t} {fault = fault} shelf out rule ok goes cause paid room moves = record {
+runs_none wide h w {s = s} {t = t} {fault = fault} shelf out rule ok goes cause paid most room moves = record {
   goes = goes;
   reads = record {
     leaves = record { text = refl; others = λ k e. refl };
@@ -521,6 +559,7 @@ runs_none wide h w {s = s} {t = t} {fault = fault} shelf out rule ok goes cause 
   full = full_due (FillsEval t) (fault_counts (h.faults shelf) (w.faults out))
       (fault_counts (h.faults shelf) (w.faults out)) s t (Err (Em fault)) cause
       (λ used is. record { paid = rw is paid });
+  most = most;
   room = room;
   moves = moves;
 }
@@ -530,7 +569,14 @@ pub refused_goes : {s t : RigState} {fault : EmFault} (o : Ordered) → FailsToM
     → Goes (ordered_blocks s o) s t
 refused_goes {s} {t} o f = goes_wider (ordered_blocks s o) [] s t (record { off = λ z j u x. tt }) f.goes
 
--- few blocks were in use for the circuit's room,
+-- few blocks were in use for the circuit's room at any moment,
+pub refused_most : {s t : RigState} {o : Ordered} {fault : EmFault} → CanBegin s o → FailsToMake s t fault
+    → IsTrue s.device.told → IsInRoom o.header s t
+refused_most {s} {t} {o} {fault} can f z =
+    let small = edges_small s.pool.shape o.header can.sound.shape in
+    omega (arith, f.most, can.alone, can.packed, can.is.resets.blocks_is, small)
+
+-- and at the end,
 pub refused_room : {s t : RigState} {o : Ordered} {fault : EmFault} → CanBegin s o → FailsToMake s t fault
     → IsTrue s.device.told
     → IfFull fault (λ used. used < eval_room s.pool.shape (circuit_size o.header))

@@ -20,13 +20,14 @@ use Rattle.aig_defs.specs.TextFault.{either_text, text_fault}
 use Rattle.aig_defs.specs.Value.{run_of}
 use Rattle.aig_defs.proofs.EitherText.{text_none}
 use Rattle.aig_defs.specs.Begun.{circuit_size}
+use Rattle.aig_edges.specs.Room.{IsInRoom}
 use Rattle.aig_edges.specs.declared.graph.Ordered.{Ordered}
 use Rattle.em_eval.specs.EvalRun.{asked_of_eval}
 use Rattle.em_eval.specs.EvalMoves.{circuit_moves, making_moves, rounds_moves}
 use Rattle.em_eval.specs.EvalDue.{aig_status, eval_output, eval_status, job_fault}
 use Rattle.em_eval.specs.EvalSize.{circuit_read, eval_cost, eval_room, given_of, passes_read, rounds_of, steps_read}
 use Rattle.em_eval.specs.Evaluation.{CircuitCause, EndsSteps, FillsEval, PrintsAll, SpellsEdges, StepsCause, steps_of}
-use Rattle.em_ends.specs.Ended.{Caused, Ended, GoesOn, Outside}
+use Rattle.em_ends.specs.Ended.{Caused, Ended, GoesOn, KeepsRoom, Outside}
 use Rattle.em_ends.specs.Stop.{stop_status, Faults, IfStopsFull, OnFault, fault_counts}
 use Rattle.em_ends.specs.RunStop.{FillsRun, RunCause}
 use Rattle.em_ends.specs.declared.status.Malform.{Malform}
@@ -36,7 +37,7 @@ use Rattle.em_ends.specs.declared.stop.Stop.{Stop}
 use Rattle.em_ends.specs.declared.stop.Stop.TheVariants.{Fault, Read, Write, Em}
 use Rattle.em_ends.proofs.EndLaws.{KeepsMoves, Stopped, done_whole, ended_due, malformed_whole}
 use Rattle.em_eval.proofs.EvalCosts.{evaluation_within, making_rises, rounds_rise}
-use Rattle.em_eval.proofs.EvalRoom.{eval_room_rises, stops_less}
+use Rattle.em_eval.proofs.EvalRoom.{eval_room_rises, room_after, stops_less}
 use Rattle.em_eval.proofs.Evaluating.{fault_due, fault_first, fault_latched, fault_none, lines_due, nothing_due, steps_counted, steps_due}
 
 -- a slot that is as one that wasn't opened is neither open nor lost
@@ -118,6 +119,14 @@ module _ (wide : Bool) (start : Option ℕ) (tells : Bool) (x y stimulus : List 
       (subst (λ (v : List ℕ). IfStopsFull stop
       (λ used. used < eval_room a.pool.shape (circuit_read start (slots First) v))) (e t)
       (room t (sym touches.told ∙ d)))
+
+  -- at no moment more blocks were in use than the room of what was read
+  pub circuit_most : (slots : Slot → SlotState) (a c : RigState)
+      → (IsTrue tells → IsTrue a.device.told
+      → c.most ≤ eval_room a.pool.shape (circuit_read start (slots First) x))
+      → KeepsRoom (asked_of_eval wide start y stimulus) tells a c slots
+  circuit_most slots a c most t d =
+      subst (λ (v : List ℕ). c.most ≤ eval_room a.pool.shape (circuit_read start (slots First) v)) (e t) (most t d)
 
   -- what was moved until then, by the transfer cost
   pub circuit_keeps : (slots : Slot → SlotState) (a c : RigState) → IsShape a.pool.shape
@@ -231,6 +240,18 @@ module _ (wide : Bool) {start : Option ℕ} (tells told : Bool) (x y z w : List 
       subst (λ (v : ShapeNumbers). IfStopsFull stop (λ used. used < eval_room v read)) (sym touches.shape)
       (stops_less stop (eval_room m.pool.shape (circuit_size o.header)) (eval_room m.pool.shape read)
       (eval_room_rises m.pool.shape (circuit_size o.header) read large) (room (sym touches.told ∙ d)))
+
+  -- at no moment more blocks were in use than the room of what was read
+  pub steps_most : (slots : Slot → SlotState) (a c : RigState) → Touches [] a m
+      → (IsTrue tells → circuit_size o.header ≤ circuit_read start (slots First) x)
+      → (IsTrue tells → IsTrue a.device.told
+      → m.most ≤ eval_room a.pool.shape (circuit_read start (slots First) x))
+      → (IsTrue m.device.told → IsInRoom o.header m c)
+      → KeepsRoom (asked_of_eval wide start y w) tells a c slots
+  steps_most slots a c touches small first then t d =
+      subst (λ (v : List ℕ). c.most ≤ eval_room a.pool.shape (circuit_read start (slots First) v)) (e t)
+      (room_after a m c o.header (circuit_read start (slots First) x) touches.shape (small t) (first t d)
+      (then (touches.told ∙ d)))
 
   -- what was moved, by the transfer cost
   pub steps_keep : (slots : Slot → SlotState) (a c : RigState) → Sound a → Touches [] a m

@@ -192,6 +192,7 @@ module _ {IsState : List ℕ → Type 0} {took : List ℕ → List ℕ → List 
     further = printed_many (old.text.feed.place < new.text.feed.place) r y.further;
     idle = err_many (λ stopped. ActsAfterByte old.rig new.rig old.evaluator new.evaluator
         old.text.feed.place new.text.feed.place) r y.idle;
+    most = λ alone short. (y.room.alone alone short).0;
     room = λ alone short.
         let both = y.room.alone alone short in
         err_many (λ stopped. IfStepEm stopped (FullInRoom old.evaluator.header old.rig)) r both.1;

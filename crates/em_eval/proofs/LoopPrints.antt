@@ -27,6 +27,7 @@ use Rattle.em_eval.specs.EvalSize.{given_of}
 use Rattle.em_eval.specs.Evaluation.{CanRunSteps, PrintsLines, PrintsSteps, Round, steps_of}
 use Rattle.em_eval.proofs.LoopEnds.{all_read, calls_begun, cause_of, ends_of, full_of, given_least, idle_calls, last_idle, last_moves, last_run, reads_second, round_begun, rounds_few, rounds_halted, steps_paid}
 use Rattle.em_ends.proofs.Printing.{part_step}
+use Rattle.em_eval.proofs.EvalRoom.{in_room_then}
 use Rattle.em_eval.proofs.RoundLoop.{MadeRounds, PrintsRun, first_scene, rounds_alone, short_kept}
 use Rattle.em_eval.proofs.Rounds.{AnswersRound, FollowsRound, IsLast, RoundSays, result_of}
 use Rattle.em_eval.proofs.Stepping.{lines_from, lines_left, lines_next, lines_parted, state_after}
@@ -225,6 +226,11 @@ module _ {H W Q : Type 0} (h : ShelfGhosts H) (w : SinkGhosts W) (queue : QueueG
             (given_least z all refl ready refl)) idle;
         paid = steps_paid s t (queue.counts e.queue).unstored ((queue.counts e.queue).unstored + 0)
             can.sound can.paid (omega arith) k.pays k.touches.moves k.touches.shape;
+        most = λ alone short.
+            let shape = m.runs.runs.session.touches.shape in
+            in_room_then s mid.rig t e.header mid.evaluator.header shape m.keeps.header (m.most alone short)
+            (y.most (rounds_alone rule queue round h.tells first ok can.is mid m alone)
+            (short_kept queue s mid.rig e mid.evaluator m.keeps shape short));
         room = λ alone short.
             let shape = m.runs.runs.session.touches.shape in
             full_of s mid.rig mid.evaluator.header e.header r last shape m.keeps.header

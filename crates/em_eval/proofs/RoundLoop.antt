@@ -23,6 +23,7 @@ use Rattle.aig_text.specs.Reads.{Advances}
 use Rattle.aig_text.specs.Source.{Source, left, source}
 use Rattle.aig_text.proofs.Steadies.{advances_then, steady_none}
 use Rattle.aig_edges.specs.Graph.{CanBuild, edge_count}
+use Rattle.aig_edges.specs.Room.{IsInRoom}
 use Rattle.aig_sweep.specs.Lists.{latch_room, lists_account}
 use Rattle.aig_sweep.specs.Room.{IsShortSweeper, SweepsAlone}
 use Rattle.aig_sweep.specs.Scene.{Keeps, Scene, scene}
@@ -31,6 +32,7 @@ use Rattle.aig_sweep.specs.declared.sweeper.Sweeper.{Sweeper}
 use Rattle.aig_wide.specs.Group.{stimulus_at}
 use Rattle.em_eval.specs.Evaluation.{Round}
 use Rattle.em_ready.proofs.RoomLaws.{times_rises}
+use Rattle.em_eval.proofs.EvalRoom.{in_room_then}
 use Rattle.em_eval.proofs.Rounds.{CanRound, FollowsRound, RoundCosts, RoundSays, TakesRound}
 use Rattle.em_eval.proofs.Stepping.{lines_from, lines_left, lines_taken, state_after}
 
@@ -65,6 +67,8 @@ pub record MadeRounds {Q : Type 0} (queue : QueueGhosts Q) (round : Round) (tell
   pub idle : (now.rig.moves ≤ first.rig.moves) ⊎ (0 < rounds)
   pub run : (queue.counts now.evaluator.queue).k
       ≤ max (queue.counts first.evaluator.queue).k round.calls
+  pub most : SweepsAlone queue 0 first.rig first.evaluator → IsShortSweeper first.rig first.evaluator
+      → IsInRoom first.evaluator.header first.rig now.rig
   pub is : IsSweeper queue now.rig now.evaluator
   pub keeps : Keeps queue now.rig first.evaluator now.evaluator
   pub runs : RunsBeside (round.calls * rounds) round.room
@@ -229,6 +233,7 @@ module _ {IsState : List ℕ → Type 0} {took : List ℕ → List ℕ → List 
         rounds = 0;
         idle = inl (omega arith);
         run = omega arith;
+        most = λ alone short. omega arith;
         is = is;
         keeps = record {
           header = refl;
@@ -347,6 +352,12 @@ module _ {IsState : List ℕ → Type 0} {took : List ℕ → List ℕ → List 
           rounds = m.rounds + 1;
           idle = inr (omega arith);
           run = omega (arith, calls, since, m.run);
+          most = λ alone short.
+              let shape = m.runs.runs.session.touches.shape in
+              in_room_then first.rig mid.rig new.rig first.evaluator.header mid.evaluator.header shape header
+              (m.most alone short)
+              (y.most (rounds_alone alone)
+              (short_kept queue first.rig mid.rig first.evaluator mid.evaluator m.keeps shape short));
           is = y.is;
           keeps = record {
             header = y.keeps.header ∙ header;

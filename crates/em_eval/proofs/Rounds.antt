@@ -14,7 +14,7 @@ use Rattle.aig_defs.specs.declared.fault.AigKind.{AigKind}
 use Rattle.aig_text.specs.Reads.{Advances}
 use Rattle.aig_text.specs.Source.{Source, left}
 use Rattle.aig_edges.specs.Graph.{CanBuild}
-use Rattle.aig_edges.specs.Room.{FullInRoom}
+use Rattle.aig_edges.specs.Room.{FullInRoom, IsInRoom}
 use Rattle.aig_edges.specs.declared.stop.StepStop.{StepStop}
 use Rattle.aig_edges.specs.declared.stop.StepStop.TheVariants as stop
 use Rattle.aig_sweep.specs.Lists.{lists_account}
@@ -142,5 +142,7 @@ pub record RoundSays {Q : Type 0} (queue : QueueGhosts Q) (round : Round)
   pub further : IfLines r (old.text.feed.place < new.text.feed.place)
   pub idle : IfErr r (λ stopped. ActsAfterByte old.rig new.rig old.evaluator new.evaluator
       old.text.feed.place new.text.feed.place)
+  pub most : SweepsAlone queue round.calls old.rig old.evaluator → IsShortSweeper old.rig old.evaluator
+      → IsInRoom old.evaluator.header old.rig new.rig
   pub room : SweepsAlone queue round.calls old.rig old.evaluator → IsShortSweeper old.rig old.evaluator
       → IfErr r (λ stopped. IfStepEm stopped (FullInRoom old.evaluator.header old.rig))

@@ -202,6 +202,9 @@ module _ {IsState : List ℕ → Type 0} {took : List ℕ → List ℕ → List 
     further = printed_one (old.text.feed.place < new.text.feed.place) r y.further;
     idle = err_one (λ stopped. ActsAfterByte old.rig new.rig old.evaluator new.evaluator
         old.text.feed.place new.text.feed.place) r y.idle;
+    most = λ alone short.
+        let few = step_calls_few old.evaluator.header in
+        (y.room.alone (alone_more few alone) short).0;
     room = λ alone short.
         let few = step_calls_few old.evaluator.header in
         let both = y.room.alone (alone_more few alone) short in

@@ -21,6 +21,7 @@ use Rattle.aig_defs.specs.Stimulus.{Stimulus, output_lines, steps_begun, stimulu
 use Rattle.aig_defs.specs.TextFault.{either_text, text_fault}
 use Rattle.aig_defs.specs.Value.{run_from, run_of}
 use Rattle.aig_edges.specs.Graph.{IsOrdered, IsOrderedOf, edge_count, ordered_blocks, ordered_size}
+use Rattle.aig_edges.specs.Room.{IsInRoom}
 use Rattle.aig_edges.specs.declared.graph.Ordered.{Ordered}
 use Rattle.aig_sweep.specs.Room.{IsShortSweeper, SweepsAlone}
 use Rattle.aig_sweep.specs.Scene.{KeepsFront}
@@ -93,13 +94,16 @@ AnswersCircuit start h s t shelf shelf_after (Ok o) = MakesEdges start h s t she
 AnswersCircuit start h s t shelf shelf_after (Err stop) = StopsCircuit start h s t shelf shelf_after stop
 
 -- The circuit in the first slot was read, as far as the answer says, and nothing else of the shelf. At
--- every end the moves are those of a circuit of the size that was read.
+-- every end the moves are those of a circuit of the size that was read, and at no moment more blocks were in use
+-- than its room, if none was before.
 pub record ReadsCircuit (start : Option ℕ) {H : Type 0} (h : ShelfGhosts H) (s t : RigState) (shelf shelf_after : H)
     (result : Result Ordered Stop) : Type 0 where
   pub answers : AnswersCircuit start h s t shelf shelf_after result
   pub moves : IsTrue h.tells → IsTrue s.device.told → t.moves ≤ s.moves + circuit_moves s.pool.shape
       (circuit_read start ((h.stand shelf_after).slot First) ((h.stand shelf).slot First).left)
       (passes_read start ((h.stand shelf).slot First).left)
+  pub most : IsTrue h.tells → IsTrue s.device.told → t.most ≤ eval_room s.pool.shape
+      (circuit_read start ((h.stand shelf_after).slot First) ((h.stand shelf).slot First).left)
   pub reads : ReadsFirst h.tells (h.stand shelf) (h.stand shelf_after)
   pub later : h.faults shelf ≤ h.faults shelf_after
 
@@ -199,7 +203,8 @@ pub record RoundsMove {Q : Type 0} (queue : QueueGhosts Q) (s t : RigState) (e d
 -- Steps over the stimulus in the second slot, a round of them at a time, from each state of a circuit that the
 -- evaluator has. Between two moments at which its queue is empty come the calls of one round. Nothing is moved
 -- before the first step is begun. If the evaluator stands alone, of short edges and with a queue that was never
--- called, the device is full only if it has fewer blocks than the circuit's room.
+-- called, at no moment more blocks were in use than the circuit's room, or than before, and the device is full only
+-- if it has fewer blocks than that.
 pub record PrintsSteps {H W Q : Type 0} (h : ShelfGhosts H) (w : SinkGhosts W) (queue : QueueGhosts Q)
     (round : Round) (s t : RigState) (e d : Sweeper Q) (shelf shelf_after : H) (out out_after : W)
     (pending : List ℕ) (result : Result (Unit {0}) Stop) : Type 0 where
@@ -228,6 +233,7 @@ pub record PrintsSteps {H W Q : Type 0} (h : ShelfGhosts H) (w : SinkGhosts W) (
       (ceiling (steps_of e.header.inputs ((h.stand shelf).slot Second).left
       ((h.stand shelf_after).slot Second)) round.lines)
   pub paid : (2 ^ 64 - 1 ≤ t.moves) ⊎ (t.used ≤ t.moves + 2 * t.pool.shape.frames)
+  pub most : SweepsAlone queue 0 s e → IsShortSweeper s e → IsInRoom e.header s t
   pub room : SweepsAlone queue 0 s e → IsShortSweeper s e → IfErr result (λ stop.
       IfStopsFull stop (λ used. used < eval_room s.pool.shape (circuit_size e.header)))
 
@@ -240,7 +246,8 @@ pub record PrintsAll (took : List ℕ → List ℕ → List ℕ) (lines old new 
 -- An evaluation by these edges, which are all that is on the rig: as `PrintsSteps`, with nothing pending,
 -- for a circuit in any order of its gates, from the state in which each latch has its reset. At every end the
 -- moves are those of making an evaluator, and of the rounds of the steps that were begun: of one step each, or
--- of up to 64 if it is wide. If the device tells, it is full only if it has fewer blocks than the circuit's room.
+-- of up to 64 if it is wide. If the device tells, at no moment more blocks were in use than the circuit's room, or
+-- than before, and it is full only if it has fewer blocks than that.
 pub record RunsSteps {H W : Type 0} (wide : Bool) (h : ShelfGhosts H) (w : SinkGhosts W) (s t : RigState)
     (o : Ordered) (shelf shelf_after : H) (out out_after : W) (result : Result (Unit {0}) Stop)
     : Type 0 where
@@ -258,6 +265,7 @@ pub record RunsSteps {H W : Type 0} (wide : Bool) (h : ShelfGhosts H) (w : SinkG
   pub cause : IfErr result (StepsCause (fault_counts (h.faults shelf) (w.faults out))
       (fault_counts (h.faults shelf_after) (w.faults out_after)) s t)
   pub full : IfErr result (λ stop. IfStopsFull stop (FillsEval t))
+  pub most : IsTrue s.device.told → IsInRoom o.header s t
   pub room : IsTrue s.device.told → IfErr result (λ stop.
       IfStopsFull stop (λ used. used < eval_room s.pool.shape (circuit_size o.header)))
   pub moves : IsTrue h.tells → IsTrue s.device.told

@@ -49,6 +49,7 @@ pub(crate) fn new_front() -> Front
 }
 
 /// The next step: a record that is due is written, else the next operation is settled.
+#[inline]
 pub(crate) fn advance<S: Settle>(settle: &S, ops: &[Record], front: Front) -> (Finding, Front)
     requires ready { S.IsReady settle.now }
     requires ordered { IsAscending ops.now }
@@ -67,6 +68,7 @@ pub(crate) fn advance<S: Settle>(settle: &S, ops: &[Record], front: Front) -> (F
 }
 
 /// Whether the first record in hand is below all operations that are left, or nothing is left.
+#[inline]
 fn comes_first<S: Settle>(settle: &S, ops: &[Record], front: Front) -> bool
     requires ordered { IsAscending ops.now }
     requires within { front.settled ≤ length ops.now }
@@ -86,6 +88,7 @@ fn comes_first<S: Settle>(settle: &S, ops: &[Record], front: Front) -> bool
 }
 
 /// The first record in hand.
+#[inline]
 pub(crate) fn first(front: Front) -> Option<Record>
     ensures { result ≡ first_hand front front.hand }
 {
@@ -96,6 +99,7 @@ pub(crate) fn first(front: Front) -> Option<Record>
 }
 
 /// Passes the first record in hand on.
+#[inline]
 fn pass_first(front: Front) -> (Finding, Front)
     ensures { PassesFirst front result.1 (first_hand front front.hand) result.0 }
 {
@@ -113,6 +117,7 @@ fn pass_first(front: Front) -> (Finding, Front)
 }
 
 /// Passes the record that was read ahead on, if there is one.
+#[inline]
 fn pass_ahead(front: Front) -> (Finding, Front)
     requires none { front.hand ≡ None }
     ensures { PassesFirst front result.1 front.ahead result.0 }
@@ -131,6 +136,7 @@ fn pass_ahead(front: Front) -> (Finding, Front)
 }
 
 /// Settles the next operation over the stored record of its key.
+#[inline]
 fn settle_next<S: Settle>(settle: &S, ops: &[Record], front: Front) -> (Finding, Front)
     requires ready { S.IsReady settle.now }
     requires ordered { IsAscending ops.now }
@@ -151,6 +157,7 @@ fn settle_next<S: Settle>(settle: &S, ops: &[Record], front: Front) -> (Finding,
 }
 
 /// The answer of an operation that was settled, and the front after it.
+#[inline]
 fn with_settled(front: Front, left: Step, ahead: Option<Record>) -> (Finding, Front)
     requires more { front.settled + 1 < 2 ^ 64 }
     ensures answer { result.0 ≡ Answer left.answer }
@@ -171,6 +178,7 @@ fn with_settled(front: Front, left: Step, ahead: Option<Record>) -> (Finding, Fr
 }
 
 /// The stored record of a key, if there is one, and the record that then is read ahead.
+#[inline]
 fn pick<S: Settle>(settle: &S, front: Front, key: Record) -> (Option<Record>, Option<Record>)
     ensures counts { some_count result.0 + some_count result.1 ≡ in_hand front }
     ensures ahead { some_count result.1 ≤ some_count front.ahead }
@@ -193,6 +201,7 @@ fn pick<S: Settle>(settle: &S, front: Front, key: Record) -> (Option<Record>, Op
 }
 
 /// Whether the first record is below the second.
+#[inline]
 fn comes_before(first: Record, second: Record) -> bool
     ensures { result ≡ is_below first second }
 {

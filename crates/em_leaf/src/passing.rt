@@ -18,6 +18,7 @@ use em_space::{EmFault, Rig};
 
 /// The next record that results, and None exactly if none is left. The answers of the operations
 /// up to it are written. After a fault reader and writer may only be abandoned.
+#[inline]
 pub(crate) fn next_record<D: Device, S: Settle>(
     rig: &mut Rig<'_, D>,
     settle: &S,

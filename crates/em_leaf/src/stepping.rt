@@ -15,6 +15,7 @@ use em_space::{EmFault, Rig};
 
 /// Takes a step of a pass: what it comes to is the next record that results, or the answer of the
 /// next operation, or the end.
+#[inline]
 pub(crate) fn take_step<D: Device, S: Settle>(
     rig: &mut Rig<'_, D>,
     settle: &S,
@@ -40,6 +41,7 @@ pub(crate) fn take_step<D: Device, S: Settle>(
 }
 
 /// Reads a record if none is in hand.
+#[inline]
 fn read_ahead<D: Device>(
     rig: &mut Rig<'_, D>,
     reader: &mut Reader,

@@ -84,6 +84,7 @@ table_command_of-long kind.Map w ps long =
       other_text w (codes "del") (lit≤ tt) long,
       other_text w (codes "get") (lit≤ tt) long,
       other_text w (codes "sync") (lit≤ tt) long,
+      other_text w (codes "add") (lit≤ tt) long,
     ) refl
 table_command_of-long kind.Queue w ps long =
     rw (other_text w (codes "push") (lit≤ tt) long, other_text w (codes "pop") (lit≤ tt) long) refl

@@ -72,6 +72,17 @@ a_sync_with_an_operand = refl
 a_sync_without_newline : good_commands Map (codes "sync") ≡ command.Sync ∷ []
 a_sync_without_newline = refl
 
+the_commands_of_a_text_with_adds :
+    good_commands Map (codes "add 5 10\nget 5\nput 5 11\nadd 5 1\n")
+    ≡ command.Add 5 10 ∷ command.Get 5 ∷ command.Put 5 11 ∷ command.Add 5 1 ∷ []
+the_commands_of_a_text_with_adds = refl
+
+a_fault_after_an_add : first_fault Map (codes "add 5 10\nadd 5\n") ≡ Some (BadSeparator, 2)
+a_fault_after_an_add = refl
+
+an_add_without_newline : good_commands Map (codes "add 1 2") ≡ command.Add 1 2 ∷ []
+an_add_without_newline = refl
+
 the_commands_of_a_stab_text :
     good_commands Stab (codes "stab 5\niv 5 5\niv 7 18446744073709551615\n")
     ≡ command.Stab 5 ∷ command.Interval 5 5 ∷ command.Interval 7 18446744073709551615 ∷ []
@@ -153,6 +164,37 @@ a_sync_of_a_queue = refl
 
 a_sync_of_intervals : command_of Stab (codes "sync") ≡ Err Unknown
 a_sync_of_intervals = refl
+
+an_add_with_leading_zeros : command_of Map (codes "add 007 00000000000000000012") ≡ Ok (command.Add 7 12)
+an_add_with_leading_zeros = refl
+
+an_add_of_the_greatest : command_of Map (codes "add 18446744073709551615 18446744073709551615")
+    ≡ Ok (command.Add 18446744073709551615 18446744073709551615)
+an_add_of_the_greatest = refl
+
+an_add_above_64_bits : command_of Map (codes "add 1 18446744073709551616") ≡ Err TooLarge
+an_add_above_64_bits = refl
+
+an_add_of_no_operand : command_of Map (codes "add") ≡ Err BadSeparator
+an_add_of_no_operand = refl
+
+an_add_of_one_operand : command_of Map (codes "add 1") ≡ Err BadSeparator
+an_add_of_one_operand = refl
+
+an_add_of_three_operands : command_of Map (codes "add 1 2 3") ≡ Err BadSeparator
+an_add_of_three_operands = refl
+
+a_sign_in_an_add : command_of Map (codes "add 1 -2") ≡ Err BadNumber
+a_sign_in_an_add = refl
+
+a_word_longer_than_add : command_of Map (codes "adds 1 2") ≡ Err Unknown
+a_word_longer_than_add = refl
+
+an_add_of_a_queue : command_of Queue (codes "add 1 2") ≡ Err Unknown
+an_add_of_a_queue = refl
+
+an_add_of_intervals : command_of Stab (codes "add 1 2") ≡ Err Unknown
+an_add_of_intervals = refl
 
 a_third_operand : command_of Map (codes "put 1 2 3") ≡ Err BadSeparator
 a_third_operand = refl

@@ -58,14 +58,16 @@ in_order (command.Interval low high) =
     if nat_lt high low then Err LowAboveHigh else Ok (command.Interval low high)
 in_order other = Ok other
 
--- the command of a map file, from its word and the parts after it: `put K V`, `del K`, `get K` or `sync`
+-- the command of a map file, from its word and the parts after it: `put K V`, `del K`, `get K`, `sync` or
+-- `add K V`
 abbrev pub map_command_of : List ℕ → List (List ℕ) → Result Command TextKind
 map_command_of word parts =
     if bytes_eq word (codes "put") then with_operands command.Put parts
     else (if bytes_eq word (codes "del") then with_operand command.Del parts
     else (if bytes_eq word (codes "get") then with_operand command.Get parts
     else (if bytes_eq word (codes "sync") then at_end parts command.Sync
-    else Err Unknown)))
+    else (if bytes_eq word (codes "add") then with_operands command.Add parts
+    else Err Unknown))))
 
 -- the command of a queue file: `push K V` or `pop`
 abbrev pub queue_command_of : List ℕ → List (List ℕ) → Result Command TextKind

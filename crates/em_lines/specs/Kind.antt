@@ -8,6 +8,7 @@ use Rattle.em_lines.specs.declared.text.FileKind.TheVariants as kind
 -- The command is of the file's table; an interval is in order.
 abbrev pub IsOfKind : FileKind → Command → Type 0
 IsOfKind kind.Map (command.Put key value) = Unit {0}
+IsOfKind kind.Map (command.Add key value) = Unit {0}
 IsOfKind kind.Map (command.Del key) = Unit {0}
 IsOfKind kind.Map (command.Get key) = Unit {0}
 IsOfKind kind.Map command.Sync = Unit {0}

@@ -68,6 +68,10 @@ fn map_command<H: Shelf>(feed: &mut Feed, shelf: &mut H, word: &[u8]) -> Result<
         read_end(feed, shelf, Command::Get { key })
     } else if word == b"sync".as_slice() {
         read_end(feed, shelf, Command::Sync)
+    } else if word == b"add".as_slice() {
+        let key = read_operand(feed, shelf)?;
+        let value = read_operand(feed, shelf)?;
+        read_end(feed, shelf, Command::Add { key, value })
     } else {
         Err(LineStop::Fault(TextKind::Unknown))
     }

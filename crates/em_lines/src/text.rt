@@ -7,7 +7,7 @@ use em_record::Failed;
 /// Which table of words a command file goes by.
 #[derive(Clone, Copy, Debug, PartialEq, Eq, Drop)]
 pub enum FileKind {
-    /// `put K V`, `del K`, `get K` and `sync`: a map from keys to values.
+    /// `put K V`, `add K V`, `del K`, `get K` and `sync`: a map from keys to values.
     Map,
     /// `push K V` and `pop`: a priority queue.
     Queue,

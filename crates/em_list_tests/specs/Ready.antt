@@ -68,13 +68,13 @@ pub record KeepsList {T : Type 0} (more : ℕ) (s t : RigState) (l m : CommandLi
   pub len : OnOk result (list_len m ≤ list_len l + more)
 
 -- The same of a map.
-pub record ReadyMap (more : ℕ) (s : RigState) (m : ScanMap) : Type 0 where
+pub record ReadyMap {F : Type 0} (more : ℕ) (s : RigState) (m : ScanMap F) : Type 0 where
   pub sound : Sound s
   pub is : IsScanMap s m
   pub free : 6 ≤ s.pool.free
   pub few : list_len m.list + more ≤ 2 ^ 40
 
-pub record KeepsMap {T : Type 0} (more : ℕ) (s t : RigState) (m n : ScanMap)
+pub record KeepsMap {F : Type 0} {T : Type 0} (more : ℕ) (s t : RigState) (m n : ScanMap F)
     (result : Result T EmFault) : Type 0 where
   pub sound : Sound t
   pub frames : SameFrames s.pool t.pool

@@ -5,13 +5,15 @@ use Rattle.std.specs.List.Sorted.{IsPermutation}
 use Rattle.std.proofs.lemmas.List.{length-append}
 use Rattle.std.proofs.lemmas.List.Sorted.{IsPermutation-refl, IsPermutation-trans}
 use Rattle.em_record.specs.declared.record.Record.{Record}
+use Rattle.em_model.specs.Map.{Combiner}
 use Rattle.em_model.specs.MapAnswers.{answers_after}
 use Rattle.em_model.specs.Sync.{syncs_of}
 use Rattle.em_model.specs.declared.command.Command.{Command}
-use Rattle.em_model.specs.declared.command.Command.TheVariants.{Put, Del, Get, Sync, Push, Pop, Interval, Stab}
+use Rattle.em_model.specs.declared.command.Command.TheVariants.{Put, Add, Del, Get, Sync, Push, Pop, Interval, Stab}
 use Rattle.em_model.proofs.SyncLaws.{syncs-append}
+use Rattle.em_settle.specs.Add.{IsAddOp, add_step_of}
 use Rattle.em_settle.specs.Keys.{of_key, record_at}
-use Rattle.em_settle.specs.Map.{IsMapKept, IsMapOp, map_key_of, map_step_of}
+use Rattle.em_settle.specs.Map.{IsMapKept, map_key_of}
 use Rattle.em_space.specs.Rig.{RigState, Sound, Touches}
 use Rattle.em_space.specs.declared.fault.EmFault.{EmFault}
 use Rattle.em_chain.specs.Chain.{chain_items}
@@ -28,7 +30,7 @@ use Rattle.em_settle.specs.States.{stored_after}
 use Rattle.em_tree.specs.Calls.{ChangesTrunk, CountsCall, FinishCosts, FinishesTrunk, IsNewTrunk, PushesOp}
 use Rattle.em_trunk.specs.Meaning.{IsLater}
 use Rattle.em_trunk.specs.Trunk.{given_by, model_of}
-use Rattle.em_map.specs.Batch.{BatchCosts, CountsCommand, FinishesBatch, HasCommands, IsBatch, IsNewBatch, TakesTo, contents_after, trunk_of}
+use Rattle.em_map.specs.Batch.{BatchCosts, CountsCommand, FinishesBatch, HasCommands, IsBatch, IsNewBatch, TakesTo, contents_after, rule_of, trunk_of}
 use Rattle.em_map.specs.Commands.{map_op, map_ops, ops_after}
 use Rattle.em_map.specs.Contents.{UpTo, WaitsUpTo, key_record}
 use Rattle.em_map.specs.declared.batch.Batch.{Batch}
@@ -36,17 +38,18 @@ use Rattle.em_map.proofs.Contents.{answers_follow}
 use Rattle.em_map.proofs.Numbers.{waits_below, waits_next}
 use Rattle.em_map.proofs.Ordered.{in_order_of}
 use Rattle.em_map.proofs.Pushed.{all_next, answers_next, contents_both, contents_next, ops_next}
+use Rattle.em_map.proofs.Rules.{commands_by, same_rule}
 use Rattle.em_map.proofs.Shares.{within_batch}
 
 -- The next operation is above all that waits for its key, and above the stored record.
-pub next_later : {s : RigState} (b : Batch) (op : Record) → IsBatch s b → op.b ≡ b.calls + 1
+pub next_later : {F : Type 0} {s : RigState} (b : Batch F) (op : Record) → IsBatch s b → op.b ≡ b.calls + 1
     → IsTrue s.device.told → IsLater map_key_of (model_of s (trunk_of b)) op
 next_later {s = s} b op is e told =
     let below = waits_below b.calls op e (model_of s (trunk_of b)) (is.waits told) in
     record { waiting = below.0; stored = below.1 }
 
 -- A tree in which nothing is stored or waits.
-module _ (t : Tree) (is : IsTree map_key_of t least_record None) (stored : stored_in t ≡ [])
+module _ (apply : Combiner) (t : Tree) (is : IsTree map_key_of t least_record None) (stored : stored_in t ≡ [])
     (waiting : waiting_in t ≡ []) where
   none_waits : (q : Record) → waiting_at map_key_of t q ≡ []
   none_waits q = sym (on_path map_key_of t least_record None q is (all_keys q))
@@ -63,14 +66,14 @@ module _ (t : Tree) (is : IsTree map_key_of t least_record None) (stored : store
   }
 
   pub no_contents : (q : Record)
-      → stored_after map_step_of (stored_at map_key_of t q) (waiting_at map_key_of t q) ≡ None
-  no_contents q = ap (stored_after map_step_of (stored_at map_key_of t q)) (none_waits q)
+      → stored_after (add_step_of apply) (stored_at map_key_of t q) (waiting_at map_key_of t q) ≡ None
+  no_contents q = ap (stored_after (add_step_of apply) (stored_at map_key_of t q)) (none_waits q)
       ∙ none_stored q
 
   pub no_answers : (given : List Record) → given ≡ []
-      → IsPermutation [] (tree_answers map_key_of map_step_of given t)
+      → IsPermutation [] (tree_answers map_key_of (add_step_of apply) given t)
   no_answers given e = subst (λ (zs : List Record). IsPermutation [] zs)
-      (sym (ap (λ zs. zs ++ owed map_key_of map_step_of t) e ∙ nothing_owed map_key_of map_step_of t waiting))
+      (sym (ap (λ zs. zs ++ owed map_key_of (add_step_of apply) t) e ∙ nothing_owed map_key_of (add_step_of apply) t waiting))
       (IsPermutation-refl [])
 
 -- what a device tells after a session it told before
@@ -79,8 +82,8 @@ told_before : {held : List ℕ} {s t : RigState} → Touches held s t → IsTrue
 told_before touches told = subst (λ (z : Bool). IsTrue z) touches.told told
 
 -- A new tree is that of a batch with no command.
-pub is_new : {s t : RigState} (b : Batch) → b.calls ≡ 0 → b.syncs ≡ 0
-    → IsNewTrunk map_key_of IsMapOp IsMapKept s t (trunk_of b) → IsNewBatch s t b
+pub is_new : {F : Type 0} {s t : RigState} (b : Batch F) → b.calls ≡ 0 → b.syncs ≡ 0
+    → IsNewTrunk map_key_of IsAddOp IsMapKept s t (trunk_of b) → IsNewBatch s t b
 is_new {s = s} {t = t} b e f n =
     let model = model_of t (trunk_of b) in
     let back : IsTrue t.device.told → IsTrue s.device.told = told_before n.session.touches in
@@ -95,14 +98,14 @@ is_new {s = s} {t = t} b e f n =
         settled = ap (λ (c : TreeCounts). c.y) n.counts ∙ sym f;
         unreset = ap (λ (c : TreeCounts). c.z) n.counts;
         waits = λ told. subst (λ k. WaitsUpTo k model) (sym e)
-            (no_numbers model (is told) (n.stored (back told)) (n.waiting (back told)));
+            (no_numbers (rule_of b) model (is told) (n.stored (back told)) (n.waiting (back told)));
       };
       tree = n;
       none = record {
         calls = omega (arith, e);
         syncs = omega (arith, f);
-        contents = λ told. no_contents model (is told) (n.stored (back told)) (n.waiting (back told));
-        answers = λ told. no_answers model (is told) (n.stored (back told)) (n.waiting (back told))
+        contents = λ told. no_contents (rule_of b) model (is told) (n.stored (back told)) (n.waiting (back told));
+        answers = λ told. no_answers (rule_of b) model (is told) (n.stored (back told)) (n.waiting (back told))
             (given_by t (trunk_of b)) (n.given (back told));
       };
     }
@@ -110,6 +113,7 @@ is_new {s = s} {t = t} b e f n =
 -- a command with an operation is no sync
 op_no_sync : (n : ℕ) (c : Command) (op : Record) → map_op n c ≡ op ∷ [] → syncs_of (c ∷ []) ≡ 0
 op_no_sync n (Put k v) op e = refl
+op_no_sync n (Add k v) op e = refl
 op_no_sync n (Del k) op e = refl
 op_no_sync n (Get k) op e = refl
 op_no_sync n Sync op e = absurd (cc)
@@ -119,7 +123,7 @@ op_no_sync n (Interval low high) op e = refl
 op_no_sync n (Stab point) op e = refl
 
 -- what a push leaves of a tree's numbers
-module _ {s t : RigState} (b d : Batch) (is : IsBatch s b)
+module _ {F : Type 0} {s t : RigState} (b d : Batch F) (is : IsBatch s b)
     (c : CountsCall (count_push 0) s t (trunk_of b) (trunk_of d)) where
   pushed_more : (trunk_of d).pushed ≡ (trunk_of b).pushed + 1
   pushed_more = ap (λ (z : TreeCounts). z.n) c.counts
@@ -149,12 +153,12 @@ module _ {s t : RigState} (b d : Batch) (is : IsBatch s b)
   }
 
   -- What such a call did.
-  pub takes_command : (command : Command) (op : Record) → b.calls < 2 ^ 40 → d.calls ≡ b.calls + 1
-      → d.syncs ≡ b.syncs → map_op (b.calls + 1) command ≡ op ∷ [] → op.b ≡ b.calls + 1
+  pub takes_command : (command : Command) (op : Record) → b.calls < 2 ^ 40 → d.tree.settle ≡ b.tree.settle
+      → d.calls ≡ b.calls + 1 → d.syncs ≡ b.syncs → map_op (b.calls + 1) command ≡ op ∷ [] → op.b ≡ b.calls + 1
       → (r : Result (Unit {0}) EmFault)
-      → PushesOp map_key_of map_step_of IsMapOp IsMapKept op s t (trunk_of b) (trunk_of d) r
+      → PushesOp map_key_of (add_step_of (rule_of b)) IsAddOp IsMapKept op s t (trunk_of b) (trunk_of d) r
       → TakesTo command s t b d r
-  takes_command command op few e f ops number (Ok x) p =
+  takes_command command op few rule e f ops number (Ok x) p =
       let back : IsTrue t.device.told → IsTrue s.device.told = told_before p.session.touches in
       let old = model_of s (trunk_of b) in
       let new = model_of t (trunk_of d) in
@@ -167,57 +171,51 @@ module _ {s t : RigState} (b d : Batch) (is : IsBatch s b)
           settled = settled_same ∙ sym f;
           unreset = none_reset;
           waits = λ told. subst (λ n. WaitsUpTo n new) (sym e)
-              (waits_next b.calls op number old new
+              (waits_next (rule_of b) b.calls op number old new
               (p.meaning (back told)).advances (is.waits (back told)));
         };
-        tree = subst (λ zs. ChangesTrunk map_key_of map_step_of IsMapOp IsMapKept zs s t (trunk_of b)
+        tree = subst (λ zs. ChangesTrunk map_key_of (add_step_of (rule_of b)) IsAddOp IsMapKept zs s t (trunk_of b)
             (trunk_of d)) (sym ops) p;
         commands = λ before cs h.
             let all : map_ops (before ++ (cs ++ command ∷ [])) ≡ map_ops (before ++ cs) ++ op ∷ [] =
             all_next before cs command b.calls h.calls ∙ ap (λ zs. map_ops (before ++ cs) ++ zs) ops in
             let next : ops_after before (cs ++ command ∷ []) ≡ ops_after before cs ++ op ∷ [] =
             ops_next before cs command b.calls h.calls ∙ ap (λ zs. ops_after before cs ++ zs) ops in
-            record {
-              calls = omega (arith, e, h.calls, length-append cs (command ∷ []));
-              syncs = omega (
-                arith,
-                f,
-                h.syncs,
-                syncs-append cs (command ∷ []),
-                op_no_sync (b.calls + 1) command op ops,
-              );
-              contents = λ told. contents_next nothing (tree_contents map_key_of map_step_of old)
-                  (tree_contents map_key_of map_step_of new) [] [] (map_ops (before ++ cs)) (op ∷ [])
-                  (map_ops (before ++ (cs ++ command ∷ [])))
-                  (h.contents (back told)) all (p.meaning (back told)).contents;
-              answers = λ told. answers_next (contents_after before) (tree_contents map_key_of map_step_of old)
-                  (tree_contents map_key_of map_step_of new)
-                  (tree_answers map_key_of map_step_of (given_by s (trunk_of b)) old)
-                  (tree_answers map_key_of map_step_of (given_by t (trunk_of d)) new) (ops_after before cs)
-                  (op ∷ []) (ops_after before (cs ++ command ∷ []))
-                  (λ q. h.contents (back told) q ∙ contents_both before cs q) next (h.answers (back told))
-                  (p.meaning (back told)).answers;
-            };
+            commands_by t d (rule_of b) (same_rule b d rule) before (cs ++ command ∷ [])
+            (omega (arith, e, h.calls, length-append cs (command ∷ [])))
+            (omega (arith, f, h.syncs, syncs-append cs (command ∷ []), op_no_sync (b.calls + 1) command op ops))
+            (λ told. contents_next (rule_of b) nothing (tree_contents map_key_of (add_step_of (rule_of b)) old)
+            (tree_contents map_key_of (add_step_of (rule_of b)) new) [] [] (map_ops (before ++ cs)) (op ∷ [])
+            (map_ops (before ++ (cs ++ command ∷ [])))
+            (h.contents (back told)) all (p.meaning (back told)).contents)
+            (λ told. answers_next (rule_of b) (contents_after (rule_of b) before)
+            (tree_contents map_key_of (add_step_of (rule_of b)) old)
+            (tree_contents map_key_of (add_step_of (rule_of b)) new)
+            (tree_answers map_key_of (add_step_of (rule_of b)) (given_by s (trunk_of b)) old)
+            (tree_answers map_key_of (add_step_of (rule_of b)) (given_by t (trunk_of d)) new) (ops_after before cs)
+            (op ∷ []) (ops_after before (cs ++ command ∷ []))
+            (λ q. h.contents (back told) q ∙ contents_both (rule_of b) before cs q) next (h.answers (back told))
+            (p.meaning (back told)).answers);
       }
-  takes_command command op few e f ops number (Err fault) p = p
+  takes_command command op few rule e f ops number (Err fault) p = p
 
 -- The answers of a batch that was finished.
-pub finishes_batch : (s t : RigState) (b : Batch) (r : Result Chain EmFault)
-    → FinishesTrunk map_key_of map_step_of s t (trunk_of b) r → FinishesBatch s t b r
+pub finishes_batch : {F : Type 0} (s t : RigState) (b : Batch F) (r : Result Chain EmFault)
+    → FinishesTrunk map_key_of (add_step_of (rule_of b)) s t (trunk_of b) r → FinishesBatch s t b r
 finishes_batch s t b (Ok c) f =
     let all : IsTrue s.device.told → (before cs : List Command) → HasCommands s b before cs
-    → IsPermutation (answers_after before cs) (chain_items t c) = λ told before cs h.
-    subst (λ zs. IsPermutation zs (chain_items t c)) (answers_follow before cs)
+    → IsPermutation (answers_after (rule_of b) before cs) (chain_items t c) = λ told before cs h.
+    subst (λ zs. IsPermutation zs (chain_items t c)) (answers_follow (rule_of b) before cs)
     (IsPermutation-trans _ _ _ (h.answers told) (f.answers told)) in
     record {
       tree = f;
       answers = all;
-      ordered = λ told before cs h. in_order_of before cs (chain_items t c) (all told before cs h);
+      ordered = λ told before cs h. in_order_of (rule_of b) before cs (chain_items t c) (all told before cs h);
     }
 finishes_batch s t b (Err fault) f = f
 
 -- All calls of a batch that was finished are within its share.
-pub batch_costs : {s t : RigState} (b : Batch) → Sound s → IsBatch s b
+pub batch_costs : {F : Type 0} {s t : RigState} (b : Batch F) → Sound s → IsBatch s b
     → FinishCosts s t (trunk_of b) → BatchCosts s t b
 batch_costs {s = s} {t = t} b sound is f = record {
   later = f.later;

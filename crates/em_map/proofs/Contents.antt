@@ -1,27 +1,27 @@
 -- The contents and answers of a map's operations are those of the plain map.
-use Rattle.std.specs.Prelude.{Bool, true, false, cond, ℕ, ◌≡◌, ◌+◌, ◌==◌, if◌then◌else◌, List, [], ◌∷◌, ◌++◌, length, Option, Some, None, option_to_list}
+use Rattle.std.specs.Prelude.{true, false, ℕ, ◌≡◌, ◌+◌, ◌==◌, if◌then◌else◌, List, [], ◌∷◌, length, Option, Some, None}
 use Rattle.std.proofs.Common.{sym, ap, ◌∙◌, refl, ⊎_elim}
 use Rattle.std.proofs.lemmas.Bool.{cases_Bool, cond-true, cond-false, eqb-true, eqb-false}
 use Rattle.em_record.specs.declared.record.Record.{Record}
-use Rattle.em_model.specs.Map.{Map, no_keys, with_key, map_step, state_after, map_answers_from}
+use Rattle.em_model.specs.Map.{Combiner, Map, joined_to, no_keys, with_key, state_after}
 use Rattle.em_model.specs.declared.command.Command.{Command}
-use Rattle.em_model.specs.declared.command.Command.TheVariants.{Put, Del, Get, Sync, Push, Pop, Interval, Stab}
-use Rattle.em_settle.specs.Keys.{has_key}
-use Rattle.em_settle.specs.Map.{map_answer, map_key_of, map_record, map_step_of}
+use Rattle.em_model.specs.declared.command.Command.TheVariants.{Put, Add, Del, Get, Sync, Push, Pop, Interval, Stab}
+use Rattle.em_settle.specs.Add.{add_step_of, added}
+use Rattle.em_settle.specs.Map.{map_answer, map_key_of, map_record}
 use Rattle.em_settle.specs.States.{Stored, with_op, with_ops, answers_to}
-use Rattle.em_settle.proofs.Keys.{key_is, key_at, other_key}
-use Rattle.em_map.specs.Commands.{map_op, map_ops_from, ops_after}
+use Rattle.em_settle.proofs.Keys.{key_at, other_key}
+use Rattle.em_map.specs.Commands.{map_ops_from, ops_after}
 use Rattle.em_model.specs.MapAnswers.{answer_record, answers_after, answers_of}
 use Rattle.em_tree_model.specs.Meaning.{nothing}
 use Rattle.em_map.specs.Batch.{contents_after}
 use Rattle.em_map.specs.Contents.{KeepsMap, key_record, value_record}
 
 -- an operation changes the stored record of its own key alone
-at_key : (stored : Stored) (op : Record) (j : ℕ)
-    → with_op map_key_of map_step_of stored op (key_record j)
-    ≡ (if j == op.a then (map_step_of (stored (key_record op.a)) op).stored
+at_key : (apply : Combiner) (stored : Stored) (op : Record) (j : ℕ)
+    → with_op map_key_of (add_step_of apply) stored op (key_record j)
+    ≡ (if j == op.a then (add_step_of apply (stored (key_record op.a)) op).stored
     else stored (key_record j))
-at_key stored op j = ⊎_elim
+at_key apply stored op j = ⊎_elim
     (λ (t : (j == op.a) ≡ true).
     let same : map_key_of op ≡ key_record j = ap key_record (sym (eqb-true j op.a t)) in
     cond-true _ _ _ (key_at map_key_of (key_record j) op same) ∙ sym (cond-true _ _ _ t))
@@ -32,21 +32,40 @@ at_key stored op j = ⊎_elim
     (cases_Bool (j == op.a))
 
 -- a put
-after_put : (n k v : ℕ) (stored : Stored) (m : Map) → KeepsMap stored m
-    → KeepsMap (with_op map_key_of map_step_of stored (record { a = k; b = n; c = 0; d = v }))
+after_put : (apply : Combiner) (n k v : ℕ) (stored : Stored) (m : Map) → KeepsMap stored m
+    → KeepsMap (with_op map_key_of (add_step_of apply) stored (record { a = k; b = n; c = 0; d = v }))
     (with_key m k (Some v))
-after_put n k v stored m h j = at_key stored (record { a = k; b = n; c = 0; d = v }) j ∙ ⊎_elim
+after_put apply n k v stored m h j = at_key apply stored (record { a = k; b = n; c = 0; d = v }) j ∙ ⊎_elim
     (λ (t : (j == k) ≡ true). cond-true _ _ _ t ∙ (ap (λ i. Some (map_record i v)) (sym (eqb-true j k t))
     ∙ sym (ap (value_record j) (cond-true (j == k) (Some v) (m j) t))))
     (λ (f : (j == k) ≡ false). cond-false _ _ _ f ∙ (h j
     ∙ sym (ap (value_record j) (cond-false (j == k) (Some v) (m j) f))))
     (cases_Bool (j == k))
 
+-- what is stored under a key, joined to a value, is the map's value joined to it
+added_is : (apply : Combiner) (k v : ℕ) (value : Option ℕ)
+    → added apply (value_record k value) v ≡ joined_to apply value v
+added_is apply k v None = refl
+added_is apply k v (Some old) = refl
+
+-- an add
+after_add : (apply : Combiner) (n k v : ℕ) (stored : Stored) (m : Map) → KeepsMap stored m
+    → KeepsMap (with_op map_key_of (add_step_of apply) stored (record { a = k; b = n; c = 3; d = v }))
+    (with_key m k (Some (joined_to apply (m k) v)))
+after_add apply n k v stored m h j = at_key apply stored (record { a = k; b = n; c = 3; d = v }) j ∙ ⊎_elim
+    (λ (t : (j == k) ≡ true). cond-true _ _ _ t
+    ∙ (ap (λ i. Some (map_record i (added apply (stored (key_record k)) v))) (sym (eqb-true j k t))
+    ∙ (ap (λ d. Some (map_record j d)) (ap (λ r. added apply r v) (h k) ∙ added_is apply k v (m k))
+    ∙ sym (ap (value_record j) (cond-true (j == k) (Some (joined_to apply (m k) v)) (m j) t)))))
+    (λ (f : (j == k) ≡ false). cond-false _ _ _ f ∙ (h j
+    ∙ sym (ap (value_record j) (cond-false (j == k) (Some (joined_to apply (m k) v)) (m j) f))))
+    (cases_Bool (j == k))
+
 -- a del
-after_del : (n k : ℕ) (stored : Stored) (m : Map) → KeepsMap stored m
-    → KeepsMap (with_op map_key_of map_step_of stored (record { a = k; b = n; c = 1; d = 0 }))
+after_del : (apply : Combiner) (n k : ℕ) (stored : Stored) (m : Map) → KeepsMap stored m
+    → KeepsMap (with_op map_key_of (add_step_of apply) stored (record { a = k; b = n; c = 1; d = 0 }))
     (with_key m k None)
-after_del n k stored m h j = at_key stored (record { a = k; b = n; c = 1; d = 0 }) j ∙ ⊎_elim
+after_del apply n k stored m h j = at_key apply stored (record { a = k; b = n; c = 1; d = 0 }) j ∙ ⊎_elim
     (λ (t : (j == k) ≡ true). cond-true _ _ _ t
     ∙ sym (ap (value_record j) (cond-true (j == k) None (m j) t)))
     (λ (f : (j == k) ≡ false). cond-false _ _ _ f ∙ (h j
@@ -54,28 +73,30 @@ after_del n k stored m h j = at_key stored (record { a = k; b = n; c = 1; d = 0 
     (cases_Bool (j == k))
 
 -- a get leaves all
-after_get : (n k : ℕ) (stored : Stored) (m : Map) → KeepsMap stored m
-    → KeepsMap (with_op map_key_of map_step_of stored (record { a = k; b = n; c = 2; d = 0 })) m
-after_get n k stored m h j = at_key stored (record { a = k; b = n; c = 2; d = 0 }) j ∙ ⊎_elim
+after_get : (apply : Combiner) (n k : ℕ) (stored : Stored) (m : Map) → KeepsMap stored m
+    → KeepsMap (with_op map_key_of (add_step_of apply) stored (record { a = k; b = n; c = 2; d = 0 })) m
+after_get apply n k stored m h j = at_key apply stored (record { a = k; b = n; c = 2; d = 0 }) j ∙ ⊎_elim
     (λ (t : (j == k) ≡ true). cond-true _ _ _ t
     ∙ (ap (λ i. stored (key_record i)) (sym (eqb-true j k t)) ∙ h j))
     (λ (f : (j == k) ≡ false). cond-false _ _ _ f ∙ h j)
     (cases_Bool (j == k))
 
 -- the contents after some commands are the map after them
-pub keeps_map : (n : ℕ) (cs : List Command) (stored : Stored) (m : Map) → KeepsMap stored m
-    → KeepsMap (with_ops map_key_of map_step_of stored (map_ops_from n cs)) (state_after m cs)
-keeps_map n [] stored m h = h
-keeps_map n (Put k v ∷ cs) stored m h =
-    keeps_map (n + 1) cs _ (with_key m k (Some v)) (after_put n k v stored m h)
-keeps_map n (Del k ∷ cs) stored m h =
-    keeps_map (n + 1) cs _ (with_key m k None) (after_del n k stored m h)
-keeps_map n (Get k ∷ cs) stored m h = keeps_map (n + 1) cs _ m (after_get n k stored m h)
-keeps_map n (Sync ∷ cs) stored m h = keeps_map (n + 1) cs stored m h
-keeps_map n (Push k v ∷ cs) stored m h = keeps_map (n + 1) cs stored m h
-keeps_map n (Pop ∷ cs) stored m h = keeps_map (n + 1) cs stored m h
-keeps_map n (Interval low high ∷ cs) stored m h = keeps_map (n + 1) cs stored m h
-keeps_map n (Stab point ∷ cs) stored m h = keeps_map (n + 1) cs stored m h
+pub keeps_map : (apply : Combiner) (n : ℕ) (cs : List Command) (stored : Stored) (m : Map) → KeepsMap stored m
+    → KeepsMap (with_ops map_key_of (add_step_of apply) stored (map_ops_from n cs)) (state_after apply m cs)
+keeps_map apply n [] stored m h = h
+keeps_map apply n (Put k v ∷ cs) stored m h =
+    keeps_map apply (n + 1) cs _ (with_key m k (Some v)) (after_put apply n k v stored m h)
+keeps_map apply n (Add k v ∷ cs) stored m h =
+    keeps_map apply (n + 1) cs _ (with_key m k (Some (joined_to apply (m k) v))) (after_add apply n k v stored m h)
+keeps_map apply n (Del k ∷ cs) stored m h =
+    keeps_map apply (n + 1) cs _ (with_key m k None) (after_del apply n k stored m h)
+keeps_map apply n (Get k ∷ cs) stored m h = keeps_map apply (n + 1) cs _ m (after_get apply n k stored m h)
+keeps_map apply n (Sync ∷ cs) stored m h = keeps_map apply (n + 1) cs stored m h
+keeps_map apply n (Push k v ∷ cs) stored m h = keeps_map apply (n + 1) cs stored m h
+keeps_map apply n (Pop ∷ cs) stored m h = keeps_map apply (n + 1) cs stored m h
+keeps_map apply n (Interval low high ∷ cs) stored m h = keeps_map apply (n + 1) cs stored m h
+keeps_map apply n (Stab point ∷ cs) stored m h = keeps_map apply (n + 1) cs stored m h
 
 -- the answer of a get is that of its value
 answer_is : (n k : ℕ) (value : Option ℕ) → map_answer (value_record k value) n ≡ answer_record n value
@@ -83,34 +104,36 @@ answer_is n k None = refl
 answer_is n k (Some v) = refl
 
 -- The operations' answers are the gets' answers, each with its number.
-pub answers_are : (n : ℕ) (cs : List Command) (stored : Stored) (m : Map) → KeepsMap stored m
-    → answers_to map_key_of map_step_of stored (map_ops_from n cs) ≡ answers_of n m cs
-answers_are n [] stored m h = refl
-answers_are n (Put k v ∷ cs) stored m h =
-    answers_are (n + 1) cs _ (with_key m k (Some v)) (after_put n k v stored m h)
-answers_are n (Del k ∷ cs) stored m h =
-    answers_are (n + 1) cs _ (with_key m k None) (after_del n k stored m h)
-answers_are n (Get k ∷ cs) stored m h =
-    ap (λ s. map_answer s n ∷ answers_to map_key_of map_step_of
-    (with_op map_key_of map_step_of stored (record { a = k; b = n; c = 2; d = 0 })) (map_ops_from (n + 1) cs))
+pub answers_are : (apply : Combiner) (n : ℕ) (cs : List Command) (stored : Stored) (m : Map) → KeepsMap stored m
+    → answers_to map_key_of (add_step_of apply) stored (map_ops_from n cs) ≡ answers_of apply n m cs
+answers_are apply n [] stored m h = refl
+answers_are apply n (Put k v ∷ cs) stored m h =
+    answers_are apply (n + 1) cs _ (with_key m k (Some v)) (after_put apply n k v stored m h)
+answers_are apply n (Add k v ∷ cs) stored m h =
+    answers_are apply (n + 1) cs _ (with_key m k (Some (joined_to apply (m k) v))) (after_add apply n k v stored m h)
+answers_are apply n (Del k ∷ cs) stored m h =
+    answers_are apply (n + 1) cs _ (with_key m k None) (after_del apply n k stored m h)
+answers_are apply n (Get k ∷ cs) stored m h =
+    ap (λ s. map_answer s n ∷ answers_to map_key_of (add_step_of apply)
+    (with_op map_key_of (add_step_of apply) stored (record { a = k; b = n; c = 2; d = 0 })) (map_ops_from (n + 1) cs))
     (h k)
-    ∙ (ap (λ r. r ∷ answers_to map_key_of map_step_of
-    (with_op map_key_of map_step_of stored (record { a = k; b = n; c = 2; d = 0 })) (map_ops_from (n + 1) cs))
+    ∙ (ap (λ r. r ∷ answers_to map_key_of (add_step_of apply)
+    (with_op map_key_of (add_step_of apply) stored (record { a = k; b = n; c = 2; d = 0 })) (map_ops_from (n + 1) cs))
     (answer_is n k (m k))
     ∙ ap (λ rs. answer_record n (m k) ∷ rs)
-    (answers_are (n + 1) cs _ m (after_get n k stored m h)))
-answers_are n (Sync ∷ cs) stored m h = answers_are (n + 1) cs stored m h
-answers_are n (Push k v ∷ cs) stored m h = answers_are (n + 1) cs stored m h
-answers_are n (Pop ∷ cs) stored m h = answers_are (n + 1) cs stored m h
-answers_are n (Interval low high ∷ cs) stored m h = answers_are (n + 1) cs stored m h
-answers_are n (Stab point ∷ cs) stored m h = answers_are (n + 1) cs stored m h
+    (answers_are apply (n + 1) cs _ m (after_get apply n k stored m h)))
+answers_are apply n (Sync ∷ cs) stored m h = answers_are apply (n + 1) cs stored m h
+answers_are apply n (Push k v ∷ cs) stored m h = answers_are apply (n + 1) cs stored m h
+answers_are apply n (Pop ∷ cs) stored m h = answers_are apply (n + 1) cs stored m h
+answers_are apply n (Interval low high ∷ cs) stored m h = answers_are apply (n + 1) cs stored m h
+answers_are apply n (Stab point ∷ cs) stored m h = answers_are apply (n + 1) cs stored m h
 
 -- The contents that commands leave are the map after them,
-pub keeps_after : (cs : List Command) → KeepsMap (contents_after cs) (state_after no_keys cs)
-keeps_after cs = keeps_map 1 cs nothing no_keys (λ k. refl)
+pub keeps_after : (apply : Combiner) (cs : List Command) → KeepsMap (contents_after apply cs) (state_after apply no_keys cs)
+keeps_after apply cs = keeps_map apply 1 cs nothing no_keys (λ k. refl)
 
 -- and the answers to commands after others are those of the gets among them, numbered on.
-pub answers_follow : (before cs : List Command)
-    → answers_to map_key_of map_step_of (contents_after before) (ops_after before cs) ≡ answers_after before cs
-answers_follow before cs =
-    answers_are (1 + length before) cs (contents_after before) (state_after no_keys before) (keeps_after before)
+pub answers_follow : (apply : Combiner) (before cs : List Command)
+    → answers_to map_key_of (add_step_of apply) (contents_after apply before) (ops_after before cs) ≡ answers_after apply before cs
+answers_follow apply before cs =
+    answers_are apply (1 + length before) cs (contents_after apply before) (state_after apply no_keys before) (keeps_after apply before)

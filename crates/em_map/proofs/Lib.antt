@@ -5,6 +5,7 @@ mod Numbers
 mod Ordered
 mod Pushed
 pub mod Rooms
+mod Rules
 pub mod Shares
 mod Batches
 mod Syncs

@@ -13,11 +13,12 @@ use Rattle.em_record.specs.Shape.{ShapeNumbers}
 use Rattle.em_record.specs.declared.record.Record.{Record}
 use Rattle.em_model.specs.Ascending.{RisesFrom}
 use Rattle.em_model.specs.Live.{live_pairs}
-use Rattle.em_model.specs.Map.{no_keys, state_after}
+use Rattle.em_model.specs.Map.{Combiner, no_keys, state_after}
 use Rattle.em_model.specs.declared.command.Command.{Command}
 use Rattle.em_model.proofs.LiveLaws.{AllSet, live_most}
+use Rattle.em_settle.specs.Add.{add_step_of}
 use Rattle.em_settle.specs.Keys.{has_key, of_key, record_at}
-use Rattle.em_settle.specs.Map.{map_key_of, map_step_of}
+use Rattle.em_settle.specs.Map.{map_key_of}
 use Rattle.em_settle.specs.Rising.{KeysAbove, RisesByKey}
 use Rattle.em_settle.specs.States.{stored_after}
 use Rattle.em_settle.proofs.Keys.{own_key}
@@ -74,31 +75,31 @@ found q x (y ∷ front) back h e = ⊎_elim
     (cases_Bool (has_key map_key_of q y))
 
 -- A tree in which nothing waits, with the contents that commands leave.
-module _ (t : Tree) (is : IsTree map_key_of t least_record None) (waiting : waiting_in t ≡ []) (cs : List Command)
-    (contents : (q : Record) → tree_contents map_key_of map_step_of t q ≡ contents_after cs q) where
-  stored_is : (q : Record) → record_at map_key_of (stored_in t) q ≡ contents_after cs q
+module _ (apply : Combiner) (t : Tree) (is : IsTree map_key_of t least_record None) (waiting : waiting_in t ≡ []) (cs : List Command)
+    (contents : (q : Record) → tree_contents map_key_of (add_step_of apply) t q ≡ contents_after apply cs q) where
+  stored_is : (q : Record) → record_at map_key_of (stored_in t) q ≡ contents_after apply cs q
   stored_is q =
       let none : waiting_at map_key_of t q ≡ [] =
       sym (on_path map_key_of t least_record None q is (all_keys q)) ∙ ap (of_key map_key_of q) waiting in
       in_leaf map_key_of t least_record None q is (all_keys q)
-      ∙ ap (stored_after map_step_of (stored_at map_key_of t q)) (sym none) ∙ contents q
+      ∙ ap (stored_after (add_step_of apply) (stored_at map_key_of t q)) (sym none) ∙ contents q
 
   -- each stored record is that of a key with a value
   all_set : (front back : List Record) → stored_in t ≡ front ++ back
-      → AllSet (state_after no_keys cs) (words back)
+      → AllSet (state_after apply no_keys cs) (words back)
   all_set front [] e = tt
   all_set front (x ∷ back) e = (
     λ none.
         let q = key_record x.a in
         found q x front back (own_key map_key_of x)
-        (sym (ap (λ xs. record_at map_key_of xs q) e) ∙ stored_is q ∙ keeps_after cs x.a
+        (sym (ap (λ xs. record_at map_key_of xs q) e) ∙ stored_is q ∙ keeps_after apply cs x.a
         ∙ ap (value_record x.a) none),
     all_set (front ++ x ∷ []) back (e ∙ sym (append_assoc front (x ∷ []) back)),
   )
 
   pub stored_live : length (stored_in t) ≤ live_pairs cs
   stored_live =
-      let few = live_most cs (words (stored_in t))
+      let few = live_most apply cs (words (stored_in t))
       (words_rise (stored_in t) (stored_rises map_key_of t least_record None is))
       (all_set [] (stored_in t) refl) in
       omega (arith, few, length-map (stored_in t) (λ (r : Record). r.a))

@@ -1,15 +1,18 @@
 -- Numbers rise: what waits in a batch's tree is below its next operation.
-use Rattle.std.specs.Prelude.{Bool, true, false, cond, ℕ, ◌≡◌, ◌+◌, ◌<◌, ◌≤◌, ◌==◌, List, [], ◌∷◌, ◌++◌, Option, Some, None, option_to_list}
-use Rattle.std.proofs.Common.{sym, ap, subst, ◌∙◌, refl, arith, ⊎_elim}
+use Rattle.std.specs.Prelude.{Bool, true, false, cond, ℕ, ◌≡◌, ◌+◌, ◌<◌, ◌≤◌, ◌==◌, List, [], ◌∷◌, ◌++◌, Option, option_to_list}
+use Rattle.std.proofs.Common.{sym, ap, subst, refl, arith, ⊎_elim}
 use Rattle.std.proofs.lemmas.Bool.{cases_Bool}
 use Rattle.std.proofs.lemmas.Cmp.{nat_cmp_total, tied_itself}
 use Rattle.em_record.specs.Order.{is_below}
 use Rattle.em_record.specs.declared.record.Record.{Record}
+use Rattle.em_model.specs.Map.{Combiner}
+use Rattle.em_settle.specs.Add.{add_step_of}
 use Rattle.em_settle.specs.Keys.{has_key, of_key}
-use Rattle.em_settle.specs.Map.{map_key_of, map_step_of}
+use Rattle.em_settle.specs.Map.{map_key_of}
 use Rattle.em_settle.specs.MapLaws.{choose}
 use Rattle.em_settle.specs.Rising.{AllUnder}
 use Rattle.em_settle.specs.States.{stored_after}
+use Rattle.em_settle.specs.declared.step.Step.{Step}
 use Rattle.em_settle.proofs.Keys.{key_is, first_of_key, none_of_key}
 use Rattle.em_tree_model.specs.Meaning.{Advances}
 use Rattle.em_tree_model.specs.Tree.{Tree, stored_at, waiting_at}
@@ -55,23 +58,29 @@ of_word k n op h = ⊎_elim
     subst (UpTo k n) (sym (none_of_key map_key_of (key_record k) op [] f)) tt)
     (cases_Bool (has_key map_key_of (key_record k) op))
 
+-- what holds of both steps holds of the one that is chosen
+either : (P : Step → Type 0) (p : Bool) (a b : Step) → P a → P b → P (cond p a b)
+either P true a b x y = x
+either P false a b x y = y
+
 -- what an operation leaves has the number 0, or is what was stored
-left_by : (k n : ℕ) (old : Option Record) (op : Record) → UpTo k n (option_to_list old) → op.a ≡ k
-    → UpTo k n (option_to_list (map_step_of old op).stored)
-left_by k n old op u e =
-    choose (λ s. UpTo k n (option_to_list s.stored)) (op.c == 0) (op.c == 1) _ _ _
-    ((e, omega arith), tt) tt u
+left_by : (apply : Combiner) (k n : ℕ) (old : Option Record) (op : Record) → UpTo k n (option_to_list old) → op.a ≡ k
+    → UpTo k n (option_to_list (add_step_of apply old op).stored)
+left_by apply k n old op u e =
+    let P : Step → Type 0 = λ s. UpTo k n (option_to_list s.stored) in
+    choose P (op.c == 0) (op.c == 1) _ _ _ ((e, omega arith), tt) tt
+    (either P (op.c == 3) _ _ ((e, omega arith), tt) u)
 
 -- and so what several leave
-left_after : (k n : ℕ) (old : Option Record) (ops : List Record) → UpTo k n (option_to_list old)
-    → UpTo k n ops → UpTo k n (option_to_list (stored_after map_step_of old ops))
-left_after k n old [] u v = u
-left_after k n old (op ∷ ops) u v =
-    left_after k n (map_step_of old op).stored ops (left_by k n old op u v.0.0) v.1
+left_after : (apply : Combiner) (k n : ℕ) (old : Option Record) (ops : List Record) → UpTo k n (option_to_list old)
+    → UpTo k n ops → UpTo k n (option_to_list (stored_after (add_step_of apply) old ops))
+left_after apply k n old [] u v = u
+left_after apply k n old (op ∷ ops) u v =
+    left_after apply k n (add_step_of apply old op).stored ops (left_by apply k n old op u v.0.0) v.1
 
 -- An operation with the next number was pushed.
-module _ (n : ℕ) (op : Record) (next : op.b ≡ n + 1) (t u : Tree)
-    (a : (q : Record) → Advances map_key_of map_step_of t u (op ∷ []) q) (w : WaitsUpTo n t) where
+module _ (apply : Combiner) (n : ℕ) (op : Record) (next : op.b ≡ n + 1) (t u : Tree)
+    (a : (q : Record) → Advances map_key_of (add_step_of apply) t u (op ∷ []) q) (w : WaitsUpTo n t) where
   -- what waited and came
   came : (k : ℕ) → UpTo k (n + 1) ((a (key_record k)).first ++ waiting_at map_key_of u (key_record k))
   came k = subst (UpTo k (n + 1)) (a (key_record k)).parts
@@ -83,13 +92,13 @@ module _ (n : ℕ) (op : Record) (next : op.b ≡ n + 1) (t u : Tree)
   waits_next = record {
     waiting = λ k. back_of k (n + 1) (a (key_record k)).first (waiting_at map_key_of u (key_record k)) (came k);
     stored = λ k. subst (λ r. UpTo k (n + 1) (option_to_list r)) (sym (a (key_record k)).left)
-        (left_after k (n + 1) (stored_at map_key_of t (key_record k)) (a (key_record k)).first
+        (left_after apply k (n + 1) (stored_at map_key_of t (key_record k)) (a (key_record k)).first
         (wider k n (n + 1) (omega arith) (option_to_list (stored_at map_key_of t (key_record k))) (w.stored k))
         (front_of k (n + 1) (a (key_record k)).first (waiting_at map_key_of u (key_record k)) (came k)));
   }
 
 -- No operation was pushed, but a number was passed over.
-module _ (n : ℕ) (t u : Tree) (a : (q : Record) → Advances map_key_of map_step_of t u [] q) (w : WaitsUpTo n t) where
+module _ (apply : Combiner) (n : ℕ) (t u : Tree) (a : (q : Record) → Advances map_key_of (add_step_of apply) t u [] q) (w : WaitsUpTo n t) where
   rest : (k : ℕ) → UpTo k (n + 1) ((a (key_record k)).first ++ waiting_at map_key_of u (key_record k))
   rest k = subst (UpTo k (n + 1)) (a (key_record k)).parts
       (together k (n + 1) (waiting_at map_key_of t (key_record k)) []
@@ -99,7 +108,7 @@ module _ (n : ℕ) (t u : Tree) (a : (q : Record) → Advances map_key_of map_st
   waits_still = record {
     waiting = λ k. back_of k (n + 1) (a (key_record k)).first (waiting_at map_key_of u (key_record k)) (rest k);
     stored = λ k. subst (λ r. UpTo k (n + 1) (option_to_list r)) (sym (a (key_record k)).left)
-        (left_after k (n + 1) (stored_at map_key_of t (key_record k)) (a (key_record k)).first
+        (left_after apply k (n + 1) (stored_at map_key_of t (key_record k)) (a (key_record k)).first
         (wider k n (n + 1) (omega arith) (option_to_list (stored_at map_key_of t (key_record k))) (w.stored k))
         (front_of k (n + 1) (a (key_record k)).first (waiting_at map_key_of u (key_record k)) (rest k)));
   }

@@ -5,7 +5,8 @@ use Rattle.std.specs.List.Sorted.{IsPermutation}
 use Rattle.em_record.specs.Shape.{ShapeNumbers}
 use Rattle.em_record.specs.declared.record.Record.{Record}
 use Rattle.em_model.specs.declared.command.Command.{Command}
-use Rattle.em_settle.specs.Map.{IsMapKept, IsMapOp, map_key_of, map_step_of}
+use Rattle.em_settle.specs.Add.{IsAddOp, add_step_of}
+use Rattle.em_settle.specs.Map.{IsMapKept, map_key_of}
 use Rattle.em_settle.specs.States.{answers_to}
 use Rattle.em_frames.specs.Pool.{singles_of}
 use Rattle.em_space.specs.Held.{Apart}
@@ -14,18 +15,18 @@ use Rattle.em_tree_model.specs.Meaning.{tree_answers, tree_contents}
 use Rattle.em_tree_model.specs.Tree.{Tree}
 use Rattle.em_trunk.specs.Trunk.{IsTrunk, given_by, model_of}
 use Rattle.em_trunk.proofs.Stays.{TrunkStays, trunk_stays}
-use Rattle.em_map.specs.Batch.{BatchHasFrames, HasCommands, IsBatch, batch_blocks, contents_after, trunk_of}
+use Rattle.em_map.specs.Batch.{BatchHasFrames, HasCommands, IsBatch, batch_blocks, contents_after, rule_of, trunk_of}
 use Rattle.em_map.specs.Commands.{ops_after}
 use Rattle.em_map.specs.Contents.{WaitsUpTo}
 use Rattle.em_map.specs.declared.batch.Batch.{Batch}
 
 -- The same tree is read, over a device that tells as it did.
-module _ (s t : RigState) (b : Batch) (same : t.device.told ≡ s.device.told)
+module _ {F : Type 0} (s t : RigState) (b : Batch F) (same : t.device.told ≡ s.device.told)
     (model : IsTrue s.device.told → model_of t (trunk_of b) ≡ model_of s (trunk_of b)) where
   back : IsTrue t.device.told → IsTrue s.device.told
   back told = subst (λ (z : Bool). IsTrue z) same told
 
-  pub batch_stays : IsTrunk map_key_of IsMapOp IsMapKept t (trunk_of b) → IsBatch s b → IsBatch t b
+  pub batch_stays : IsTrunk map_key_of IsAddOp IsMapKept t (trunk_of b) → IsBatch s b → IsBatch t b
   batch_stays is i = record {
     is = is;
     pushed = i.pushed;
@@ -39,13 +40,13 @@ module _ (s t : RigState) (b : Batch) (same : t.device.told ≡ s.device.told)
   pub commands_stay : (IsTrue s.device.told → given_by t (trunk_of b) ≡ given_by s (trunk_of b))
       → (before cs : List Command) → HasCommands s b before cs → HasCommands t b before cs
   commands_stay given before cs h =
-      let owing = answers_to map_key_of map_step_of (contents_after before) (ops_after before cs) in
-      let P : Tree → Type 0 = λ x. (q : Record) → tree_contents map_key_of map_step_of x q
-      ≡ contents_after (before ++ cs) q in
+      let owing = answers_to map_key_of (add_step_of (rule_of b)) (contents_after (rule_of b) before) (ops_after before cs) in
+      let P : Tree → Type 0 = λ x. (q : Record) → tree_contents map_key_of (add_step_of (rule_of b)) x q
+      ≡ contents_after (rule_of b) (before ++ cs) q in
       let Q : Tree → Type 0 = λ x. IsPermutation owing
-      (tree_answers map_key_of map_step_of (given_by s (trunk_of b)) x) in
+      (tree_answers map_key_of (add_step_of (rule_of b)) (given_by s (trunk_of b)) x) in
       let R : List Record → Type 0 = λ zs. IsPermutation owing
-      (tree_answers map_key_of map_step_of zs (model_of t (trunk_of b))) in
+      (tree_answers map_key_of (add_step_of (rule_of b)) zs (model_of t (trunk_of b))) in
       record {
         calls = h.calls;
         syncs = h.syncs;
@@ -55,12 +56,12 @@ module _ (s t : RigState) (b : Batch) (same : t.device.told ≡ s.device.told)
       }
 
 -- A call on other values leaves a batch as it is.
-pub record BatchStays (s t : RigState) (b : Batch) : Type 0 where
+pub record BatchStays {F : Type 0} (s t : RigState) (b : Batch F) : Type 0 where
   pub is : IsBatch t b
   pub blocks : IsTrue s.device.told → batch_blocks t b ≡ batch_blocks s b
   pub commands : (before cs : List Command) → HasCommands s b before cs → HasCommands t b before cs
 
-module _ (held : List ℕ) (s t : RigState) (b : Batch) (touches : Touches held s t)
+module _ {F : Type 0} (held : List ℕ) (s t : RigState) (b : Batch F) (touches : Touches held s t)
     (out : t.pool.free + 2 ≤ singles_of t.pool.shape) where
   -- what a fault leaves of it stays too
   pub batch_frames_stay : BatchHasFrames s b → BatchHasFrames t b
@@ -74,8 +75,8 @@ module _ (held : List ℕ) (s t : RigState) (b : Batch) (touches : Touches held 
   pub batch_beside : IsBatch s b → (IsTrue s.device.told → Apart (batch_blocks s b) held)
       → BatchStays s t b
   batch_beside i apart =
-      let stays : TrunkStays map_key_of IsMapOp IsMapKept s t (trunk_of b) =
-      trunk_stays map_key_of IsMapOp IsMapKept held s t (trunk_of b) touches
+      let stays : TrunkStays map_key_of IsAddOp IsMapKept s t (trunk_of b) =
+      trunk_stays map_key_of IsAddOp IsMapKept held s t (trunk_of b) touches
       (batch_frames_stay i.is.running.frames) i.is apart in
       let model : IsTrue s.device.told → model_of t (trunk_of b) ≡ model_of s (trunk_of b) =
       λ told. (stays.reads told).model in

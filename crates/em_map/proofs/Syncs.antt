@@ -13,7 +13,8 @@ use Rattle.em_model.specs.MapAnswers.{answers_after}
 use Rattle.em_model.specs.declared.command.Command.{Command}
 use Rattle.em_model.specs.declared.command.Command.TheVariants.{Sync}
 use Rattle.em_model.proofs.SyncLaws.{syncs-append}
-use Rattle.em_settle.specs.Map.{IsMapKept, IsMapOp, map_key_of, map_step_of}
+use Rattle.em_settle.specs.Add.{IsAddOp, add_step_of}
+use Rattle.em_settle.specs.Map.{IsMapKept, map_key_of}
 use Rattle.em_settle.specs.States.{answers_to, with_ops}
 use Rattle.em_space.specs.Queue.{Pays}
 use Rattle.em_space.specs.Rig.{RigState, Sound}
@@ -35,7 +36,7 @@ use Rattle.em_tree.specs.Handing.{HandedAnswers, HandsAnswers, StopsHanding}
 use Rattle.em_trunk.specs.Room.{FullOverRoom, WithinRoom}
 use Rattle.em_trunk.specs.Trunk.{counts_of, given_by, model_of, trunk_blocks, trunk_unstored}
 use Rattle.em_trunk.specs.declared.trunk.Trunk.{Trunk}
-use Rattle.em_map.specs.Batch.{CountsSync, HasCommands, IsBatch, SyncedBatch, SyncsBatch, batch_blocks, contents_after, trunk_of}
+use Rattle.em_map.specs.Batch.{CountsSync, HasCommands, IsBatch, SyncedBatch, SyncsBatch, batch_blocks, contents_after, rule_of, trunk_of}
 use Rattle.em_map.specs.Commands.{map_ops, ops_after}
 use Rattle.em_map.specs.Contents.{WaitsUpTo}
 use Rattle.em_map.specs.declared.batch.Batch.{Batch}
@@ -45,10 +46,11 @@ use Rattle.em_map.proofs.Numbers.{waits_still}
 use Rattle.em_map.proofs.Ordered.{in_order_of}
 use Rattle.em_map.proofs.Pushed.{ops_append}
 use Rattle.em_map.proofs.Rooms.{within_more}
+use Rattle.em_map.proofs.Rules.{commands_by, same_rule}
 use Rattle.em_map.proofs.Shares.{within_batch}
 
 -- what the fault of a callee says of the result
-pub syncs_err : (s t : RigState) (b d : Batch) (result : Result Chain EmFault) (e : EmFault)
+pub syncs_err : {F : Type 0} (s t : RigState) (b d : Batch F) (result : Result Chain EmFault) (e : EmFault)
     → IsErrAnd result (λ f. f ≡ e) → StopsTrunk s t (trunk_of b) (trunk_of d) e → SyncsBatch s t b d result
 syncs_err s t b d (Ok c) e h k = absurd h
 syncs_err s t b d (Err f) e h k =
@@ -60,7 +62,7 @@ ops_synced before cs = ops_append 1 (before ++ cs) (Sync ∷ []) ∙ append-nil 
 
 -- The numbers, once the tree was settled, or gave up: `d` has counts that are those of that tree, and at most one move more
 -- was made.
-module _ {s m : RigState} (b d : Batch) {x : Trunk} (sound : Sound s) (is : IsBatch s b) (few : b.calls < 2 ^ 40)
+module _ {F : Type 0} {s m : RigState} (b d : Batch F) {x : Trunk} (sound : Sound s) (is : IsBatch s b) (few : b.calls < 2 ^ 40)
     (c : CountsCall (count_settle 0) s m (trunk_of b) x) (calls : d.calls ≡ b.calls + 1) (syncs : d.syncs ≡ b.syncs + 1)
     (same : counts_of (trunk_of d) ≡ counts_of x) where
   pushed_same : (trunk_of d).pushed ≡ (trunk_of b).pushed
@@ -97,8 +99,9 @@ module _ {s m : RigState} (b d : Batch) {x : Trunk} (sound : Sound s) (is : IsBa
 
   -- The tree was settled, and its answers were handed out.
   module _ {t : RigState} {h : Chain}
-      (f : SettledTrunk map_key_of map_step_of IsMapOp IsMapKept s m (trunk_of b) x)
-      (g : HandedAnswers map_key_of IsMapOp IsMapKept m t x (trunk_of d) h) where
+      (f : SettledTrunk map_key_of (add_step_of (rule_of b)) IsAddOp IsMapKept s m (trunk_of b) x)
+      (g : HandedAnswers map_key_of IsAddOp IsMapKept m t x (trunk_of d) h)
+      (rule : d.tree.settle ≡ b.tree.settle) where
     abbrev v : Trunk
     v = trunk_of b
 
@@ -117,9 +120,9 @@ module _ {s m : RigState} (b d : Batch) {x : Trunk} (sound : Sound s) (is : IsBa
     none_waits : IsTrue s.device.told → waiting_in (model_of t w) ≡ []
     none_waits z = ap waiting_in (g.model (told_m z)) ∙ (f.settled z).waiting
 
-    contents_same : IsTrue s.device.told → (q : Record) → tree_contents map_key_of map_step_of (model_of t w) q
-        ≡ tree_contents map_key_of map_step_of (model_of s v) q
-    contents_same z q = ap (λ (u : Tree). tree_contents map_key_of map_step_of u q) (g.model (told_m z))
+    contents_same : IsTrue s.device.told → (q : Record) → tree_contents map_key_of (add_step_of (rule_of b)) (model_of t w) q
+        ≡ tree_contents map_key_of (add_step_of (rule_of b)) (model_of s v) q
+    contents_same z q = ap (λ (u : Tree). tree_contents map_key_of (add_step_of (rule_of b)) u q) (g.model (told_m z))
         ∙ (f.changes.meaning z).contents q
 
     batch_synced : IsBatch t d
@@ -133,30 +136,31 @@ module _ {s m : RigState} (b d : Batch) {x : Trunk} (sound : Sound s) (is : IsBa
       waits = λ told. let z = back told in
           subst (λ n. WaitsUpTo n (model_of t w)) (sym calls)
           (subst (λ (u : Tree). WaitsUpTo (b.calls + 1) u) (sym (g.model (told_m z)))
-          (waits_still b.calls (model_of s v) (model_of m x) (f.changes.meaning z).advances (is.waits z)));
+          (waits_still (rule_of b) b.calls (model_of s v) (model_of m x) (f.changes.meaning z).advances (is.waits z)));
     }
 
     has_synced : (before cs : List Command) → HasCommands s b before cs
         → HasCommands t d (before ++ cs ++ Sync ∷ []) []
-    has_synced before cs k = record {
-      calls = omega (arith, calls, k.calls, length-append before cs, length-append (before ++ cs) (Sync ∷ []));
-      syncs = omega (arith, syncs, k.syncs, syncs-append before cs, syncs-append (before ++ cs) (Sync ∷ []));
-      contents = λ told q. let z = back told in
-          contents_same z q ∙ k.contents z q
-          ∙ sym (ap (λ ops. with_ops map_key_of map_step_of nothing ops q)
-          (ap map_ops (append-nil (before ++ cs ++ Sync ∷ [])) ∙ ops_synced before cs));
-      answers = λ told. let z = back told in
-          let none : tree_answers map_key_of map_step_of (given_by t w) (model_of t w) ≡ [] =
-          ap (λ (rs : List Record). rs ++ owed map_key_of map_step_of (model_of t w)) (g.none (told_m z))
-          ∙ nothing_owed map_key_of map_step_of (model_of t w) (none_waits z) in
-          subst (λ rs. IsPermutation [] rs) (sym none) (IsPermutation-refl []);
-    }
+    has_synced before cs k =
+        commands_by t d (rule_of b) (same_rule b d rule) (before ++ cs ++ Sync ∷ []) []
+        (omega (arith, calls, k.calls, length-append before cs, length-append (before ++ cs) (Sync ∷ [])))
+        (omega (arith, syncs, k.syncs, syncs-append before cs, syncs-append (before ++ cs) (Sync ∷ [])))
+        (λ told q. let z = back told in
+        contents_same z q ∙ k.contents z q
+        ∙ sym (ap (λ ops. with_ops map_key_of (add_step_of (rule_of b)) nothing ops q)
+        (ap map_ops (append-nil (before ++ cs ++ Sync ∷ [])) ∙ ops_synced before cs)))
+        (λ told. let z = back told in
+        let none : tree_answers map_key_of (add_step_of (rule_of b)) (given_by t w) (model_of t w) ≡ [] =
+        ap (λ (rs : List Record). rs ++ owed map_key_of (add_step_of (rule_of b)) (model_of t w)) (g.none (told_m z))
+        ∙ nothing_owed map_key_of (add_step_of (rule_of b)) (model_of t w) (none_waits z) in
+        subst (λ rs. IsPermutation [] rs) (sym none) (IsPermutation-refl []))
 
     answers_synced : IsTrue s.device.told → (before cs : List Command) → HasCommands s b before cs
-        → IsPermutation (answers_after before cs) (chain_items t h)
+        → IsPermutation (answers_after (rule_of b) before cs) (chain_items t h)
     answers_synced z before cs k =
-        subst (λ rs. IsPermutation rs (chain_items t h)) (answers_follow before cs)
-        (subst (λ rs. IsPermutation (answers_to map_key_of map_step_of (contents_after before) (ops_after before cs)) rs)
+        subst (λ rs. IsPermutation rs (chain_items t h)) (answers_follow (rule_of b) before cs)
+        (subst (λ rs. IsPermutation (answers_to map_key_of (add_step_of (rule_of b)) (contents_after (rule_of b) before)
+        (ops_after before cs)) rs)
         (sym (g.items (told_m z)))
         (IsPermutation-trans _ _ _ (k.answers z) (f.settled z).answers))
 
@@ -165,7 +169,7 @@ module _ {s m : RigState} (b d : Batch) {x : Trunk} (sound : Sound s) (is : IsBa
     held_synced z before cs k =
         let model = model_of m x in
         let live : length (stored_in model) ≤ live_pairs (before ++ cs) =
-        stored_live model (f.changes.is.running.stands (told_m z)).is (f.settled z).waiting (before ++ cs)
+        stored_live (rule_of b) model (f.changes.is.running.stands (told_m z)).is (f.settled z).waiting (before ++ cs)
         (λ q. (f.changes.meaning z).contents q ∙ k.contents z q) in
         let most = f.held z in
         let rises = room_rises m.pool.shape (length (stored_in model)) (live_pairs (before ++ cs)) live in
@@ -189,13 +193,13 @@ module _ {s m : RigState} (b d : Batch) {x : Trunk} (sound : Sound s) (is : IsBa
       loses = λ z. let a = f.changes.loses z in let e = g.loses (told_m z) in omega (arith, a, e);
       commands = has_synced;
       answers = answers_synced;
-      ordered = λ z before cs k. in_order_of before cs (chain_items t h) (answers_synced z before cs k);
+      ordered = λ z before cs k. in_order_of (rule_of b) before cs (chain_items t h) (answers_synced z before cs k);
       held = held_synced;
     }
 
   -- The last block of the answers couldn't be stored.
   pub unhanded : {t : RigState} {e : EmFault}
-      → SettledTrunk map_key_of map_step_of IsMapOp IsMapKept s m (trunk_of b) x
+      → SettledTrunk map_key_of (add_step_of (rule_of b)) IsAddOp IsMapKept s m (trunk_of b) x
       → StopsHanding m t x (trunk_of d) e → StopsTrunk s t (trunk_of b) (trunk_of d) e
   unhanded {t} {e} f g = record {
     goes = goes_within (batch_blocks s b) (trunk_blocks m x) s m t
@@ -209,23 +213,24 @@ module _ {s m : RigState} (b d : Batch) {x : Trunk} (sound : Sound s) (is : IsBa
   }
 
 -- What a sync did, by the result of handing out.
-module _ (s m t : RigState) (b d : Batch) (x : Trunk) (sound : Sound s) (is : IsBatch s b) (few : b.calls < 2 ^ 40)
+module _ {F : Type 0} (s m t : RigState) (b d : Batch F) (x : Trunk) (sound : Sound s) (is : IsBatch s b) (few : b.calls < 2 ^ 40)
     (c : CountsCall (count_settle 0) s m (trunk_of b) x) (calls : d.calls ≡ b.calls + 1) (syncs : d.syncs ≡ b.syncs + 1)
   where
-    pub synced_to : SettledTrunk map_key_of map_step_of IsMapOp IsMapKept s m (trunk_of b) x
-        → (result : Result Chain EmFault) → HandsAnswers map_key_of IsMapOp IsMapKept m t x (trunk_of d) result
+    pub synced_to : d.tree.settle ≡ b.tree.settle
+        → SettledTrunk map_key_of (add_step_of (rule_of b)) IsAddOp IsMapKept s m (trunk_of b) x
+        → (result : Result Chain EmFault) → HandsAnswers map_key_of IsAddOp IsMapKept m t x (trunk_of d) result
         → SyncsBatch s t b d result
-    synced_to f (Ok h) g = synced_batch b d sound is few c calls syncs g.counts f g
-    synced_to f (Err e) g = unhanded b d sound is few c calls syncs g.counts f g
+    synced_to rule f (Ok h) g = synced_batch b d sound is few c calls syncs g.counts f g rule
+    synced_to rule f (Err e) g = unhanded b d sound is few c calls syncs g.counts f g
 
     pub counts_to : (result : Result Chain EmFault)
-        → HandsAnswers map_key_of IsMapOp IsMapKept m t x (trunk_of d) result → CountsSync s t b d
+        → HandsAnswers map_key_of IsAddOp IsMapKept m t x (trunk_of d) result → CountsSync s t b d
     counts_to (Ok h) g = counts_sync b d sound is few c calls syncs g.counts t (omega (arith, g.moves))
     counts_to (Err e) g = counts_sync b d sound is few c calls syncs g.counts t (omega (arith, g.moves))
 
-module _ (s m t : RigState) (b : Batch) (x w : Trunk) where
+module _ {F : Type 0} (s m t : RigState) (b : Batch F) (x w : Trunk) where
   -- Handing answers out takes no block,
-  pub room_to : (result : Result Chain EmFault) → HandsAnswers map_key_of IsMapOp IsMapKept m t x w result
+  pub room_to : (result : Result Chain EmFault) → HandsAnswers map_key_of IsAddOp IsMapKept m t x w result
       → WithinRoom (trunk_of b).longest s m (trunk_of b) → (trunk_of b).longest ≤ b.calls
       → WithinRoom b.calls s t (trunk_of b)
   room_to (Ok h) g r l =
@@ -236,12 +241,12 @@ module _ (s m t : RigState) (b : Batch) (x w : Trunk) where
       record { most = omega (arith, k.most, g.same.most) }
 
   -- so that it is never refused as full.
-  pub over_to : (result : Result Chain EmFault) → HandsAnswers map_key_of IsMapOp IsMapKept m t x w result
+  pub over_to : (result : Result Chain EmFault) → HandsAnswers map_key_of IsAddOp IsMapKept m t x w result
       → IfErr result (λ fault. IsTrue s.device.told → FullOverRoom b.calls s (trunk_of b) fault)
   over_to (Ok h) g = tt
   over_to (Err e) g = λ z. record { full = full_never m t e _ g.cause }
 
-  pub needs_to : (result : Result Chain EmFault) → HandsAnswers map_key_of IsMapOp IsMapKept m t x w result
+  pub needs_to : (result : Result Chain EmFault) → HandsAnswers map_key_of IsAddOp IsMapKept m t x w result
       → IfErr result (FullIfUntrim s (trunk_of b))
   needs_to (Ok h) g = tt
   needs_to (Err e) g = full_never m t e _ g.cause

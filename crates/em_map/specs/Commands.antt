@@ -2,11 +2,12 @@
 use Rattle.std.specs.Prelude.{ℕ, ◌+◌, List, [], ◌∷◌, ◌++◌, length}
 use Rattle.em_record.specs.declared.record.Record.{Record}
 use Rattle.em_model.specs.declared.command.Command.{Command}
-use Rattle.em_model.specs.declared.command.Command.TheVariants.{Put, Del, Get}
+use Rattle.em_model.specs.declared.command.Command.TheVariants.{Put, Add, Del, Get}
 
 -- the operations of a command with this number: one, or none if it is a sync or no command of a map
 abbrev pub map_op : ℕ → Command → List Record
 map_op n (Put key value) = record { a = key; b = n; c = 0; d = value } ∷ []
+map_op n (Add key value) = record { a = key; b = n; c = 3; d = value } ∷ []
 map_op n (Del key) = record { a = key; b = n; c = 1; d = 0 } ∷ []
 map_op n (Get key) = record { a = key; b = n; c = 2; d = 0 } ∷ []
 map_op n c = []

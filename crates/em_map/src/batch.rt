@@ -3,6 +3,7 @@
 //!     put K V   (K, n, 0, V)
 //!     del K     (K, n, 1, 0)
 //!     get K     (K, n, 2, 0)   answered by (n, 1, V, 0), or by (n, 0, 0, 0) if K has no value
+//!     add K V   (K, n, 3, V)   joined to the value of K when it is settled, by the stored closure
 //!
 //!     sync      no operation, but it has a number: the tree is settled, and its answers are handed out
 //!
@@ -20,7 +21,7 @@ ghost use Rattle.em_space.specs.Seen.{seen};
 use em_chain::Chain;
 use em_frames::Device;
 use em_record::Record;
-use em_settle::MapSettle;
+use em_settle::{AddSettle, Settle};
 use em_space::{EmFault, Rig};
 use em_tree::Tree;
 
@@ -31,21 +32,24 @@ const DEL: u64 = 1;
 
 const GET: u64 = 2;
 
+const ADD: u64 = 3;
+
 /// A map from numbers to numbers that answers its gets together, in `sync` and in `finish`. Each other call is
-/// an operation in a buffer tree. Calls are numbered from 1.
+/// an operation in a buffer tree. Calls are numbered from 1. How an add joins its value to that of its key is a
+/// closure, which the tree's rules keep.
 ///
 /// It holds two frames and can't be dropped. After a fault only `abandon` may be called. Over a device that
 /// tells, its blocks after n commands, inside a call too, are within 12 · (q(n) + 1) + m · (2 + lev(q(n)))
 /// and those of the answers that it had given before.
-pub struct Batch {
-    tree: Tree<MapSettle>,
+pub struct Batch<F: Fn(u64, u64) -> u64 + Drop> {
+    tree: Tree<AddSettle<F>>,
     /// Commands so far.
     calls: u64,
     /// Syncs among them.
     syncs: u64,
 }
 
-impl Batch {
+impl<F: Fn(u64, u64) -> u64 + Drop> Batch<F> {
     ghost use Rattle.em_map.specs.Batch.{BatchCosts, BatchHasFrames, CountsCommand, CountsSync, FinishesBatch, IsBatch, IsNewBatch, SyncsBatch, TakesTo, trunk_of};
     ghost use Rattle.em_map.specs.Commands.{map_op};
     ghost use Rattle.em_tree.specs.Calls.{FullIfUntrim, StopsNewTrunk};
@@ -53,14 +57,15 @@ impl Batch {
     ghost use Rattle.em_trunk.specs.Room.{FullOverRoom, WithinRoom};
     ghost use Rattle.em_trunk.specs.Lists.{LeavesTrunk};
 
-    /// A batch with no command. At most four blocks are moved.
-    pub fn new<D: Device>(rig: &mut Rig<'_, D>) -> Result<Batch, EmFault>
+    /// A batch with no command, whose adds are joined by these rules. At most four blocks are moved.
+    pub fn with<D: Device>(rig: &mut Rig<'_, D>, settle: AddSettle<F>) -> Result<Batch<F>, EmFault>
         requires sound { Sound (seen D.state rig.old) }
         requires free { CanServe (seen D.state rig.old).pool }
         ensures makes { IfOk result (IsNewBatch (seen D.state rig.old) (seen D.state rig.new)) }
+        ensures rule { IfOk result (λ b. b.tree.settle ≡ settle) }
         ensures stops { IfErr result (StopsNewTrunk (seen D.state rig.old) (seen D.state rig.new)) }
     {
-        let tree = Tree::new(rig, MapSettle {})?;
+        let tree = Tree::new(rig, settle)?;
         Ok(Batch {
             tree,
             calls: 0,
@@ -77,8 +82,10 @@ impl Batch {
     ) -> Result<(), EmFault>
         requires sound { Sound (seen D.state rig.old) }
         requires is { IsBatch (seen D.state rig.old) self.old }
+        requires ready { ⟦<AddSettle<F> as Settle>⟧.IsReady self.old.tree.settle }
         requires free { CanServe (seen D.state rig.old).pool }
         requires few { self.old.calls < 2 ^ 40 }
+        ensures rule { self.new.tree.settle ≡ self.old.tree.settle }
         ensures takes { TakesTo (command.Put key value) (seen D.state rig.old)
             (seen D.state rig.new) self.old self.new result }
         ensures counts { CountsCommand (seen D.state rig.old) (seen D.state rig.new)
@@ -97,8 +104,10 @@ impl Batch {
     pub fn del<D: Device>(&mut self, rig: &mut Rig<'_, D>, key: u64) -> Result<(), EmFault>
         requires sound { Sound (seen D.state rig.old) }
         requires is { IsBatch (seen D.state rig.old) self.old }
+        requires ready { ⟦<AddSettle<F> as Settle>⟧.IsReady self.old.tree.settle }
         requires free { CanServe (seen D.state rig.old).pool }
         requires few { self.old.calls < 2 ^ 40 }
+        ensures rule { self.new.tree.settle ≡ self.old.tree.settle }
         ensures takes { TakesTo (command.Del key) (seen D.state rig.old)
             (seen D.state rig.new) self.old self.new result }
         ensures counts { CountsCommand (seen D.state rig.old) (seen D.state rig.new)
@@ -117,8 +126,10 @@ impl Batch {
     pub fn get<D: Device>(&mut self, rig: &mut Rig<'_, D>, key: u64) -> Result<(), EmFault>
         requires sound { Sound (seen D.state rig.old) }
         requires is { IsBatch (seen D.state rig.old) self.old }
+        requires ready { ⟦<AddSettle<F> as Settle>⟧.IsReady self.old.tree.settle }
         requires free { CanServe (seen D.state rig.old).pool }
         requires few { self.old.calls < 2 ^ 40 }
+        ensures rule { self.new.tree.settle ≡ self.old.tree.settle }
         ensures takes { TakesTo (command.Get key) (seen D.state rig.old)
             (seen D.state rig.new) self.old self.new result }
         ensures counts { CountsCommand (seen D.state rig.old) (seen D.state rig.new)
@@ -133,8 +144,35 @@ impl Batch {
         self.push(rig, key, GET, 0)
     }
 
+    /// Joins a value to that of the key; the key has it alone if it had none. It is one push into the tree.
+    pub fn add<D: Device>(
+        &mut self,
+        rig: &mut Rig<'_, D>,
+        key: u64,
+        value: u64,
+    ) -> Result<(), EmFault>
+        requires sound { Sound (seen D.state rig.old) }
+        requires is { IsBatch (seen D.state rig.old) self.old }
+        requires ready { ⟦<AddSettle<F> as Settle>⟧.IsReady self.old.tree.settle }
+        requires free { CanServe (seen D.state rig.old).pool }
+        requires few { self.old.calls < 2 ^ 40 }
+        ensures rule { self.new.tree.settle ≡ self.old.tree.settle }
+        ensures takes { TakesTo (command.Add key value) (seen D.state rig.old)
+            (seen D.state rig.new) self.old self.new result }
+        ensures counts { CountsCommand (seen D.state rig.old) (seen D.state rig.new)
+            self.old self.new }
+        ensures needs { IfErr result (λ fault. IfFull fault (λ _. NeedsMore (seen D.state rig.old)
+            (trunk_of self.old))) }
+        ensures room { IsTrue (seen D.state rig.old).device.told → WithinRoom (self.old.calls + 1)
+            (seen D.state rig.old) (seen D.state rig.new) (trunk_of self.old) }
+        ensures over { IfErr result (λ fault. IsTrue (seen D.state rig.old).device.told
+            → FullOverRoom (self.old.calls + 1) (seen D.state rig.old) (trunk_of self.old) fault) }
+    {
+        self.push(rig, key, ADD, value)
+    }
+
     /// The tree in which the batch keeps its commands.
-    pub fn tree(&self) -> &Tree<MapSettle>
+    pub fn tree(&self) -> &Tree<AddSettle<F>>
         ensures { result.now ≡ self.now.tree }
     {
         &self.tree
@@ -146,8 +184,10 @@ impl Batch {
     pub fn sync<D: Device>(&mut self, rig: &mut Rig<'_, D>) -> Result<Chain, EmFault>
         requires sound { Sound (seen D.state rig.old) }
         requires is { IsBatch (seen D.state rig.old) self.old }
+        requires ready { ⟦<AddSettle<F> as Settle>⟧.IsReady self.old.tree.settle }
         requires free { CanServe (seen D.state rig.old).pool }
         requires few { self.old.calls < 2 ^ 40 }
+        ensures rule { self.new.tree.settle ≡ self.old.tree.settle }
         ensures syncs { SyncsBatch (seen D.state rig.old) (seen D.state rig.new)
             self.old self.new result }
         ensures counts { CountsSync (seen D.state rig.old) (seen D.state rig.new)
@@ -170,6 +210,7 @@ impl Batch {
     pub fn finish<D: Device>(self, rig: &mut Rig<'_, D>) -> Result<Chain, EmFault>
         requires sound { Sound (seen D.state rig.old) }
         requires is { IsBatch (seen D.state rig.old) self }
+        requires ready { ⟦<AddSettle<F> as Settle>⟧.IsReady self.tree.settle }
         requires free { CanServe (seen D.state rig.old).pool }
         ensures finishes { FinishesBatch (seen D.state rig.old) (seen D.state rig.new) self result }
         ensures full { IfErr result (λ fault. IfFull fault (λ _. 0 < self.calls)) }
@@ -211,9 +252,11 @@ impl Batch {
     ) -> Result<(), EmFault>
         requires sound { Sound (seen D.state rig.old) }
         requires is { IsBatch (seen D.state rig.old) self.old }
+        requires ready { ⟦<AddSettle<F> as Settle>⟧.IsReady self.old.tree.settle }
         requires free { CanServe (seen D.state rig.old).pool }
         requires few { self.old.calls < 2 ^ 40 }
-        requires what { what < 3 }
+        requires what { what < 4 }
+        ensures rule { self.new.tree.settle ≡ self.old.tree.settle }
         ensures takes { (given : commands.Command) → map_op (self.old.calls + 1) given
             ≡ record { a = key; b = self.old.calls + 1; c = what; d = value } ∷ []
             → TakesTo given (seen D.state rig.old) (seen D.state rig.new) self.old self.new result }

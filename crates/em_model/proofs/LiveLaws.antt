@@ -4,9 +4,9 @@ use Rattle.std.specs.Prelude.{◌==◌, ◌||◌, if◌then◌else◌}
 use Rattle.std.proofs.lemmas.Bool.{cases_Bool, cond-false, cond-true, eq-eqb, eqb-false, eqb-true}
 use Rattle.em_model.specs.Ascending.{RisesFrom}
 use Rattle.em_model.specs.Live.{changes_key, live_keys, live_pairs}
-use Rattle.em_model.specs.Map.{Map, no_keys, state_after, value_from}
+use Rattle.em_model.specs.Map.{Combiner, Map, joined_to, no_keys, state_after, value_from}
 use Rattle.em_model.specs.declared.command.Command.{Command}
-use Rattle.em_model.specs.declared.command.Command.TheVariants.{Put, Del, Get, Sync, Push, Pop, Interval, Stab}
+use Rattle.em_model.specs.declared.command.Command.TheVariants.{Put, Add, Del, Get, Sync, Push, Pop, Interval, Stab}
 use Rattle.em_model.proofs.MapLaws.{state_after-value}
 
 -- each of these keys has a value
@@ -30,26 +30,29 @@ or_none : (x y : Bool) → (x || y) ≡ false → (x ≡ false) × (y ≡ false)
 or_none true y e = absurd (cc)
 or_none false y e = (refl, e)
 
-unchanged_by : (x y : Bool) (key : ℕ) (new before : Option ℕ) (cs : List Command)
+unchanged_by : (apply : Combiner) (x y : Bool) (key : ℕ) (new before : Option ℕ) (cs : List Command)
     → (x || y) ≡ false
-    → ((b : Option ℕ) → y ≡ false → value_from key b cs ≡ b)
-    → value_from key (if x then new else before) cs ≡ before
-unchanged_by true y key new before cs e h = absurd (cc)
-unchanged_by false y key new before cs e h = h before e
+    → ((b : Option ℕ) → y ≡ false → value_from apply key b cs ≡ b)
+    → value_from apply key (if x then new else before) cs ≡ before
+unchanged_by apply true y key new before cs e h = absurd (cc)
+unchanged_by apply false y key new before cs e h = h before e
 
-unchanged : (key : ℕ) (before : Option ℕ) (cs : List Command) → changes_key key cs ≡ false
-    → value_from key before cs ≡ before
-unchanged key before [] e = refl
-unchanged key before (Put k v ∷ cs) e =
-    unchanged_by (key == k) (changes_key key cs) key (Some v) before cs e (λ b h. unchanged key b cs h)
-unchanged key before (Del k ∷ cs) e =
-    unchanged_by (key == k) (changes_key key cs) key None before cs e (λ b h. unchanged key b cs h)
-unchanged key before (Get k ∷ cs) e = unchanged key before cs e
-unchanged key before (Sync ∷ cs) e = unchanged key before cs e
-unchanged key before (Push k v ∷ cs) e = unchanged key before cs e
-unchanged key before (Pop ∷ cs) e = unchanged key before cs e
-unchanged key before (Interval low high ∷ cs) e = unchanged key before cs e
-unchanged key before (Stab point ∷ cs) e = unchanged key before cs e
+unchanged : (apply : Combiner) (key : ℕ) (before : Option ℕ) (cs : List Command) → changes_key key cs ≡ false
+    → value_from apply key before cs ≡ before
+unchanged apply key before [] e = refl
+unchanged apply key before (Put k v ∷ cs) e =
+    unchanged_by apply (key == k) (changes_key key cs) key (Some v) before cs e (λ b h. unchanged apply key b cs h)
+unchanged apply key before (Add k v ∷ cs) e =
+    unchanged_by apply (key == k) (changes_key key cs) key (Some (joined_to apply before v)) before cs e
+    (λ b h. unchanged apply key b cs h)
+unchanged apply key before (Del k ∷ cs) e =
+    unchanged_by apply (key == k) (changes_key key cs) key None before cs e (λ b h. unchanged apply key b cs h)
+unchanged apply key before (Get k ∷ cs) e = unchanged apply key before cs e
+unchanged apply key before (Sync ∷ cs) e = unchanged apply key before cs e
+unchanged apply key before (Push k v ∷ cs) e = unchanged apply key before cs e
+unchanged apply key before (Pop ∷ cs) e = unchanged apply key before cs e
+unchanged apply key before (Interval low high ∷ cs) e = unchanged apply key before cs e
+unchanged apply key before (Stab point ∷ cs) e = unchanged apply key before cs e
 
 -- A key that has a value is among the live ones.
 
@@ -67,44 +70,52 @@ either x true e = inl refl
 either true false e = inr (refl, refl)
 either false false e = absurd (cc)
 
-live_key : (key : ℕ) (before : Option ℕ) (cs : List Command) → changes_key key cs ≡ true
-    → (value_from key before cs ≡ None → ⊥) → IsOneOf key (live_keys cs)
-live_key key before [] e h = absurd (cc)
-live_key key before (Put k v ∷ cs) e h = ⊎_elim
+live_key : (apply : Combiner) (key : ℕ) (before : Option ℕ) (cs : List Command) → changes_key key cs ≡ true
+    → (value_from apply key before cs ≡ None → ⊥) → IsOneOf key (live_keys cs)
+live_key apply key before [] e h = absurd (cc)
+live_key apply key before (Put k v ∷ cs) e h = ⊎_elim
     (λ (later : changes_key key cs ≡ true).
     one_right key (if changes_key k cs then [] else k ∷ []) (live_keys cs)
-    (live_key key (if key == k then Some v else before) cs later h))
+    (live_key apply key (if key == k then Some v else before) cs later h))
     (λ (here : (changes_key key cs ≡ false) × ((key == k) ≡ true)).
     let same : key ≡ k = eqb-true key k here.1 in
     put_live key k (live_keys cs) (changes_key k cs) same (ap (λ q. changes_key q cs) (sym same) ∙ here.0))
     (either (key == k) (changes_key key cs) e)
-live_key key before (Del k ∷ cs) e h = ⊎_elim
+live_key apply key before (Add k v ∷ cs) e h = ⊎_elim
     (λ (later : changes_key key cs ≡ true).
-    live_key key (if key == k then None else before) cs later h)
+    one_right key (if changes_key k cs then [] else k ∷ []) (live_keys cs)
+    (live_key apply key (if key == k then Some (joined_to apply before v) else before) cs later h))
     (λ (here : (changes_key key cs ≡ false) × ((key == k) ≡ true)).
-    absurd (h (unchanged key (if key == k then None else before) cs here.0
+    let same : key ≡ k = eqb-true key k here.1 in
+    put_live key k (live_keys cs) (changes_key k cs) same (ap (λ q. changes_key q cs) (sym same) ∙ here.0))
+    (either (key == k) (changes_key key cs) e)
+live_key apply key before (Del k ∷ cs) e h = ⊎_elim
+    (λ (later : changes_key key cs ≡ true).
+    live_key apply key (if key == k then None else before) cs later h)
+    (λ (here : (changes_key key cs ≡ false) × ((key == k) ≡ true)).
+    absurd (h (unchanged apply key (if key == k then None else before) cs here.0
     ∙ cond-true (key == k) None before here.1)))
     (either (key == k) (changes_key key cs) e)
-live_key key before (Get k ∷ cs) e h = live_key key before cs e h
-live_key key before (Sync ∷ cs) e h = live_key key before cs e h
-live_key key before (Push k v ∷ cs) e h = live_key key before cs e h
-live_key key before (Pop ∷ cs) e h = live_key key before cs e h
-live_key key before (Interval low high ∷ cs) e h = live_key key before cs e h
-live_key key before (Stab point ∷ cs) e h = live_key key before cs e h
+live_key apply key before (Get k ∷ cs) e h = live_key apply key before cs e h
+live_key apply key before (Sync ∷ cs) e h = live_key apply key before cs e h
+live_key apply key before (Push k v ∷ cs) e h = live_key apply key before cs e h
+live_key apply key before (Pop ∷ cs) e h = live_key apply key before cs e h
+live_key apply key before (Interval low high ∷ cs) e h = live_key apply key before cs e h
+live_key apply key before (Stab point ∷ cs) e h = live_key apply key before cs e h
 
-set_live : (cs : List Command) (key : ℕ) → (state_after no_keys cs key ≡ None → ⊥)
+set_live : (apply : Combiner) (cs : List Command) (key : ℕ) → (state_after apply no_keys cs key ≡ None → ⊥)
     → IsOneOf key (live_keys cs)
-set_live cs key h = ⊎_elim
+set_live apply cs key h = ⊎_elim
     (λ (t : changes_key key cs ≡ true).
-    live_key key None cs t (λ e. h (state_after-value no_keys cs key ∙ e)))
+    live_key apply key None cs t (λ e. h (state_after-value apply no_keys cs key ∙ e)))
     (λ (f : changes_key key cs ≡ false).
-    absurd (h (state_after-value no_keys cs key ∙ unchanged key None cs f)))
+    absurd (h (state_after-value apply no_keys cs key ∙ unchanged apply key None cs f)))
     (cases_Bool (changes_key key cs))
 
-all_live : (cs : List Command) (ks : List ℕ) → AllSet (state_after no_keys cs) ks
+all_live : (apply : Combiner) (cs : List Command) (ks : List ℕ) → AllSet (state_after apply no_keys cs) ks
     → AreAmong ks (live_keys cs)
-all_live cs [] h = tt
-all_live cs (k ∷ ks) (first, rest) = (set_live cs k first, all_live cs ks rest)
+all_live apply cs [] h = tt
+all_live apply cs (k ∷ ks) (first, rest) = (set_live apply cs k first, all_live apply cs ks rest)
 
 -- Numbers that rise, of a list, are no more than its numbers.
 
@@ -168,9 +179,9 @@ no_more n ks (l ∷ ls) r h =
     omega (arith, few, rest)
 
 -- Keys that have a value, in ascending order, are no more than the live pairs.
-pub live_most : (cs : List Command) (ks : List ℕ) → RisesFrom 0 ks → AllSet (state_after no_keys cs) ks
+pub live_most : (apply : Combiner) (cs : List Command) (ks : List ℕ) → RisesFrom 0 ks → AllSet (state_after apply no_keys cs) ks
     → length ks ≤ live_pairs cs
-live_most cs ks r h = no_more 0 ks (live_keys cs) r (all_live cs ks h)
+live_most apply cs ks r h = no_more 0 ks (live_keys cs) r (all_live apply cs ks h)
 
 -- And each live key has a value, and stands once.
 
@@ -183,31 +194,38 @@ first_or_rest k q ls false (inr h) = inr h
 some_none : (v : ℕ) → Some v ≡ None → ⊥
 some_none v e = cc
 
-one_set : (k : ℕ) (before : Option ℕ) (cs : List Command) → IsOneOf k (live_keys cs)
-    → value_from k before cs ≡ None → ⊥
-one_set k before [] h e = h
-one_set k before (Put q v ∷ cs) h e = ⊎_elim
+one_set : (apply : Combiner) (k : ℕ) (before : Option ℕ) (cs : List Command) → IsOneOf k (live_keys cs)
+    → value_from apply k before cs ≡ None → ⊥
+one_set apply k before [] h e = h
+one_set apply k before (Put q v ∷ cs) h e = ⊎_elim
     (λ (here : (changes_key q cs ≡ false) × (k ≡ q)).
     let same : changes_key k cs ≡ false = ap (λ x. changes_key x cs) here.1 ∙ here.0 in
-    some_none v (sym (unchanged k (if k == q then Some v else before) cs same
+    some_none v (sym (unchanged apply k (if k == q then Some v else before) cs same
     ∙ cond-true (k == q) (Some v) before (eq-eqb k q here.1)) ∙ e))
-    (λ (rest : IsOneOf k (live_keys cs)). one_set k (if k == q then Some v else before) cs rest e)
+    (λ (rest : IsOneOf k (live_keys cs)). one_set apply k (if k == q then Some v else before) cs rest e)
     (first_or_rest k q (live_keys cs) (changes_key q cs) h)
-one_set k before (Del q ∷ cs) h e = one_set k (if k == q then None else before) cs h e
-one_set k before (Get q ∷ cs) h e = one_set k before cs h e
-one_set k before (Sync ∷ cs) h e = one_set k before cs h e
-one_set k before (Push q v ∷ cs) h e = one_set k before cs h e
-one_set k before (Pop ∷ cs) h e = one_set k before cs h e
-one_set k before (Interval low high ∷ cs) h e = one_set k before cs h e
-one_set k before (Stab point ∷ cs) h e = one_set k before cs h e
+one_set apply k before (Add q v ∷ cs) h e = ⊎_elim
+    (λ (here : (changes_key q cs ≡ false) × (k ≡ q)).
+    let same : changes_key k cs ≡ false = ap (λ x. changes_key x cs) here.1 ∙ here.0 in
+    some_none (joined_to apply before v) (sym (unchanged apply k (if k == q then Some (joined_to apply before v) else before) cs same
+    ∙ cond-true (k == q) (Some (joined_to apply before v)) before (eq-eqb k q here.1)) ∙ e))
+    (λ (rest : IsOneOf k (live_keys cs)). one_set apply k (if k == q then Some (joined_to apply before v) else before) cs rest e)
+    (first_or_rest k q (live_keys cs) (changes_key q cs) h)
+one_set apply k before (Del q ∷ cs) h e = one_set apply k (if k == q then None else before) cs h e
+one_set apply k before (Get q ∷ cs) h e = one_set apply k before cs h e
+one_set apply k before (Sync ∷ cs) h e = one_set apply k before cs h e
+one_set apply k before (Push q v ∷ cs) h e = one_set apply k before cs h e
+one_set apply k before (Pop ∷ cs) h e = one_set apply k before cs h e
+one_set apply k before (Interval low high ∷ cs) h e = one_set apply k before cs h e
+one_set apply k before (Stab point ∷ cs) h e = one_set apply k before cs h e
 
 all_set : (m : Map) (ks : List ℕ) → ((k : ℕ) → IsOneOf k ks → m k ≡ None → ⊥) → AllSet m ks
 all_set m [] h = tt
 all_set m (k ∷ ks) h = ((λ e. h k (inl refl) e), all_set m ks (λ j i e. h j (inr i) e))
 
-pub live_set : (cs : List Command) → AllSet (state_after no_keys cs) (live_keys cs)
-live_set cs = all_set (state_after no_keys cs) (live_keys cs)
-    (λ k h e. one_set k None cs h (sym (state_after-value no_keys cs k) ∙ e))
+pub live_set : (apply : Combiner) (cs : List Command) → AllSet (state_after apply no_keys cs) (live_keys cs)
+live_set apply cs = all_set (state_after apply no_keys cs) (live_keys cs)
+    (λ k h e. one_set apply k None cs h (sym (state_after-value apply no_keys cs k) ∙ e))
 
 or_true : (x y : Bool) → y ≡ true → (x || y) ≡ true
 or_true true y e = refl
@@ -220,6 +238,11 @@ or_first false y e = absurd (cc)
 live_changed : (k : ℕ) (cs : List Command) → IsOneOf k (live_keys cs) → changes_key k cs ≡ true
 live_changed k [] h = absurd h
 live_changed k (Put q v ∷ cs) h = ⊎_elim
+    (λ (here : (changes_key q cs ≡ false) × (k ≡ q)).
+    or_first (k == q) (changes_key k cs) (eq-eqb k q here.1))
+    (λ (rest : IsOneOf k (live_keys cs)). or_true (k == q) (changes_key k cs) (live_changed k cs rest))
+    (first_or_rest k q (live_keys cs) (changes_key q cs) h)
+live_changed k (Add q v ∷ cs) h = ⊎_elim
     (λ (here : (changes_key q cs ≡ false) × (k ≡ q)).
     or_first (k == q) (changes_key k cs) (eq-eqb k q here.1))
     (λ (rest : IsOneOf k (live_keys cs)). or_true (k == q) (changes_key k cs) (live_changed k cs rest))
@@ -248,6 +271,7 @@ once_more k cs false e h = (
 pub live_once : (cs : List Command) → IsOnce (live_keys cs)
 live_once [] = tt
 live_once (Put k v ∷ cs) = once_more k cs (changes_key k cs) refl (live_once cs)
+live_once (Add k v ∷ cs) = once_more k cs (changes_key k cs) refl (live_once cs)
 live_once (Del k ∷ cs) = live_once cs
 live_once (Get k ∷ cs) = live_once cs
 live_once (Sync ∷ cs) = live_once cs

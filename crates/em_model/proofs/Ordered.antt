@@ -5,10 +5,10 @@ use Rattle.std.specs.Ordering.{is_lt, nat_cmp, ordering_then}
 use Rattle.em_record.specs.Order.{AtLeast, IsAscending, is_below}
 use Rattle.em_record.specs.declared.record.Record.{Record}
 use Rattle.em_model.specs.Ascending.{Ascend}
-use Rattle.em_model.specs.Map.{map_answers_from, no_keys, state_after}
+use Rattle.em_model.specs.Map.{Combiner, map_answers_from, no_keys, state_after}
 use Rattle.em_model.specs.Stab.{NumberedInterval, holders_of, stab_answers_from, stab_step}
 use Rattle.em_model.specs.declared.command.Command.{Command}
-use Rattle.em_model.specs.declared.command.Command.TheVariants.{Put, Del, Get, Sync, Push, Pop, Interval, Stab}
+use Rattle.em_model.specs.declared.command.Command.TheVariants.{Put, Add, Del, Get, Sync, Push, Pop, Interval, Stab}
 use Rattle.em_model.proofs.StabLaws.{AreNumbered, holders_ascend, numbered_step}
 use Rattle.em_model.specs.MapAnswers.{answer_record, answer_records, answers_after, get_numbers, with_numbers}
 use Rattle.em_model.specs.StabAnswers.{pair_record, pairs_from, stab_pairs}
@@ -86,6 +86,7 @@ pairs_ascend : (n : ℕ) (intervals : List NumberedInterval) (cs : List Command)
     → AreNumbered intervals → IsAscending (pairs_from n (stab_answers_from intervals cs))
 pairs_ascend n intervals [] a = tt
 pairs_ascend n intervals (Put key value ∷ cs) a = pairs_ascend n intervals cs a
+pairs_ascend n intervals (Add key value ∷ cs) a = pairs_ascend n intervals cs a
 pairs_ascend n intervals (Del key ∷ cs) a = pairs_ascend n intervals cs a
 pairs_ascend n intervals (Get key ∷ cs) a = pairs_ascend n intervals cs a
 pairs_ascend n intervals (Sync ∷ cs) a = pairs_ascend n intervals cs a
@@ -139,6 +140,7 @@ gets_ascend n [] low high l h = omega arith
 gets_ascend n (Get key ∷ cs) low high l h =
     (l, gets_ascend (n + 1) cs (n + 1) high (omega arith) (omega arith))
 gets_ascend n (Put key value ∷ cs) low high l h = gets_ascend (n + 1) cs low high (omega arith) (omega arith)
+gets_ascend n (Add key value ∷ cs) low high l h = gets_ascend (n + 1) cs low high (omega arith) (omega arith)
 gets_ascend n (Del key ∷ cs) low high l h = gets_ascend (n + 1) cs low high (omega arith) (omega arith)
 gets_ascend n (Sync ∷ cs) low high l h = gets_ascend (n + 1) cs low high (omega arith) (omega arith)
 gets_ascend n (Push key value ∷ cs) low high l h = gets_ascend (n + 1) cs low high (omega arith) (omega arith)
@@ -147,13 +149,13 @@ gets_ascend n (Interval least most ∷ cs) low high l h = gets_ascend (n + 1) cs
 gets_ascend n (Stab point ∷ cs) low high l h = gets_ascend (n + 1) cs low high (omega arith) (omega arith)
 
 -- The answers to commands that come after others ascend, by the numbers of their gets,
-pub answers_after_ascend : (before cs : List Command) → IsAscending (answers_after before cs)
-answers_after_ascend before cs =
+pub answers_after_ascend : (apply : Combiner) (before cs : List Command) → IsAscending (answers_after apply before cs)
+answers_after_ascend apply before cs =
     numbered_ascend (1 + length before) (get_numbers (1 + length before) cs)
-    (map_answers_from (state_after no_keys before) cs) (1 + length before + length cs)
+    (map_answers_from apply (state_after apply no_keys before) cs) (1 + length before + length cs)
     (gets_ascend (1 + length before) cs (1 + length before) (1 + length before + length cs) (omega arith)
     (omega arith))
 
 -- and so do those of all.
-pub answer_records_ascend : (cs : List Command) → IsAscending (answer_records cs)
-answer_records_ascend cs = answers_after_ascend [] cs
+pub answer_records_ascend : (apply : Combiner) (cs : List Command) → IsAscending (answer_records apply cs)
+answer_records_ascend apply cs = answers_after_ascend apply [] cs

@@ -5,7 +5,7 @@ use Rattle.std.specs.List.{All, Contains}
 use Rattle.std.proofs.lemmas.Grind.{common_steps}
 use Rattle.std.proofs.lemmas.Bool.Decides.{nat_tests}
 use Rattle.em_model.specs.declared.command.Command.{Command}
-use Rattle.em_model.specs.declared.command.Command.TheVariants.{Put, Del, Get, Sync, Push, Pop, Interval, Stab}
+use Rattle.em_model.specs.declared.command.Command.TheVariants.{Put, Add, Del, Get, Sync, Push, Pop, Interval, Stab}
 use Rattle.em_model.specs.Queue.{Item, Queue, AreInOrder, no_items, number_of, queue_after, goes_before, least, least_of, without_number, without_least, queue_step, queue_answer_of, queue_answers_from}
 use Rattle.em_model.specs.Ascending.{Ascend}
 use Rattle.em_model.proofs.Ascending.{Ascend-filter, Ascend-push}
@@ -79,6 +79,7 @@ popped low (x ∷ xs) high a =
 
 one_step : (q : Queue) (c : Command) → AreInOrder q → AreInOrder (queue_step q c)
 one_step q (Put key value) a = a
+one_step q (Add key value) a = a
 one_step q (Del key) a = a
 one_step q (Get key) a = a
 one_step q Sync a = a

@@ -1,30 +1,45 @@
 -- Worked rows: lists of commands and their answers, which the definitions compute.
 use Rattle.std.proofs.Common.{◌≡◌, [], ◌∷◌, refl, Some, None}
-use Rattle.em_model.specs.declared.command.Command.TheVariants.{Put, Del, Get, Sync, Push, Pop, Interval, Stab}
+use Rattle.em_model.specs.declared.command.Command.TheVariants.{Put, Del, Get, Add, Sync, Push, Pop, Interval, Stab}
 use Rattle.em_model.specs.Live.{live_keys}
-use Rattle.em_model.specs.Map.{map_answers}
+use Rattle.em_model.specs.Map.{Combiner, map_answers}
 use Rattle.em_model.specs.Queue.{queue_answers}
 use Rattle.em_model.specs.Stab.{stab_answers}
 use Rattle.em_model.specs.MapAnswers.{answer_record, answers_after}
 use Rattle.em_model.specs.StabAnswers.{pair_record, stab_pairs}
 use Rattle.em_model.specs.Sync.{since_sync, synced_answers, syncs_of, up_to_sync}
 
+-- no command here is an add: any combiner
+no_adds : Combiner
+no_adds = λ x y. x
+
 -- a get answers the last put before it, and none after a del
 map_of_one_key :
-    map_answers (Put 5 10 ∷ Get 5 ∷ Put 5 11 ∷ Get 5 ∷ Del 5 ∷ Get 5 ∷ [])
+    map_answers no_adds (Put 5 10 ∷ Get 5 ∷ Put 5 11 ∷ Get 5 ∷ Del 5 ∷ Get 5 ∷ [])
     ≡ Some 10 ∷ Some 11 ∷ None ∷ []
 map_of_one_key = refl
 
 -- keys are told apart, from the least to the greatest
 map_of_the_ends :
-    map_answers (Get 0 ∷ Put 0 7 ∷ Put 18446744073709551615 8 ∷ Del 9 ∷ Get 18446744073709551615
+    map_answers no_adds (Get 0 ∷ Put 0 7 ∷ Put 18446744073709551615 8 ∷ Del 9 ∷ Get 18446744073709551615
     ∷ Get 0 ∷ [])
     ≡ None ∷ Some 8 ∷ Some 7 ∷ []
 map_of_the_ends = refl
 
 -- a sync changes no answer
-map_with_sync : map_answers (Put 1 5 ∷ Get 1 ∷ Sync ∷ Del 1 ∷ Get 1 ∷ []) ≡ Some 5 ∷ None ∷ []
+map_with_sync : map_answers no_adds (Put 1 5 ∷ Get 1 ∷ Sync ∷ Del 1 ∷ Get 1 ∷ []) ≡ Some 5 ∷ None ∷ []
 map_with_sync = refl
+
+-- an add joins its value to that of its key, the old one first; alone where the key has none
+map_of_adds : (apply : Combiner)
+    → map_answers apply (Put 1 9 ∷ Add 1 2 ∷ Get 1 ∷ Del 1 ∷ Add 1 2 ∷ Add 1 3 ∷ Get 1 ∷ Add 2 4 ∷ Get 2 ∷ [])
+    ≡ Some (apply 9 2) ∷ Some (apply 2 3) ∷ Some 4 ∷ []
+map_of_adds apply = refl
+
+-- an add between two gets is seen by the second alone
+map_between_gets : (apply : Combiner) → map_answers apply (Add 1 2 ∷ Get 1 ∷ Add 1 5 ∷ Get 1 ∷ [])
+    ≡ Some 2 ∷ Some (apply 2 5) ∷ []
+map_between_gets apply = refl
 
 -- the last sync cuts the commands
 cut_at_last : up_to_sync (Get 1 ∷ Sync ∷ Get 2 ∷ Sync ∷ Get 3 ∷ []) ≡ Get 1 ∷ Sync ∷ Get 2 ∷ Sync ∷ []
@@ -41,16 +56,20 @@ cut_nowhere : up_to_sync (Put 1 5 ∷ Get 1 ∷ []) ≡ []
 cut_nowhere = refl
 
 -- of these commands a faulty line after them prints the answers before the sync alone
-printed_at_fault : synced_answers (Put 1 5 ∷ Get 1 ∷ Sync ∷ Get 1 ∷ []) ≡ Some 5 ∷ []
+printed_at_fault : synced_answers no_adds (Put 1 5 ∷ Get 1 ∷ Sync ∷ Get 1 ∷ []) ≡ Some 5 ∷ []
 printed_at_fault = refl
 
 -- a sync has a number, as each command has
-numbered_on : answers_after (Put 1 5 ∷ Get 1 ∷ Sync ∷ []) (Get 1 ∷ []) ≡ answer_record 4 (Some 5) ∷ []
+numbered_on : answers_after no_adds (Put 1 5 ∷ Get 1 ∷ Sync ∷ []) (Get 1 ∷ []) ≡ answer_record 4 (Some 5) ∷ []
 numbered_on = refl
 
 -- a key that is cleared, or set again, has no pair or one
 live_after_five : live_keys (Put 1 5 ∷ Put 2 6 ∷ Del 1 ∷ Put 2 7 ∷ Put 3 8 ∷ []) ≡ 2 ∷ 3 ∷ []
 live_after_five = refl
+
+-- so has one to which a value is added, even after a del
+live_after_adds : live_keys (Add 1 5 ∷ Del 2 ∷ Add 2 6 ∷ Add 1 7 ∷ Add 3 8 ∷ Del 3 ∷ []) ≡ 2 ∷ 1 ∷ []
+live_after_adds = refl
 
 -- elements of one key leave in the order of their pushes, whatever their values
 queue_of_one_key :
@@ -82,7 +101,7 @@ pairs_of_two :
 pairs_of_two = refl
 
 -- the commands of the other two files change nothing and answer nothing
-map_of_others : map_answers (Push 5 1 ∷ Interval 5 5 ∷ Get 5 ∷ Pop ∷ Stab 5 ∷ []) ≡ None ∷ []
+map_of_others : map_answers no_adds (Push 5 1 ∷ Interval 5 5 ∷ Get 5 ∷ Pop ∷ Stab 5 ∷ []) ≡ None ∷ []
 map_of_others = refl
 
 queue_of_others :

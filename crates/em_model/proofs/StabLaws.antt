@@ -1,7 +1,7 @@
 -- The interval list over lists of commands that follow one another.
 use Rattle.std.proofs.Common.{◌≡◌, ℕ, ◌+◌, List, [], ◌∷◌, ◌++◌, length, map, refl, sym, ap, ◌∙◌, arith, append_assoc, length-append}
 use Rattle.em_model.specs.declared.command.Command.{Command}
-use Rattle.em_model.specs.declared.command.Command.TheVariants.{Put, Del, Get, Sync, Push, Pop, Interval, Stab}
+use Rattle.em_model.specs.declared.command.Command.TheVariants.{Put, Add, Del, Get, Sync, Push, Pop, Interval, Stab}
 use Rattle.em_model.specs.Stab.{NumberedInterval, holds_point, holders_of, intervals_after, stab_step, stab_answer_of, stab_answers_from}
 use Rattle.em_model.specs.Ascending.{Ascend}
 use Rattle.em_model.proofs.Ascending.{Ascend-filter, Ascend-push}
@@ -32,6 +32,7 @@ added intervals low high a =
 pub numbered_step : (intervals : List NumberedInterval) (c : Command) → AreNumbered intervals
     → AreNumbered (stab_step intervals c)
 numbered_step intervals (Put key value) a = a
+numbered_step intervals (Add key value) a = a
 numbered_step intervals (Del key) a = a
 numbered_step intervals (Get key) a = a
 numbered_step intervals Sync a = a

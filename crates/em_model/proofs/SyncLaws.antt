@@ -3,11 +3,11 @@ use Rattle.std.proofs.Common.{◌≡◌, ℕ, ◌+◌, ◌<◌, ◌≤◌, zero,
 use Rattle.std.proofs.lemmas.Bool.{cases_lt, cond-false, cond-true, eq-eqb, ne_eqb}
 use Rattle.std.proofs.Math.Seq.{take-suc}
 use Rattle.std.proofs.lemmas.List.{append-nil, length-append, length-take, length-take-le, take_all}
-use Rattle.em_model.specs.Map.{no_keys, map_answers, map_answers_from, state_after}
+use Rattle.em_model.specs.Map.{Combiner, no_keys, map_answers, map_answers_from, state_after}
 use Rattle.em_model.specs.MapAnswers.{answer_records, answers_after}
 use Rattle.em_model.specs.Sync.{since_sync, synced_answers, syncs_of, up_to_sync}
 use Rattle.em_model.specs.declared.command.Command.{Command}
-use Rattle.em_model.specs.declared.command.Command.TheVariants.{Put, Del, Get, Sync, Push, Pop, Interval, Stab}
+use Rattle.em_model.specs.declared.command.Command.TheVariants.{Put, Add, Del, Get, Sync, Push, Pop, Interval, Stab}
 use Rattle.em_model.proofs.AnswerLaws.{answer_records-append}
 use Rattle.em_model.proofs.MapLaws.{map_answers_from-append}
 
@@ -15,6 +15,7 @@ use Rattle.em_model.proofs.MapLaws.{map_answers_from-append}
 
 syncs-cons : (c : Command) (cs : List Command) → syncs_of (c ∷ cs) ≡ syncs_of (c ∷ []) + syncs_of cs
 syncs-cons (Put k v) cs = sym (zero-add (syncs_of cs))
+syncs-cons (Add k v) cs = sym (zero-add (syncs_of cs))
 syncs-cons (Del k) cs = sym (zero-add (syncs_of cs))
 syncs-cons (Get k) cs = sym (zero-add (syncs_of cs))
 syncs-cons Sync cs = refl
@@ -31,6 +32,7 @@ syncs-append (x ∷ xs) ys =
 -- a command is one sync or none
 pub one_sync : (c : Command) → syncs_of (c ∷ []) ≤ 1
 one_sync (Put k v) = omega arith
+one_sync (Add k v) = omega arith
 one_sync (Del k) = omega arith
 one_sync (Get k) = omega arith
 one_sync Sync = omega arith
@@ -171,32 +173,33 @@ up_to_length cs =
 -- What is answered where.
 
 -- all answers are those before the last sync, and those after it
-pub map_answers-parts : (cs : List Command)
-    → map_answers cs
-    ≡ synced_answers cs ++ map_answers_from (state_after no_keys (up_to_sync cs)) (since_sync cs)
-map_answers-parts cs =
-    ap map_answers (sym (sync_parts cs)) ∙ map_answers_from-append no_keys (up_to_sync cs) (since_sync cs)
+pub map_answers-parts : (apply : Combiner) (cs : List Command)
+    → map_answers apply cs
+    ≡ synced_answers apply cs ++ map_answers_from apply (state_after apply no_keys (up_to_sync cs)) (since_sync cs)
+map_answers-parts apply cs =
+    ap (map_answers apply) (sym (sync_parts cs)) ∙ map_answers_from-append apply no_keys (up_to_sync cs) (since_sync cs)
 
 -- and so are their records
-pub answer_records-parts : (cs : List Command)
-    → answer_records cs ≡ answer_records (up_to_sync cs) ++ answers_after (up_to_sync cs) (since_sync cs)
-answer_records-parts cs =
-    ap answer_records (sym (sync_parts cs)) ∙ answer_records-append (up_to_sync cs) (since_sync cs)
+pub answer_records-parts : (apply : Combiner) (cs : List Command)
+    → answer_records apply cs ≡ answer_records apply (up_to_sync cs) ++ answers_after apply (up_to_sync cs) (since_sync cs)
+answer_records-parts apply cs =
+    ap (answer_records apply) (sym (sync_parts cs)) ∙ answer_records-append apply (up_to_sync cs) (since_sync cs)
 
 -- a sync prints what wasn't printed
-pub synced_answers-sync : (cs : List Command) → synced_answers (cs ++ Sync ∷ []) ≡ map_answers cs
-synced_answers-sync cs =
-    ap map_answers (up_to_synced cs) ∙ map_answers_from-append no_keys cs (Sync ∷ [])
-    ∙ append-nil (map_answers cs)
+pub synced_answers-sync : (apply : Combiner) (cs : List Command) → synced_answers apply (cs ++ Sync ∷ []) ≡ map_answers apply cs
+synced_answers-sync apply cs =
+    ap (map_answers apply) (up_to_synced cs) ∙ map_answers_from-append apply no_keys cs (Sync ∷ [])
+    ∙ append-nil (map_answers apply cs)
 
 -- other commands print nothing
-pub synced_answers-same : (xs ys : List Command) → syncs_of ys ≡ 0
-    → synced_answers (xs ++ ys) ≡ synced_answers xs
-synced_answers-same xs ys e = ap map_answers (up_to_same xs ys e)
+pub synced_answers-same : (apply : Combiner) (xs ys : List Command) → syncs_of ys ≡ 0
+    → synced_answers apply (xs ++ ys) ≡ synced_answers apply xs
+synced_answers-same apply xs ys e = ap (map_answers apply) (up_to_same xs ys e)
 
 -- a command that is no sync
 pub no_sync : (c : Command) → (c ≡ Sync → ⊥) → syncs_of (c ∷ []) ≡ 0
 no_sync (Put k v) h = refl
+no_sync (Add k v) h = refl
 no_sync (Del k) h = refl
 no_sync (Get k) h = refl
 no_sync Sync h = absurd (h refl)

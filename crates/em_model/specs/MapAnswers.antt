@@ -1,7 +1,7 @@
 -- The answers of a map, each with the number of its get: docs/FORMATS.md, "Records of answers".
 use Rattle.std.specs.Prelude.{ℕ, ◌+◌, List, [], ◌∷◌, length, Option, Some, None}
 use Rattle.em_record.specs.declared.record.Record.{Record}
-use Rattle.em_model.specs.Map.{Map, map_answers, map_answers_from, no_keys, state_after}
+use Rattle.em_model.specs.Map.{Combiner, Map, map_answers, map_answers_from, no_keys, state_after}
 use Rattle.em_model.specs.declared.command.Command.{Command}
 use Rattle.em_model.specs.declared.command.Command.TheVariants.{Get}
 
@@ -22,13 +22,14 @@ with_numbers (n ∷ ns) (answer ∷ answers) = answer_record n answer ∷ with_n
 with_numbers ns answers = []
 
 -- the records of the answers to some commands, which are numbered from 1
-abbrev pub answer_records : List Command → List Record
-answer_records commands = with_numbers (get_numbers 1 commands) (map_answers commands)
+abbrev pub answer_records : Combiner → List Command → List Record
+answer_records apply commands = with_numbers (get_numbers 1 commands) (map_answers apply commands)
 
 -- the records of the answers to some commands, of which the first has this number, from a map
-abbrev pub answers_of : ℕ → Map → List Command → List Record
-answers_of n m commands = with_numbers (get_numbers n commands) (map_answers_from m commands)
+abbrev pub answers_of : Combiner → ℕ → Map → List Command → List Record
+answers_of apply n m commands = with_numbers (get_numbers n commands) (map_answers_from apply m commands)
 
 -- the records of the answers to some commands that come after others, numbered on
-abbrev pub answers_after : List Command → List Command → List Record
-answers_after before commands = answers_of (1 + length before) (state_after no_keys before) commands
+abbrev pub answers_after : Combiner → List Command → List Command → List Record
+answers_after apply before commands =
+    answers_of apply (1 + length before) (state_after apply no_keys before) commands

@@ -1,6 +1,6 @@
 -- The syncs among a map's commands: docs/ARCHITECTURE.md, "What the commands answer".
 use Rattle.std.specs.Prelude.{ℕ, ◌+◌, ◌==◌, List, [], ◌∷◌, if◌then◌else◌, Option}
-use Rattle.em_model.specs.Map.{map_answers}
+use Rattle.em_model.specs.Map.{Combiner, map_answers}
 use Rattle.em_model.specs.declared.command.Command.{Command}
 use Rattle.em_model.specs.declared.command.Command.TheVariants.{Sync}
 
@@ -21,5 +21,5 @@ since_sync [] = []
 since_sync (c ∷ cs) = if syncs_of (c ∷ cs) == 0 then c ∷ cs else since_sync cs
 
 -- the answers that the syncs among some commands print: those of the gets before the last sync
-abbrev pub synced_answers : List Command → List (Option ℕ)
-synced_answers cs = map_answers (up_to_sync cs)
+abbrev pub synced_answers : Combiner → List Command → List (Option ℕ)
+synced_answers apply cs = map_answers apply (up_to_sync cs)

@@ -6,6 +6,8 @@ pub enum Command {
     Put { key: u64, value: u64 },
     /// Map: the key has no value from here on.
     Del { key: u64 },
+    /// Map: the key has this value joined to the one that it had, or this value alone if it had none.
+    Add { key: u64, value: u64 },
     /// Map: asks for the value of the key.
     Get { key: u64 },
     /// Map: asks for the answers of all gets that weren't answered yet, and changes none.

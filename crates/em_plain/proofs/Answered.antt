@@ -25,10 +25,9 @@ use Rattle.em_chain.proofs.Keeps.{payload_kept}
 use Rattle.em_chain.proofs.Laws.{chain_stays}
 use Rattle.em_plain.specs.Adds.{StopsWritten, Written}
 use Rattle.em_plain.specs.Answered.{AnswersList}
-use Rattle.em_plain.specs.Asks.{most_in, records_for, records_in}
+use Rattle.em_plain.specs.Asks.{Asks, most_in, records_for, records_in}
 use Rattle.em_plain.specs.CommandList.{AnsweredBy, IsCommandList, held, list_blocks, list_commands, list_len, unstored}
 use Rattle.em_plain.specs.Room.{StaysWithin, plain_room}
-use Rattle.em_plain.specs.declared.answers.Asks.{Asks}
 use Rattle.em_plain.specs.declared.command_list.CommandList.{CommandList}
 use Rattle.em_plain.proofs.Frames.{given_same}
 use Rattle.em_plain.proofs.Notes.{list_blocks_are}

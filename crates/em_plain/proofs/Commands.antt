@@ -3,12 +3,13 @@ use Rattle.std.proofs.Common.{◌≡◌, List, [], ◌∷◌, ◌++◌, refl, ap
 use Rattle.std.proofs.lemmas.List.{map-append}
 use Rattle.em_record.specs.declared.record.Record.{Record}
 use Rattle.em_model.specs.declared.command.Command.{Command}
-use Rattle.em_model.specs.declared.command.Command.TheVariants.{Put, Del, Get, Sync, Push, Pop, Interval, Stab}
+use Rattle.em_model.specs.declared.command.Command.TheVariants.{Put, Add, Del, Get, Sync, Push, Pop, Interval, Stab}
 use Rattle.em_plain.specs.Command.{record_of, command_in, commands_in}
 
 -- a record stands for the command that it was made of
 command_in-record_of : (c : Command) → command_in (record_of c) ≡ c
 command_in-record_of (Put key value) = refl
+command_in-record_of (Add key value) = refl
 command_in-record_of (Del key) = refl
 command_in-record_of (Get key) = refl
 command_in-record_of (Push key value) = refl

@@ -26,11 +26,10 @@ use Rattle.em_chain.proofs.Writings.{writer_lent}
 use Rattle.em_plain.specs.Adds.{Written}
 use Rattle.em_plain.specs.Anew.{WritesAnew}
 use Rattle.em_plain.specs.Answered.{AnswersList, KeepsList}
-use Rattle.em_plain.specs.Asks.{most_in, records_for, records_in}
+use Rattle.em_plain.specs.Asks.{Asks, most_in, records_for, records_in}
 use Rattle.em_plain.specs.Command.{commands_in}
 use Rattle.em_plain.specs.CommandList.{IsCommandList, held, list_blocks, list_commands, unstored}
 use Rattle.em_plain.specs.Room.{StaysWithin}
-use Rattle.em_plain.specs.declared.answers.Asks.{Asks}
 use Rattle.em_plain.specs.declared.command_list.CommandList.{CommandList}
 use Rattle.em_plain.proofs.Answered.{Ending, commands_stay, ending_gives, ending_released, list_told, records_are}
 use Rattle.em_plain.proofs.Restarts.{begins_still, finish_goes, none_full}

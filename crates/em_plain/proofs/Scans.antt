@@ -25,10 +25,9 @@ use Rattle.em_chain.proofs.Readers.{length_items, reader_stays}
 use Rattle.em_chain.proofs.Sessions.{took_nothing, took_one, took_stays, took_then}
 use Rattle.em_chain.proofs.Writings.{writer_lent}
 use Rattle.em_plain.specs.Adds.{Adds, AddsBeside, ReadsAt, ReadsBeside, Scans, Steps, StepsTo, StopsAdding, of_first}
-use Rattle.em_plain.specs.Asks.{answer_for, answer_to}
+use Rattle.em_plain.specs.Asks.{Asks, answer_for, answer_to}
 use Rattle.em_plain.specs.Command.{command_in}
 use Rattle.em_plain.specs.Looks.{Looks}
-use Rattle.em_plain.specs.declared.answers.Asks.{Asks}
 use Rattle.em_plain.proofs.Adds.{adding_writes, adds_as, adds_looked, adds_none, adds_then, beside_stays, stops_as, stops_then}
 
 -- A reader that leaves its blocks to a chain only looks.

@@ -6,7 +6,7 @@ use Rattle.em_record.specs.declared.record.Record.{Record}
 use Rattle.em_model.specs.Stab.{NumberedInterval, holds_point, holders_of, stab_step, stab_answer_of, stab_answers_from, stab_answers, intervals_after}
 use Rattle.em_model.proofs.StabLaws.{stab_answers_from-append}
 use Rattle.em_model.specs.declared.command.Command.{Command}
-use Rattle.em_model.specs.declared.command.Command.TheVariants.{Put, Del, Get, Sync, Push, Pop, Interval, Stab}
+use Rattle.em_model.specs.declared.command.Command.TheVariants.{Put, Add, Del, Get, Sync, Push, Pop, Interval, Stab}
 use Rattle.em_plain.specs.Command.{command_in, commands_in}
 use Rattle.em_model.specs.StabAnswers.{pair_record, pairs_from}
 use Rattle.em_plain.specs.StabPairs.{intervals_in, holder_pairs, pair_with, next_interval, pairs_of, next_stab, stabs_in, pairs_in}
@@ -26,6 +26,7 @@ intervals_push items x =
 count_step : (is : List NumberedInterval) (c : Command)
     → length (stab_step is c) ≡ next_interval (length is) c
 count_step is (Put key value) = refl
+count_step is (Add key value) = refl
 count_step is (Del key) = refl
 count_step is (Get key) = refl
 count_step is Sync = refl
@@ -64,6 +65,7 @@ holders_step : (stab point : ℕ) (is : List NumberedInterval) (c : Command)
     → map (pair_record stab) (holders_of point (stab_step is c))
     ≡ map (pair_record stab) (holders_of point is) ++ pair_with stab point (length is) c
 holders_step stab point is (Put key value) = sym (append-nil _)
+holders_step stab point is (Add key value) = sym (append-nil _)
 holders_step stab point is (Del key) = sym (append-nil _)
 holders_step stab point is (Get key) = sym (append-nil _)
 holders_step stab point is Sync = sym (append-nil _)
@@ -115,6 +117,7 @@ pairs_split xs ys =
 lot_of : (n : ℕ) (earlier : List Record) (c : Command)
     → pairs_from n (stab_answer_of (intervals_in earlier) c ++ []) ≡ pairs_of n earlier c
 lot_of n earlier (Put key value) = refl
+lot_of n earlier (Add key value) = refl
 lot_of n earlier (Del key) = refl
 lot_of n earlier (Get key) = refl
 lot_of n earlier Sync = refl
@@ -126,6 +129,7 @@ lot_of n earlier (Stab point) = append-nil (holder_pairs n point earlier)
 stabs_of : (n : ℕ) (earlier : List Record) (c : Command)
     → n + length (stab_answer_of (intervals_in earlier) c ++ []) ≡ next_stab n c
 stabs_of n earlier (Put key value) = omega arith
+stabs_of n earlier (Add key value) = omega arith
 stabs_of n earlier (Del key) = omega arith
 stabs_of n earlier (Get key) = omega arith
 stabs_of n earlier Sync = omega arith
@@ -174,6 +178,7 @@ pair_out stab point n low high c b is e h =
 pub pair_other : (stab point n : ℕ) (c : Command)
     → ((low high : ℕ) → c ≡ Interval low high → ⊥) → pair_with stab point n c ≡ []
 pair_other stab point n (Put key value) h = refl
+pair_other stab point n (Add key value) h = refl
 pair_other stab point n (Del key) h = refl
 pair_other stab point n (Get key) h = refl
 pair_other stab point n Sync h = refl
@@ -204,6 +209,7 @@ holders_longer stab point xs ys =
 
 pub next_interval_most : (n : ℕ) (c : Command) → next_interval n c ≤ n + 1
 next_interval_most n (Put key value) = omega arith
+next_interval_most n (Add key value) = omega arith
 next_interval_most n (Del key) = omega arith
 next_interval_most n (Get key) = omega arith
 next_interval_most n Sync = omega arith
@@ -214,6 +220,7 @@ next_interval_most n (Stab point) = omega arith
 
 pub next_stab_most : (n : ℕ) (c : Command) → next_stab n c ≤ n + 1
 next_stab_most n (Put key value) = omega arith
+next_stab_most n (Add key value) = omega arith
 next_stab_most n (Del key) = omega arith
 next_stab_most n (Get key) = omega arith
 next_stab_most n Sync = omega arith
@@ -233,6 +240,7 @@ holders_next stab point n items x e = rw e (holders_more stab point items x)
 pub pairs_other : (stab : ℕ) (earlier : List Record) (c : Command)
     → ((point : ℕ) → c ≡ Stab point → ⊥) → pairs_of stab earlier c ≡ []
 pairs_other stab earlier (Put key value) h = refl
+pairs_other stab earlier (Add key value) h = refl
 pairs_other stab earlier (Del key) h = refl
 pairs_other stab earlier (Get key) h = refl
 pairs_other stab earlier Sync h = refl

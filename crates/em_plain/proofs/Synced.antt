@@ -7,6 +7,7 @@ use Rattle.em_record.specs.declared.record.Record.{Record}
 use Rattle.em_model.specs.MapAnswers.{answers_after}
 use Rattle.em_model.specs.declared.command.Command.{Command}
 use Rattle.em_model.specs.declared.command.Command.TheVariants.{Sync}
+use Rattle.em_settle.specs.Add.{apply_of}
 use Rattle.em_space.specs.Ledger.{Session}
 use Rattle.em_space.specs.Queue.{Pays}
 use Rattle.em_space.specs.Rig.{Cause, Goes, RigState, Sound}
@@ -27,7 +28,7 @@ use Rattle.em_plain.specs.Asks.{records_for}
 use Rattle.em_plain.specs.CommandList.{Noted, held, list_blocks, list_commands, list_len, unstored}
 use Rattle.em_plain.specs.Room.{StaysWithin, plain_room}
 use Rattle.em_plain.specs.ScanMap.{IsScanMap, MapHasFrame, Syncs, blocks_of, due_of}
-use Rattle.em_plain.specs.declared.answers.Asks.TheVariants.{Gets}
+use Rattle.em_plain.specs.Asks.Asks.{gets}
 use Rattle.em_plain.specs.declared.command_list.CommandList.{CommandList}
 use Rattle.em_plain.specs.declared.scan_map.ScanMap.{ScanMap}
 use Rattle.em_plain.proofs.AnswerLists.{due_same}
@@ -35,29 +36,29 @@ use Rattle.em_plain.proofs.Answered.{no_cause}
 use Rattle.em_plain.proofs.Notes.{list_blocks_are}
 
 -- what the fault of a callee says of the result
-pub syncs_err : {s t : RigState} {m n : ScanMap} (result : Result Chain EmFault) (e : EmFault)
+pub syncs_err : {F : Type 0} {s t : RigState} {m n : ScanMap F} (result : Result Chain EmFault) (e : EmFault)
     → IsErrAnd result (λ f. f ≡ e) → Syncs s t m n (Err e) → Syncs s t m n result
 syncs_err (Ok c) e h a = absurd h
-syncs_err {s} {t} {m} {n} (Err f) e h a =
+syncs_err {F} {s} {t} {m} {n} (Err f) e h a =
     subst (λ (g : EmFault). Syncs s t m n (Err g)) (sym h) a
 
 -- a map stays one with a command more
-pub still_map : {T : Type 0} (s t : RigState) (m : ScanMap) (l : CommandList) (c : Command) (k : ℕ)
+pub still_map : {T F : Type 0} (s t : RigState) (m : ScanMap F) (l : CommandList) (c : Command) (k : ℕ)
     (result : Result T EmFault) → IsScanMap s m → Noted s t m.list l c result → k ≡ m.answered
-    → OnOk result (IsScanMap t (record { list = l; answered = k }))
+    → OnOk result (IsScanMap t (record m { list = l; answered = k }))
 still_map s t m l c k (Ok y) i h e =
     record { list = h.notes.is; answered = omega (arith, e, h.notes.len, i.answered) }
 still_map s t m l c k (Err f) i h e = tt
 
 -- A call gave up.
-stopped : {s t : RigState} {m n : ScanMap} {e : EmFault} → Goes (blocks_of s m) s t → MapHasFrame t n
+stopped : {F : Type 0} {s t : RigState} {m n : ScanMap F} {e : EmFault} → Goes (blocks_of s m) s t → MapHasFrame t n
     → StaysWithin (held m.list) (plain_room s.pool.shape (list_len m.list + 1)) s t
     → Pays (unstored m.list) s.pool.shape.frames s t
     → OnFull e (s.blocks < s.used + plain_room s.pool.shape (list_len m.list + 1))
     → (IsTrue s.device.told
     → OnFull e (s.blocks < s.used + (ceiling (length (due_of s m)) (payload_in s) + 2)))
     → Cause s t e → Syncs s t m n (Err e)
-stopped {s} {t} {m} {n} {e} g f most owes full few cause = record {
+stopped {F} {s} {t} {m} {n} {e} g f most owes full few cause = record {
   goes = g;
   frame = f;
   answers = tt;
@@ -80,8 +81,8 @@ full_noted s t DeviceFault n f c b p = tt
 full_noted s t (Full used) n f c b p = omega (arith, f, c.1, b, p)
 full_noted s t (Damaged block) n f c b p = tt
 
-pub unnoted : {T : Type 0} {s t : RigState} {m : ScanMap} {l : CommandList} {e : EmFault} (k : ℕ)
-    → Noted {T = T} s t m.list l Sync (Err e) → Syncs s t m (record { list = l; answered = k }) (Err e)
+pub unnoted : {T F : Type 0} {s t : RigState} {m : ScanMap F} {l : CommandList} {e : EmFault} (k : ℕ)
+    → Noted {T = T} s t m.list l Sync (Err e) → Syncs s t m (record m { list = l; answered = k }) (Err e)
 unnoted {s = s} {t = t} {m = m} {e = e} k h =
     stopped h.goes h.frame h.costs.most h.costs.pays
     (full_noted s t e (plain_room s.pool.shape (list_len m.list + 1)) h.costs.full h.cause h.goes.touches.blocks
@@ -91,12 +92,12 @@ unnoted {s = s} {t = t} {m = m} {e = e} k h =
     h.cause
 
 -- The sync was noted.
-module _ {s a : RigState} {m : ScanMap} {l : CommandList} (sound : Sound s) (is : IsScanMap s m)
+module _ {F : Type 0} {s a : RigState} {m : ScanMap F} {l : CommandList} (sound : Sound s) (is : IsScanMap s m)
     {T : Type 0} {y : T} (h : Noted s a m.list l Sync (Ok y)) where
   -- the gets since the last one are the same with it
-  due_noted : IsTrue s.device.told → records_for (Gets m.answered) (list_commands a l) ≡ due_of s m
-  due_noted z = ap (records_for (Gets m.answered)) (h.notes.commands z)
-      ∙ due_same m.answered (list_commands s m.list)
+  due_noted : IsTrue s.device.told → records_for (gets (apply_of m.settle.kind) m.answered) (list_commands a l) ≡ due_of s m
+  due_noted z = ap (records_for (gets (apply_of m.settle.kind) m.answered)) (h.notes.commands z)
+      ∙ due_same (apply_of m.settle.kind) m.answered (list_commands s m.list)
 
   -- what is held then
   held_noted : held l ≡ ceiling (list_len m.list + 1) (payload_in s)
@@ -113,7 +114,7 @@ module _ {s a : RigState} {m : ScanMap} {l : CommandList} (sound : Sound s) (is 
       omega (arith, e, r, held_noted)
 
   module _ {t : RigState} {k : CommandList} {result : Result Chain EmFault}
-      (x : KeepsList (Gets m.answered) a t l k result) where
+      (x : KeepsList (gets (apply_of m.settle.kind) m.answered) a t l k result) where
     same_rest : ceiling x.records (payload_in a) ≡ ceiling x.records (payload_in s)
     same_rest = ap (λ (p : ℕ). ceiling x.records p)
         (payload_kept (list_blocks s m.list) s a h.goes.touches)
@@ -158,7 +159,7 @@ module _ {s a : RigState} {m : ScanMap} {l : CommandList} (sound : Sound s) (is 
 
   -- The gets couldn't be answered,
   pub unanswered : {t : RigState} {k : CommandList} {e : EmFault} (j : ℕ)
-      → KeepsList (Gets m.answered) a t l k (Err e) → Syncs s t m (record { list = k; answered = j }) (Err e)
+      → KeepsList (gets (apply_of m.settle.kind) m.answered) a t l k (Err e) → Syncs s t m (record m { list = k; answered = j }) (Err e)
   unanswered {t} {k} {e} j x =
       let P = payload_in s in
       let full = full_kept e a.blocks a.used s.used (ceiling x.records (payload_in a)) in
@@ -177,7 +178,7 @@ module _ {s a : RigState} {m : ScanMap} {l : CommandList} (sound : Sound s) (is 
 
   -- or they were.
   pub answered_all : {t : RigState} {k : CommandList} {c : Chain} (j : ℕ) → j ≡ list_len k
-      → KeepsList (Gets m.answered) a t l k (Ok c) → Syncs s t m (record { list = k; answered = j }) (Ok c)
+      → KeepsList (gets (apply_of m.settle.kind) m.answered) a t l k (Ok c) → Syncs s t m (record m { list = k; answered = j }) (Ok c)
   answered_all {t} {k} {c} j e x =
       let r = x.kept in
       let first : Session (blocks_of s m) s a (list_blocks a l) = record {
@@ -211,10 +212,11 @@ module _ {s a : RigState} {m : ScanMap} {l : CommandList} (sound : Sound s) (is 
       }
 
 -- What is due of a map whose commands are these, of which the first were answered.
-pub due_is : (s : RigState) (m : ScanMap) (before cs : List Command) → list_commands s m.list ≡ before ++ cs
-    → m.answered ≡ length before → due_of s m ≡ answers_after before cs
+pub due_is : {F : Type 0} (s : RigState) (m : ScanMap F) (before cs : List Command) → list_commands s m.list ≡ before ++ cs
+    → m.answered ≡ length before → due_of s m ≡ answers_after (apply_of m.settle.kind) before cs
 due_is s m before cs are e =
-    ap (λ n. answers_after (take n (list_commands s m.list)) (drop n (list_commands s m.list))) e
-    ∙ ap (λ t. answers_after (take (length before) t) (drop (length before) t)) are
-    ∙ ap (λ t. answers_after t (drop (length before) (before ++ cs))) (take-append_seam before cs)
-    ∙ ap (λ t. answers_after before t) (drop-append_seam before cs)
+    let after = answers_after (apply_of m.settle.kind) in
+    ap (λ n. after (take n (list_commands s m.list)) (drop n (list_commands s m.list))) e
+    ∙ ap (λ t. after (take (length before) t) (drop (length before) t)) are
+    ∙ ap (λ t. after t (drop (length before) (before ++ cs))) (take-append_seam before cs)
+    ∙ ap (λ t. after before t) (drop-append_seam before cs)

@@ -9,10 +9,9 @@ use Rattle.em_chain.specs.Chain.{IsChain, IsPacked, chain_blocks, chain_items, p
 use Rattle.em_chain.specs.Counts.{ceiling}
 use Rattle.em_chain.specs.Effects.{GivesFrame, OnFull}
 use Rattle.em_chain.specs.declared.chain.Chain.{Chain}
-use Rattle.em_plain.specs.Asks.{most_in, records_for}
+use Rattle.em_plain.specs.Asks.{Asks, most_in, records_for}
 use Rattle.em_plain.specs.CommandList.{AnsweredBy, HasListFrame, IsCommandList, held, list_blocks, list_commands, list_len, unstored}
 use Rattle.em_plain.specs.Room.{StaysWithin}
-use Rattle.em_plain.specs.declared.answers.Asks.{Asks}
 use Rattle.em_plain.specs.declared.command_list.CommandList.{CommandList}
 
 -- A list was answered, or the call gave up. It wrote this number of records, or was to write that

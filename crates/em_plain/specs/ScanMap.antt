@@ -4,6 +4,7 @@ use Rattle.em_record.specs.declared.record.Record.{Record}
 use Rattle.em_model.specs.MapAnswers.{answers_after}
 use Rattle.em_model.specs.declared.command.Command.{Command}
 use Rattle.em_model.specs.declared.command.Command.TheVariants.{Sync}
+use Rattle.em_settle.specs.Add.{apply_of}
 use Rattle.em_space.specs.Ledger.{Session}
 use Rattle.em_space.specs.Queue.{Pays}
 use Rattle.em_space.specs.Rig.{RigState, Goes, Cause}
@@ -17,39 +18,39 @@ use Rattle.em_plain.specs.Room.{StaysWithin, plain_room}
 use Rattle.em_plain.specs.declared.scan_map.ScanMap.{ScanMap}
 
 -- how many of its commands were answered: those up to and with the last sync
-abbrev pub answered_of : ScanMap → ℕ
+abbrev pub answered_of : {F : Type 0} → ScanMap F → ℕ
 answered_of m = m.answered
 
 -- What ties the map to its blocks.
-pub record IsScanMap (s : RigState) (m : ScanMap) : Type 0 where
+pub record IsScanMap {F : Type 0} (s : RigState) (m : ScanMap F) : Type 0 where
   pub list : IsCommandList s m.list
   pub answered : m.answered ≤ list_len m.list
 
 -- its frame is the pool's: what is left to ask after a fault
-abbrev pub MapHasFrame : RigState → ScanMap → Type 0
+abbrev pub MapHasFrame : {F : Type 0} → RigState → ScanMap F → Type 0
 MapHasFrame s m = HasListFrame s m.list
 
 -- the commands that it was given, in order
-abbrev pub commands_of : RigState → ScanMap → List Command
+abbrev pub commands_of : {F : Type 0} → RigState → ScanMap F → List Command
 commands_of s m = list_commands s m.list
 
 -- those of them up to and with the last sync, and those since
-abbrev pub before_of : RigState → ScanMap → List Command
+abbrev pub before_of : {F : Type 0} → RigState → ScanMap F → List Command
 before_of s m = take m.answered (commands_of s m)
 
-abbrev pub since_of : RigState → ScanMap → List Command
+abbrev pub since_of : {F : Type 0} → RigState → ScanMap F → List Command
 since_of s m = drop m.answered (commands_of s m)
 
 -- the records of the answers to the gets since the last sync
-abbrev pub due_of : RigState → ScanMap → List Record
-due_of s m = answers_after (before_of s m) (since_of s m)
+abbrev pub due_of : {F : Type 0} → RigState → ScanMap F → List Record
+due_of s m = answers_after (apply_of m.settle.kind) (before_of s m) (since_of s m)
 
 -- the blocks that it holds
-abbrev pub blocks_of : RigState → ScanMap → List ℕ
+abbrev pub blocks_of : {F : Type 0} → RigState → ScanMap F → List ℕ
 blocks_of s m = list_blocks s m.list
 
 -- The gets since the last sync were answered by a chain, and a sync was noted after them.
-pub record AnswersSync (s t : RigState) (m n : ScanMap) (c : Chain) : Type 0 where
+pub record AnswersSync {F : Type 0} (s t : RigState) (m n : ScanMap F) (c : Chain) : Type 0 where
   pub is : IsScanMap t n
   pub commands : IsTrue s.device.told → commands_of t n ≡ commands_of s m ++ Sync ∷ []
   pub len : list_len n.list ≡ list_len m.list + 1
@@ -63,7 +64,7 @@ pub record AnswersSync (s t : RigState) (m n : ScanMap) (c : Chain) : Type 0 whe
 
 -- What a sync does: only the map's blocks may have changed; the gets were answered, or there is a cause; it
 -- is full only if fewer than two blocks beside those of the answers were free.
-pub record Syncs (s t : RigState) (m n : ScanMap) (result : Result Chain EmFault) : Type 0 where
+pub record Syncs {F : Type 0} (s t : RigState) (m n : ScanMap F) (result : Result Chain EmFault) : Type 0 where
   pub goes : Goes (blocks_of s m) s t
   pub frame : MapHasFrame t n
   pub answers : IfOk result (AnswersSync s t m n)

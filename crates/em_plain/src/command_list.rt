@@ -3,9 +3,10 @@ ghost use Rattle.em_space.specs.Rig.{Sound};
 ghost use Rattle.em_space.specs.Seen.{seen};
 ghost use Rattle.em_chain.specs.Effects.{GivesFrame, LendsFrame, Unmoved};
 
-use crate::answers::{Asks, write_answers};
+use crate::answers::write_answers;
 use crate::command_record::to_record;
 use crate::copying::write_anew;
+use crate::question::Question;
 use em_chain::{Chain, Writer, discard};
 use em_frames::Device;
 use em_model::Command;
@@ -52,40 +53,43 @@ impl CommandList {
     }
 
     /// Answers its commands by a chain, and releases its blocks.
-    pub(crate) fn answer<D: Device>(
+    pub(crate) fn answer<D: Device, Q: Question>(
         self,
         rig: &mut Rig<'_, D>,
-        asks: Asks,
+        question: &Q,
     ) -> Result<Chain, EmFault>
+        requires can { Q.CanAnswer question.now }
         requires sound { Sound (seen D.state rig.old) }
         requires is { IsCommandList (seen D.state rig.old) self }
         requires free { 6 ≤ (seen D.state rig.old).pool.free }
-        ensures done { AnswersList asks (seen D.state rig.old) (seen D.state rig.new) self result }
+        ensures done { AnswersList (Q.asks question.now)
+            (seen D.state rig.old) (seen D.state rig.new) self result }
     {
         let CommandList { writer } = self;
         let commands = writer.finish(rig)?;
-        let answers = write_answers(rig, &commands, asks)?;
+        let answers = write_answers(rig, &commands, question)?;
         discard(rig, commands)?;
         Ok(answers)
     }
 
     /// Answers its commands by a chain, and keeps them: they are written anew. After a fault the list may
     /// only be abandoned.
-    pub(crate) fn answer_and_keep<D: Device>(
+    pub(crate) fn answer_and_keep<D: Device, Q: Question>(
         &mut self,
         rig: &mut Rig<'_, D>,
-        asks: Asks,
+        question: &Q,
     ) -> Result<Chain, EmFault>
+        requires can { Q.CanAnswer question.now }
         requires sound { Sound (seen D.state rig.old) }
         requires is { IsCommandList (seen D.state rig.old) self.old }
         requires free { 6 ≤ (seen D.state rig.old).pool.free }
-        ensures done { KeepsList asks (seen D.state rig.old) (seen D.state rig.new)
+        ensures done { KeepsList (Q.asks question.now) (seen D.state rig.old) (seen D.state rig.new)
             self.old self.new result }
     {
         let fresh = Writer::new(rig);
         let whole = mem::replace(&mut self.writer, fresh);
         let commands = whole.finish(rig)?;
-        let answers = write_answers(rig, &commands, asks)?;
+        let answers = write_answers(rig, &commands, question)?;
         write_anew(rig, commands, &mut self.writer)?;
         Ok(answers)
     }

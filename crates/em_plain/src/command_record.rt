@@ -23,7 +23,8 @@ pub(crate) fn to_record(command: Command) -> Record
         Command::Pop => record_with(0, 0, 4),
         Command::Interval { low, high } => record_with(low, high, 5),
         Command::Stab { point } => record_with(point, 0, 6),
-        Command::Sync => record_with(0, 0, 7),
+        Command::Add { key, value } => record_with(key, value, 7),
+        Command::Sync => record_with(0, 0, 8),
     }
 }
 
@@ -48,6 +49,10 @@ pub(crate) fn to_command(item: Record) -> Command
             high: item.b,
         },
         6 => Command::Stab { point: item.a },
+        7 => Command::Add {
+            key: item.a,
+            value: item.b,
+        },
         _ => Command::Sync,
     }
 }

@@ -8,6 +8,7 @@ mod command_list;
 mod command_record;
 mod copying;
 mod map_answers;
+mod question;
 mod scan_map;
 mod scan_queue;
 mod scan_stab;

@@ -6,24 +6,28 @@ ghost use Rattle.em_chain.specs.Chain.{payload_in};
 ghost use Rattle.em_chain.specs.Counts.{ceiling};
 ghost use Rattle.em_chain.specs.Effects.{Completes, GivesFrame, LendsFrame, OnFull, Unmoved};
 
-use crate::answers::Asks;
 use crate::command_list::CommandList;
+use crate::map_answers::Gets;
 use em_chain::Chain;
 use em_frames::Device;
 use em_model::Command;
+use em_settle::{AddSettle, Settle};
 use em_space::{EmFault, Rig};
 
 /// A map from numbers to numbers that answers its gets together, in `sync` and in `finish`. It keeps its
-/// commands in a list, which is read again for each get. Calls are numbered from 1.
+/// commands in a list, which is read again for each get. Calls are numbered from 1. Its closure joins the
+/// values of adds as the kind that it was given with says.
 ///
 /// It holds a frame and can't be dropped. After a fault only `abandon` may be called.
-pub struct ScanMap {
+pub struct ScanMap<F: Drop> {
     list: CommandList,
+    /// How an add joins its value to the one that its key has.
+    settle: AddSettle<F>,
     /// The commands up to and with the last sync.
     answered: u64,
 }
 
-impl ScanMap {
+impl<F: Fn(u64, u64) -> u64 + Drop> ScanMap<F> {
     ghost use Rattle.em_plain.specs.CommandList.{AnsweredBy, BeginsList, Noted, held, list_len, unstored};
     ghost use Rattle.em_plain.specs.Room.{StaysWithin, plain_room};
     ghost use Rattle.em_plain.specs.ScanMap.{IsScanMap, MapHasFrame, Syncs, answered_of, blocks_of, due_of};
@@ -31,7 +35,10 @@ impl ScanMap {
     ghost use Rattle.std.specs.Prelude.{OnErr};
 
     /// A map in which no key has a value. It takes no block yet, and never gives up.
-    pub fn new<D: Device>(rig: &mut Rig<'_, D>) -> Result<ScanMap, EmFault>
+    pub fn with<D: Device>(
+        rig: &mut Rig<'_, D>,
+        settle: AddSettle<F>,
+    ) -> Result<ScanMap<F>, EmFault>
         requires sound { Sound (seen D.state rig.old) }
         requires free { 6 ≤ (seen D.state rig.old).pool.free }
         ensures lends { LendsFrame (seen D.state rig.old) (seen D.state rig.new) }
@@ -39,10 +46,12 @@ impl ScanMap {
         ensures begins { IfOk result (λ m. BeginsList (seen D.state rig.new) m.list) }
         ensures is { IfOk result (IsScanMap (seen D.state rig.new)) }
         ensures answered { IfOk result (λ m. answered_of m ≡ 0) }
+        ensures settle { IfOk result (λ m. m.settle ≡ settle) }
         ensures complete { IsOk result }
     {
         Ok(ScanMap {
             list: CommandList::new(rig),
+            settle,
             answered: 0,
         })
     }
@@ -62,8 +71,30 @@ impl ScanMap {
             self.old.list self.new.list (command.Put key value) result }
         ensures is { OnOk result (IsScanMap (seen D.state rig.new) self.new) }
         ensures answered { answered_of self.new ≡ answered_of self.old }
+        ensures settle { self.new.settle ≡ self.old.settle }
     {
         self.list.note(rig, Command::Put { key, value })
+    }
+
+    /// Joins this value to the one that the key has; the key has this value alone if it had none. `Full` comes
+    /// exactly if a block is needed and all are in use.
+    pub fn add<D: Device>(
+        &mut self,
+        rig: &mut Rig<'_, D>,
+        key: u64,
+        value: u64,
+    ) -> Result<(), EmFault>
+        requires sound { Sound (seen D.state rig.old) }
+        requires is { IsScanMap (seen D.state rig.old) self.old }
+        requires free { 6 ≤ (seen D.state rig.old).pool.free }
+        requires few { list_len self.old.list < 2 ^ 40 }
+        ensures noted { Noted (seen D.state rig.old) (seen D.state rig.new)
+            self.old.list self.new.list (command.Add key value) result }
+        ensures is { OnOk result (IsScanMap (seen D.state rig.new) self.new) }
+        ensures answered { answered_of self.new ≡ answered_of self.old }
+        ensures settle { self.new.settle ≡ self.old.settle }
+    {
+        self.list.note(rig, Command::Add { key, value })
     }
 
     /// Takes the key's value away. `Full` comes exactly if a block is needed and all are in use.
@@ -76,6 +107,7 @@ impl ScanMap {
             self.old.list self.new.list (command.Del key) result }
         ensures is { OnOk result (IsScanMap (seen D.state rig.new) self.new) }
         ensures answered { answered_of self.new ≡ answered_of self.old }
+        ensures settle { self.new.settle ≡ self.old.settle }
     {
         self.list.note(rig, Command::Del { key })
     }
@@ -91,6 +123,7 @@ impl ScanMap {
             self.old.list self.new.list (command.Get key) result }
         ensures is { OnOk result (IsScanMap (seen D.state rig.new) self.new) }
         ensures answered { answered_of self.new ≡ answered_of self.old }
+        ensures settle { self.new.settle ≡ self.old.settle }
     {
         self.list.note(rig, Command::Get { key })
     }
@@ -103,13 +136,16 @@ impl ScanMap {
         requires is { IsScanMap (seen D.state rig.old) self.old }
         requires free { 6 ≤ (seen D.state rig.old).pool.free }
         requires few { list_len self.old.list < 2 ^ 40 }
+        requires ready { ⟦<AddSettle<F> as Settle>⟧.IsReady self.old.settle }
         ensures syncs { Syncs (seen D.state rig.old) (seen D.state rig.new) self.old self.new result }
+        ensures settle { self.new.settle ≡ self.old.settle }
     {
         self.list.note(rig, Command::Sync)?;
-        let asks = Asks::Gets {
+        let gets = Gets {
+            settle: &self.settle,
             answered: self.answered,
         };
-        let answers = self.list.answer_and_keep(rig, asks)?;
+        let answers = self.list.answer_and_keep(rig, &gets)?;
         self.answered = self.list.len();
         Ok(answers)
     }
@@ -122,6 +158,7 @@ impl ScanMap {
         requires sound { Sound (seen D.state rig.old) }
         requires is { IsScanMap (seen D.state rig.old) self }
         requires free { 6 ≤ (seen D.state rig.old).pool.free }
+        requires ready { ⟦<AddSettle<F> as Settle>⟧.IsReady self.settle }
         ensures gives { GivesFrame (blocks_of (seen D.state rig.old) self)
             (seen D.state rig.old) (seen D.state rig.new) }
         ensures answers { IfOk result (AnsweredBy (seen D.state rig.old) (seen D.state rig.new)
@@ -150,8 +187,16 @@ impl ScanMap {
             → Completes (seen D.state rig.old) (seen D.state rig.new) result }
         ensures cause { IfErr result (Cause (seen D.state rig.old) (seen D.state rig.new)) }
     {
-        let ScanMap { list, answered } = self;
-        list.answer(rig, Asks::Gets { answered })
+        let ScanMap {
+            list,
+            settle,
+            answered,
+        } = self;
+        let gets = Gets {
+            settle: &settle,
+            answered,
+        };
+        list.answer(rig, &gets)
     }
 
     /// Gives its frame back, and moves nothing. Its blocks stay in use.
@@ -161,7 +206,11 @@ impl ScanMap {
         ensures gives { GivesFrame [] (seen D.state rig.old) (seen D.state rig.new) }
         ensures unmoved { Unmoved (seen D.state rig.old) (seen D.state rig.new) }
     {
-        let ScanMap { list, answered: _ } = self;
+        let ScanMap {
+            list,
+            settle: _,
+            answered: _,
+        } = self;
         list.abandon(rig);
     }
 }

@@ -6,8 +6,8 @@ ghost use Rattle.em_chain.specs.Chain.{payload_in};
 ghost use Rattle.em_chain.specs.Counts.{ceiling};
 ghost use Rattle.em_chain.specs.Effects.{Completes, GivesFrame, LendsFrame, OnFull, Unmoved};
 
-use crate::answers::Asks;
 use crate::command_list::CommandList;
+use crate::stab_answers::Stabs;
 use em_chain::Chain;
 use em_frames::Device;
 use em_model::Command;
@@ -116,7 +116,7 @@ impl ScanStab {
         ensures cause { IfErr result (Cause (seen D.state rig.old) (seen D.state rig.new)) }
     {
         let ScanStab { list } = self;
-        list.answer(rig, Asks::Stabs)
+        list.answer(rig, &Stabs)
     }
 
     /// Gives its frame back, and moves nothing. Its blocks stay in use.

@@ -12,6 +12,7 @@ ghost use Rattle.em_model.specs.StabAnswers.{pair_record};
 ghost use Rattle.em_plain.specs.StabPairs.{holder_pairs, next_interval, pair_with, pairs_of};
 
 use crate::command_record::to_command;
+use crate::question::Question;
 use em_chain::{Chain, Reader, Writer};
 use em_frames::Device;
 use em_model::Command;
@@ -153,24 +154,30 @@ fn holders_before<D: Device>(
     done
 }
 
-/// Writes the pairs of a command that follows the first `number` ones of a chain, if it is a stab,
-/// which has this number.
-pub(crate) fn answer_stab<D: Device>(
-    rig: &mut Rig<'_, D>,
-    chain: &Chain,
-    number: u64,
-    command: Command,
-    stab: u64,
-    writer: &mut Writer,
-) -> Result<(), EmFault>
-    requires ready { ReadyBeside number (seen D.state rig.old) chain.now writer.old }
-    ensures done { AddsTo chain.now.count (seen D.state rig.old) (seen D.state rig.new)
-        writer.old writer.new (pairs_of stab
-        (take number (chain_items (seen D.state rig.old) chain.now)) command) result }
-    ensures frame { WriterHasFrame (seen D.state rig.new) writer.new }
-{
-    match command {
-        Command::Stab { point } => holders_before(rig, chain, number, stab, point, writer),
-        _ => Ok(()),
+/// The question of an interval list.
+#[derive(Drop)]
+pub(crate) struct Stabs;
+
+impl Question for Stabs {
+    ghost use Rattle.em_plain.specs.Asks.Asks.{stabs};
+
+    ghost asks = { λ _. stabs };
+
+    ghost CanAnswer = { λ _. Unit {0} };
+
+    /// Writes its pairs, if it is a stab.
+    fn answer<D: Device>(
+        &self,
+        rig: &mut Rig<'_, D>,
+        chain: &Chain,
+        number: u64,
+        command: Command,
+        stab: u64,
+        writer: &mut Writer,
+    ) -> Result<(), EmFault> {
+        match command {
+            Command::Stab { point } => holders_before(rig, chain, number, stab, point, writer),
+            _ => Ok(()),
+        }
     }
 }

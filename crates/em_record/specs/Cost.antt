@@ -22,7 +22,8 @@ lev shape x = lev_within x (fan_of shape) x
 abbrev pub cost : ShapeNumbers → ℕ → ℕ
 cost shape n = 2048 * (blocks_of shape n + 1) * (1 + lev shape (blocks_of shape n))
 
--- another room for a run of size n: no call keeps to it, laws of em_tree_cost do
+-- 96 blocks for each block that n records fill, and one more, and 2m for each level and three more: a device of so many is never full for a run
+-- of this size
 abbrev pub room : ShapeNumbers → ℕ → ℕ
 room shape n =
     96 * (blocks_of shape n + 1) + 2 * shape.frames * (3 + lev shape (blocks_of shape n))

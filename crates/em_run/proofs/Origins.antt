@@ -1,4 +1,4 @@
--- A run on texts of either origin.
+-- A run on texts of either origin, and that of an evaluation.
 use Rattle.std.proofs.Common.{◌≡◌, ℕ, Bool, List, Option, None, IsSome, IfSome, IsTrue, is_none, refl, subst, sym, true}
 use Rattle.em_io.specs.Shelf.{Stand, by_slot}
 use Rattle.em_io.specs.declared.shelf.Shelf.{Ghosts as ShelfGhosts}
@@ -7,13 +7,15 @@ use Rattle.em_io.specs.declared.shelf.Slot.TheVariants.{First, Second}
 use Rattle.em_io.specs.declared.sink.Sink.{Ghosts as SinkGhosts}
 use Rattle.em_space.specs.Rig.{RigState}
 use Rattle.em_run.specs.Due.{names_on}
-use Rattle.em_run.specs.Tasks.{OpensNamed, RunsTask}
+use Rattle.em_eval.specs.EvalRun.{RunsEval}
+use Rattle.em_run.specs.Tasks.{OpensNamed, RunsTask, names_of}
 use Rattle.em_ends.specs.Opens.{ReadsNamed}
 use Rattle.em_run.specs.Runs.{RunsMade, RunsOn}
 use Rattle.em_ends.specs.Status.{OnDone}
 use Rattle.em_words.specs.declared.job.Origin.{Origin}
 use Rattle.em_words.specs.declared.job.Origin.TheVariants.{Files, Made}
 use Rattle.em_words.specs.declared.job.Task.{Task}
+use Rattle.em_words.specs.declared.job.Task.TheVariants.{Eval}
 use Rattle.em_ends.specs.declared.status.Status.{Status}
 
 -- no slot has a name
@@ -45,6 +47,17 @@ pub reads_unnamed : (tells : Bool) (a : Stand) (s : Status) → ReadsNamed tells
 reads_unnamed tells a s First = tt
 reads_unnamed tells a s Second = tt
 
+-- an evaluation is the run of its task
+pub runs_eval : {H W : Type 0} {h : ShelfGhosts H} {w : SinkGhosts W} {s t : RigState} {shelf : H} {out : W}
+    {shelf_after : H} {out_after : W} {status : Status} (task : Task) (uninit : Option Bool) (wide : Bool)
+    (first second : List ℕ) → task ≡ Eval uninit wide
+    → RunsEval h w uninit wide first second s t shelf out shelf_after out_after status
+    → RunsTask h w task (names_of task first second) s t shelf out shelf_after out_after status
+runs_eval {h = h} {w = w} {s = s} {t = t} {shelf = shelf} {out = out} {shelf_after = shelf_after}
+    {out_after = out_after} {status = status} task uninit wide first second e r =
+    subst (λ (k : Task). RunsTask h w k (names_of k first second) s t shelf out shelf_after out_after status)
+    (sym e) r
+
 -- a run over files
 pub runs_files : {H W : Type 0} {h : ShelfGhosts H} {w : SinkGhosts W} {task : Task}
     {names : Slot → Option (List ℕ)} {s t : RigState} {shelf : H} {out : W} {shelf_after : H}
@@ -54,6 +67,7 @@ pub runs_files : {H W : Type 0} {h : ShelfGhosts H} {w : SinkGhosts W} {task : T
 runs_files r = record {
   ended = r.ended;
   caused = r.caused;
+  most = r.most;
   opens = r.opens;
   all_read = r.all_read;
   leaves = tt;
@@ -69,6 +83,7 @@ runs_made : {H W : Type 0} {h : ShelfGhosts H} {w : SinkGhosts W} {task : Task}
 runs_made {h = h} {task = task} {s = s} {shelf = shelf} {status = status} r = record {
   ended = r.ended (h.stand shelf) (h.faults shelf);
   caused = r.caused (h.stand shelf) (h.faults shelf);
+  most = r.most (h.stand shelf).slot;
   opens = opens_unnamed task true s.device.told (h.stand shelf) status;
   all_read = reads_unnamed true (h.stand shelf) status;
   leaves = record { stays = refl; no_read = r.no_read; prints = r.prints };

@@ -34,6 +34,14 @@ room_whole : (room : Option (ShapeNumbers → (Slot → SlotState) → ℕ)) (sh
 room_whole None shape slots other used r h = tt
 room_whole (Some f) shape slots other used r h = omega (arith, r, h)
 
+-- So are the most that were in use.
+pub most_whole : (room : Option (ShapeNumbers → (Slot → SlotState) → ℕ)) (shape : ShapeNumbers)
+    (slots other : Slot → SlotState) (most : ℕ)
+    → IfSome room (λ f. f shape slots ≤ f shape (λ slot. read_whole))
+    → IfSome room (λ f. most ≤ f shape slots) → IfSome (whole room) (λ f. most ≤ f shape other)
+most_whole None shape slots other most r h = tt
+most_whole (Some f) shape slots other most r h = omega (arith, r, h)
+
 -- The task's run left the tally `last`, and `b` on the made shelf.
 module _ {IsState : List ℕ → Type 0} {took : List ℕ → List ℕ → List ℕ} (rule : IsRule IsState took)
     (task : Task) (count : ℕ) (asked : Asked) (shape : ShapeNumbers) (blocks : ℕ)

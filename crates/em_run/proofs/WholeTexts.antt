@@ -137,7 +137,7 @@ eval_rises wide start shape circuit stimulus slots =
 pub most_rises : (task : Task) (texts : Slot → List ℕ) (shape : ShapeNumbers)
     (slots : Slot → SlotState) → IfSome (asked_of task texts).room
     (λ f. f shape slots ≤ f shape (λ slot. read_whole))
-most_rises (Answer kind) texts shape slots =
+most_rises (Answer kind combine) texts shape slots =
     let text = texts First in
     room_rises shape (run_size kind text (slots First).left) (run_size kind text [])
     (size_rises kind text (slots First).left [] (omega arith))
@@ -150,6 +150,6 @@ most_rises (Eval uninit wide) texts shape slots =
 pub moves_rise : (task : Task) (texts : Slot → List ℕ) (shape : ShapeNumbers)
     (slots : Slot → SlotState) → IfSome (asked_of task texts).moves
     (λ f. f shape slots ≤ f shape (λ slot. read_whole))
-moves_rise (Answer kind) texts shape slots = file_rises kind shape (texts First) (slots First).left
+moves_rise (Answer kind combine) texts shape slots = file_rises kind shape (texts First) (slots First).left
 moves_rise (Eval uninit wide) texts shape slots =
     eval_rises wide (start_of uninit) shape (texts First) (texts Second) slots

@@ -1,5 +1,5 @@
 -- What each task asks of a run over its files.
-use Rattle.std.specs.Prelude.{ℕ, List, Bool, true, IsTrue, Option, Some, None, ◌≡◌, IsNone, IsSome, IfSome, is_none, ◌-◌}
+use Rattle.std.specs.Prelude.{ℕ, List, Bool, Option, Some, None, ◌≡◌}
 use Rattle.em_io.specs.declared.shelf.Slot.{Slot}
 use Rattle.em_io.specs.declared.shelf.Slot.TheVariants.{First, Second}
 use Rattle.em_words.specs.declared.job.Task.{Task}
@@ -9,30 +9,29 @@ use Rattle.em_eval.specs.EvalRun.{start_of, asked_of_eval}
 use Rattle.em_io.specs.Shelf.{Stand, by_slot}
 use Rattle.em_ends.specs.Asked.{Asked}
 use Rattle.aig_defs.specs.declared.fault.AigKind.{AigKind}
-use Rattle.em_ends.specs.declared.status.Status.TheVariants.{Done, Malformed}
 use Rattle.em_ends.specs.Opens.{OpensSlots, text_in, texts_in}
-use Rattle.em_ends.specs.Status.{OnDone, OnEnd, OnNoMemory, OnUsage}
 use Rattle.em_io.specs.declared.shelf.Shelf.{Ghosts as ShelfGhosts}
 use Rattle.em_io.specs.declared.sink.Sink.{Ghosts as SinkGhosts}
 use Rattle.em_space.specs.Rig.{RigState}
 use Rattle.em_ends.specs.Ended.{RunsFiles}
 use Rattle.em_eval.specs.EvalDue.{job_fault}
 use Rattle.em_answers.specs.Limits.{asked_of_file}
+use Rattle.em_settle.specs.Add.{apply_of}
 
 -- what a task asks, by the text of each slot
 abbrev pub asked_of : Task → (Slot → List ℕ) → Asked
-asked_of (Answer kind) texts = asked_of_file kind (texts First)
+asked_of (Answer kind combine) texts = asked_of_file (apply_of combine) kind (texts First)
 asked_of (Eval uninit wide) texts =
     asked_of_eval wide (start_of uninit) (texts First) (texts Second)
 
 -- the name of each slot's file, if the task opens the slot, by the words of its operands
 abbrev pub names_of : Task → List ℕ → List ℕ → Slot → Option (List ℕ)
-names_of (Answer kind) first second = by_slot (Some first) None
+names_of (Answer kind combine) first second = by_slot (Some first) None
 names_of (Eval uninit wide) first second = by_slot (Some first) (Some second)
 
 -- the first fault of a circuit for a task
 abbrev pub fault_for : Task → List ℕ → Option (AigKind × ℕ)
-fault_for (Answer kind) text = None
+fault_for (Answer kind combine) text = None
 fault_for (Eval uninit wide) text = job_fault wide (start_of uninit) text
 
 -- What a run does to the shelf, as `OpensSlots`: the second slot, that of a stimulus, is opened only if the

@@ -26,9 +26,18 @@ fn kind_for(task: Task) -> GenKind
     ensures { result ≡ kind_for task }
 {
     match task {
-        Task::Answer(FileKind::Map) => GenKind::Map,
-        Task::Answer(FileKind::Queue) => GenKind::Queue,
-        Task::Answer(FileKind::Stab) => GenKind::Stab,
+        Task::Answer {
+            kind: FileKind::Map,
+            ..
+        } => GenKind::Map,
+        Task::Answer {
+            kind: FileKind::Queue,
+            ..
+        } => GenKind::Queue,
+        Task::Answer {
+            kind: FileKind::Stab,
+            ..
+        } => GenKind::Stab,
         Task::Eval { .. } => GenKind::Eval,
     }
 }

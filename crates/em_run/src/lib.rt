@@ -2,6 +2,8 @@
 #![tactic(auto)]
 
 mod generate;
+mod job;
 mod run;
 
+pub use job::run_job;
 pub use run::run_on;

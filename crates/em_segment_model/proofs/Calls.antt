@@ -3,7 +3,7 @@ use Rattle.std.proofs.Common.{◌≡◌, ℕ, ◌+◌, List, [], ◌∷◌, ◌+
 use Rattle.std.proofs.lemmas.List.{append-nil}
 use Rattle.em_model.specs.Stab.{NumberedInterval, stab_step, intervals_after}
 use Rattle.em_model.specs.declared.command.Command.{Command}
-use Rattle.em_model.specs.declared.command.Command.TheVariants.{Put, Del, Get, Sync, Push, Pop, Interval, Stab}
+use Rattle.em_model.specs.declared.command.Command.TheVariants.{Put, Add, Del, Get, Sync, Push, Pop, Interval, Stab}
 use Rattle.em_segment_model.specs.Pieces.{Asked}
 use Rattle.em_segment_model.specs.Commands.{asked_from}
 
@@ -24,6 +24,7 @@ asked-append s n [] ys =
     let a : s ≡ s + 0 = omega arith in let b : n ≡ n + 0 = omega arith in
     ap (λ k. asked_from k n ys) a ∙ ap (λ k. asked_from (s + 0) k ys) b
 asked-append s n (Put key value ∷ xs) ys = asked-append s n xs ys
+asked-append s n (Add key value ∷ xs) ys = asked-append s n xs ys
 asked-append s n (Del key ∷ xs) ys = asked-append s n xs ys
 asked-append s n (Get key ∷ xs) ys = asked-append s n xs ys
 asked-append s n (Sync ∷ xs) ys = asked-append s n xs ys
@@ -43,6 +44,7 @@ asked-append s n (Stab point ∷ xs) ys =
 pub asked-length : (s n : ℕ) (cs : List Command) → length (asked_from s n cs) ≡ stabs_of cs
 asked-length s n [] = refl
 asked-length s n (Put key value ∷ cs) = asked-length s n cs
+asked-length s n (Add key value ∷ cs) = asked-length s n cs
 asked-length s n (Del key ∷ cs) = asked-length s n cs
 asked-length s n (Get key ∷ cs) = asked-length s n cs
 asked-length s n (Sync ∷ cs) = asked-length s n cs
@@ -56,6 +58,7 @@ pub after-length : (is : List NumberedInterval) (cs : List Command)
     → length (intervals_after is cs) ≡ length is + intervals_of cs
 after-length is [] = omega arith
 after-length is (Put key value ∷ cs) = after-length is cs
+after-length is (Add key value ∷ cs) = after-length is cs
 after-length is (Del key ∷ cs) = after-length is cs
 after-length is (Get key ∷ cs) = after-length is cs
 after-length is (Sync ∷ cs) = after-length is cs

@@ -7,7 +7,7 @@ use Rattle.std.specs.Prelude.{◌&&◌, nat_lt, filter}
 use Rattle.em_model.specs.Ascending.{Ascend}
 use Rattle.em_model.specs.Stab.{NumberedInterval, holds_point, holders_of, stab_answers_from, intervals_after}
 use Rattle.em_model.specs.declared.command.Command.{Command}
-use Rattle.em_model.specs.declared.command.Command.TheVariants.{Put, Del, Get, Sync, Push, Pop, Interval, Stab}
+use Rattle.em_model.specs.declared.command.Command.TheVariants.{Put, Add, Del, Get, Sync, Push, Pop, Interval, Stab}
 use Rattle.em_model.proofs.StabLaws.{AreNumbered, numbered_step}
 use Rattle.em_model.specs.StabAnswers.{pair_record, pairs_from, stab_pairs}
 use Rattle.em_segment_model.specs.Pieces.{Asked, answers, pair_of, pairs_at, all_pairs}
@@ -38,6 +38,7 @@ later_same : (a : Asked) (is : List NumberedInterval) (cs : List Command) → a.
     → filter (answers a) (intervals_after is cs) ≡ filter (answers a) is
 later_same a is [] h = refl
 later_same a is (Put key value ∷ cs) h = later_same a is cs h
+later_same a is (Add key value ∷ cs) h = later_same a is cs h
 later_same a is (Del key ∷ cs) h = later_same a is cs h
 later_same a is (Get key ∷ cs) h = later_same a is cs h
 later_same a is (Sync ∷ cs) h = later_same a is cs h
@@ -89,6 +90,7 @@ asked_pairs : (s : ℕ) (is : List NumberedInterval) (cs : List Command) → Are
     ≡ all_pairs (asked_from s (length is) cs) (intervals_after is cs)
 asked_pairs s is [] a = refl
 asked_pairs s is (Put key value ∷ cs) a = asked_pairs s is cs a
+asked_pairs s is (Add key value ∷ cs) a = asked_pairs s is cs a
 asked_pairs s is (Del key ∷ cs) a = asked_pairs s is cs a
 asked_pairs s is (Get key ∷ cs) a = asked_pairs s is cs a
 asked_pairs s is (Sync ∷ cs) a = asked_pairs s is cs a

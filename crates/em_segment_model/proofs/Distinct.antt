@@ -9,7 +9,7 @@ use Rattle.em_record.specs.declared.record.Record.{Record}
 use Rattle.em_model.specs.Ascending.{Ascend}
 use Rattle.em_model.specs.Stab.{NumberedInterval, holders_of, stab_answers_from, stab_step}
 use Rattle.em_model.specs.declared.command.Command.{Command}
-use Rattle.em_model.specs.declared.command.Command.TheVariants.{Put, Del, Get, Sync, Push, Pop, Interval, Stab}
+use Rattle.em_model.specs.declared.command.Command.TheVariants.{Put, Add, Del, Get, Sync, Push, Pop, Interval, Stab}
 use Rattle.em_model.proofs.StabLaws.{AreNumbered, holders_ascend, numbered_step}
 use Rattle.em_model.specs.StabAnswers.{pair_record, pairs_from, stab_pairs}
 use Rattle.em_record.specs.Order.{Lacks, is_below, with_record}
@@ -103,6 +103,7 @@ pairs_single : (a b s : ℕ) (is : List NumberedInterval) (cs : List Command) �
     → sum_by (keyed a b) (pairs_from s (stab_answers_from is cs)) ≤ 1
 pairs_single a b s is [] n = omega arith
 pairs_single a b s is (Put key value ∷ cs) n = pairs_single a b s is cs n
+pairs_single a b s is (Add key value ∷ cs) n = pairs_single a b s is cs n
 pairs_single a b s is (Del key ∷ cs) n = pairs_single a b s is cs n
 pairs_single a b s is (Get key ∷ cs) n = pairs_single a b s is cs n
 pairs_single a b s is (Sync ∷ cs) n = pairs_single a b s is cs n
@@ -193,6 +194,7 @@ points_lack : (s n : ℕ) (cs : List Command) (ys : List Record) → StabsBelow 
     → AllLack ys (map asked_record (asked_from s n cs))
 points_lack s n [] ys h = tt
 points_lack s n (Put key value ∷ cs) ys h = points_lack s n cs ys h
+points_lack s n (Add key value ∷ cs) ys h = points_lack s n cs ys h
 points_lack s n (Del key ∷ cs) ys h = points_lack s n cs ys h
 points_lack s n (Get key ∷ cs) ys h = points_lack s n cs ys h
 points_lack s n (Sync ∷ cs) ys h = points_lack s n cs ys h

@@ -4,9 +4,9 @@ use Rattle.em_record.specs.Order.{Lacks, in_order, is_below, with_record, with_r
 use Rattle.em_record.specs.declared.record.Record.{Record}
 use Rattle.em_record.proofs.Order.{length_order}
 use Rattle.em_model.specs.MapAnswers.{answer_record, answers_after, get_numbers, with_numbers}
-use Rattle.em_model.specs.Map.{map_answers_from, no_keys, state_after}
+use Rattle.em_model.specs.Map.{Combiner, map_answers_from, no_keys, state_after}
 use Rattle.em_model.specs.declared.command.Command.{Command}
-use Rattle.em_model.specs.declared.command.Command.TheVariants.{Put, Del, Get, Sync, Push, Pop, Interval, Stab}
+use Rattle.em_model.specs.declared.command.Command.TheVariants.{Put, Add, Del, Get, Sync, Push, Pop, Interval, Stab}
 use Rattle.em_model.proofs.AnswerLaws.{answers_few}
 use Rattle.em_sorting.specs.Lacking.{AllLack}
 
@@ -96,6 +96,9 @@ answers_rise n (Get key ∷ cs) (answer ∷ answers) =
 answers_rise n (Put key value ∷ cs) answers =
     rise_lower n (n + 1) (with_numbers (get_numbers (n + 1) cs) answers) (omega arith)
     (answers_rise (n + 1) cs answers)
+answers_rise n (Add key value ∷ cs) answers =
+    rise_lower n (n + 1) (with_numbers (get_numbers (n + 1) cs) answers) (omega arith)
+    (answers_rise (n + 1) cs answers)
 answers_rise n (Del key ∷ cs) answers =
     rise_lower n (n + 1) (with_numbers (get_numbers (n + 1) cs) answers) (omega arith)
     (answers_rise (n + 1) cs answers)
@@ -117,21 +120,21 @@ answers_rise n (Stab point ∷ cs) answers =
 
 -- The answers to some commands that come after others, in any order: a queue takes them, and there are no more of them
 -- than commands.
-pub answers_lack : (before cs : List Command) (xs : List Record) → in_order xs ≡ answers_after before cs
+pub answers_lack : (apply : Combiner) (before cs : List Command) (xs : List Record) → in_order xs ≡ answers_after apply before cs
     → AllLack [] xs
-answers_lack before cs xs e =
+answers_lack apply before cs xs e =
     let n = 1 + length before in
-    let m = state_after no_keys before in
+    let m = state_after apply no_keys before in
     unlike_lack [] xs (subst AllUnlike (sym e)
-    (rise_unlike n (answers_after before cs) (answers_rise n cs (map_answers_from m cs))))
+    (rise_unlike n (answers_after apply before cs) (answers_rise n cs (map_answers_from apply m cs))))
 
-pub answers_most : (before cs : List Command) (xs : List Record) → in_order xs ≡ answers_after before cs
+pub answers_most : (apply : Combiner) (before cs : List Command) (xs : List Record) → in_order xs ≡ answers_after apply before cs
     → length xs ≤ length cs
-answers_most before cs xs e =
+answers_most apply before cs xs e =
     let n = length_order xs in
     let m = ap (λ (ys : List Record). length ys) e in
-    let l = answers_few (1 + length before) (state_after no_keys before) cs in omega (arith, n, m, l)
+    let l = answers_few apply (1 + length before) (state_after apply no_keys before) cs in omega (arith, n, m, l)
 
 -- the records of the answers are no more than the commands
-pub records_few : (before cs : List Command) → length (answers_after before cs) ≤ length cs
-records_few before cs = answers_few (1 + length before) (state_after no_keys before) cs
+pub records_few : (apply : Combiner) (before cs : List Command) → length (answers_after apply before cs) ≤ length cs
+records_few apply before cs = answers_few apply (1 + length before) (state_after apply no_keys before) cs

@@ -21,7 +21,7 @@ use Rattle.em_tree_cost.specs.Shares.{chain_share, tree_room}
 use Rattle.em_services.specs.BatchLaws.{n_is}
 use Rattle.em_tree_cost.proofs.Ceilings.{ceil_is, ceil_mono, ceiling_is}
 use Rattle.em_tree_cost.proofs.Rising.{queue_share_rises}
-use Rattle.em_map.specs.Batch.{BatchCosts, FinishedBatch, HasCommands, batch_blocks, batch_spent, trunk_of}
+use Rattle.em_map.specs.Batch.{BatchCosts, FinishedBatch, HasCommands, batch_blocks, batch_spent, rule_of, trunk_of}
 use Rattle.em_map.specs.declared.batch.Batch.{Batch}
 use Rattle.em_services.specs.BatchService.{AreAnswers, IsGivenBatch, OrdersAnswers, answers_share, batch_counts, map_share, ordering_moves, ordering_room}
 use Rattle.em_services.specs.Service.{CanAnswer, GivesFrames, LeavesAnswers, WithinAllowance, FullOverRoom, WithinRoom}
@@ -54,21 +54,21 @@ given_then p q r x y = record {
 }
 
 -- its calls are its commands
-calls_are : (s : RigState) (b : Batch) (before cs : List Command) → HasCommands s b before cs
+calls_are : {F : Type 0} (s : RigState) (b : Batch F) (before cs : List Command) → HasCommands s b before cs
     → b.calls ≡ length (before ++ cs)
 calls_are s b before cs h = n_is b s before cs h
 
 -- no more answers were given than commands
-answers_count : (s m : RigState) (b : Batch) (c : Chain) → FinishedBatch s m b c
+answers_count : {F : Type 0} (s m : RigState) (b : Batch F) (c : Chain) → FinishedBatch s m b c
     → IsGivenBatch s b → IsTrue s.device.told → c.count ≤ b.calls
 answers_count s m b c f i z =
     let n = length_items m c f.tree.chain (f.tree.session.touches.told ∙ z) in
-    let l = answers_most i.before i.since (chain_items m c) (f.ordered z i.before i.since i.has) in
+    let l = answers_most (rule_of b) i.before i.since (chain_items m c) (f.ordered z i.before i.since i.has) in
     let calls = i.has.calls in
     omega (arith, n, l, calls)
 
 -- It was finished: its answers can be put in order.
-pub answers_are : (s m : RigState) (b : Batch) (c : Chain) → FinishedBatch s m b c
+pub answers_are : {F : Type 0} (s m : RigState) (b : Batch F) (c : Chain) → FinishedBatch s m b c
     → IsGivenBatch s b → CanAnswer s.pool → AreAnswers m c
 answers_are s m b c f i free =
     let told = f.tree.session.touches.told in
@@ -85,12 +85,12 @@ answers_are s m b c f i free =
       few = λ z.
           let n = answers_count s m b c f i (sym told ∙ z) in
           let few = i.is.few in omega (arith, n, few);
-      lacks = λ z. answers_lack i.before i.since (chain_items m c)
+      lacks = λ z. answers_lack (rule_of b) i.before i.since (chain_items m c)
           (f.ordered (sym told ∙ z) i.before i.since i.has);
     }
 
 -- They were put in order, or a call gave up.
-module _ (s m t : RigState) (b : Batch) (c : Chain) (f : FinishedBatch s m b c) where
+module _ {F : Type 0} (s m t : RigState) (b : Batch F) (c : Chain) (f : FinishedBatch s m b c) where
   finished_touches : Touches (batch_blocks s b) s m
   finished_touches = f.tree.session.touches
 
@@ -133,7 +133,7 @@ module _ (s m t : RigState) (b : Batch) (c : Chain) (f : FinishedBatch s m b c) 
 
   pub answers_items : (result : Result Chain EmFault) → OrdersAnswers m t c result
       → IfOk result (λ d. IsTrue s.device.told → (before cs : List Command) → HasCommands s b before cs
-      → chain_items t d ≡ answers_after before cs)
+      → chain_items t d ≡ answers_after (rule_of b) before cs)
   answers_items (Ok d) o = λ z before cs h. o.items (finished_touches.told ∙ z) ∙ f.ordered z before cs h
   answers_items (Err fault) o = tt
 
@@ -229,7 +229,7 @@ module _ (s m t : RigState) (b : Batch) (c : Chain) (f : FinishedBatch s m b c) 
   answers_cause (Err fault) o = cause_after (batch_blocks s b) s m t fault finished_touches o.cause
 
 -- It wasn't finished.
-module _ (s t : RigState) (b : Batch) (fault : EmFault) (h : StopsFinishing s t (trunk_of b) fault)
+module _ {F : Type 0} (s t : RigState) (b : Batch F) (fault : EmFault) (h : StopsFinishing s t (trunk_of b) fault)
   where
     pub unfinished_gives : GivesFrames 2 (batch_blocks s b) s t
     unfinished_gives = record { sound = h.sound; touches = h.touches; frames_are = h.frames }

@@ -21,7 +21,7 @@ use Rattle.em_map.proofs.Rooms.{given_blocks}
 use Rattle.em_ready.proofs.RoomLaws.{commands_room, over_used, room_some, two_missing}
 
 -- A batch was made,
-pub made : (s t : RigState) (result : Result Batch EmFault) → IfOk result (IsNewBatch s t)
+pub made : {F : Type 0} (s t : RigState) (result : Result (Batch F) EmFault) → IfOk result (IsNewBatch s t)
     → IfOk result (λ b. MakesService (Some map_share) (Some room) 2 (batch_blocks t b) (batch_counts b) s t)
 made s t (Ok b) n = record {
   sound = n.tree.session.sound;
@@ -43,13 +43,13 @@ few_moves s t moves =
     first_within (batch_share s.pool.shape 0) (answers_share s.pool.shape 0) s.moves t.moves moves
     (omega (arith, some))
 
-pub made_moves : (s t : RigState) (result : Result Batch EmFault) → IfOk result (IsNewBatch s t)
+pub made_moves : {F : Type 0} (s t : RigState) (result : Result (Batch F) EmFault) → IfOk result (IsNewBatch s t)
     → IfErr result (StopsNewTrunk s t) → WithinAllowance (Some map_share) 0 0 (λ shape. 0) s t
 made_moves s t (Ok b) n h = λ z. few_moves s t n.tree.moves
 made_moves s t (Err fault) n h = λ z. few_moves s t h.moves
 
 -- and at most two blocks,
-pub made_room : (s t : RigState) (result : Result Batch EmFault) → IfOk result (IsNewBatch s t)
+pub made_room : {F : Type 0} (s t : RigState) (result : Result (Batch F) EmFault) → IfOk result (IsNewBatch s t)
     → IfErr result (StopsNewTrunk s t) → WithinRoom (Some room) 0 [] s t
 made_room s t (Ok b) n h = λ z.
     let most = n.tree.most in
@@ -58,42 +58,42 @@ made_room s t (Err fault) n h = λ z.
     let most = h.most in
     let some = room_some s.pool.shape 0 in record { is = omega (arith, most, some) }
 
-pub made_full : (s t : RigState) (result : Result Batch EmFault)
+pub made_full : {F : Type 0} (s t : RigState) (result : Result (Batch F) EmFault)
     → IfErr result (StopsNewTrunk s t) → IfErr result (FullOverRoom (Some room) 0 [] s)
 made_full s t (Ok b) h = tt
 made_full s t (Err fault) h = λ z.
     let some = room_some s.pool.shape 0 in
     two_missing fault 0 (room s.pool.shape 0) s t h.full h.cause h.goes.touches.blocks (omega (arith, some))
 
-pub made_given : (s t : RigState) (result : Result Batch EmFault) → IfOk result (IsNewBatch s t)
+pub made_given : {F : Type 0} (s t : RigState) (result : Result (Batch F) EmFault) → IfOk result (IsNewBatch s t)
     → IfOk result (IsGivenBatch t)
 made_given s t (Ok b) n = record { is = n.is; before = []; since = []; has = n.none }
 made_given s t (Err fault) n = tt
 
-pub made_none : (s t : RigState) (result : Result Batch EmFault) → IfOk result (IsNewBatch s t)
+pub made_none : {F : Type 0} (s t : RigState) (result : Result (Batch F) EmFault) → IfOk result (IsNewBatch s t)
     → IfOk result (λ b. HasCommands t b [] [])
 made_none s t (Ok b) n = n.none
 made_none s t (Err fault) n = tt
 
 -- or it wasn't.
-pub unmade_goes : (s t : RigState) (result : Result Batch EmFault)
+pub unmade_goes : {F : Type 0} (s t : RigState) (result : Result (Batch F) EmFault)
     → IfErr result (StopsNewTrunk s t) → OnErr result (Goes [] s t)
 unmade_goes s t (Ok b) h = tt
 unmade_goes s t (Err fault) h = h.goes
 
-pub unmade_owes : (s t : RigState) (result : Result Batch EmFault)
+pub unmade_owes : {F : Type 0} (s t : RigState) (result : Result (Batch F) EmFault)
     → IfErr result (StopsNewTrunk s t) → Sound s → OnErr result (Pays 0 s.pool.shape.frames s t)
 unmade_owes s t (Ok b) h sound = tt
 unmade_owes s t (Err fault) h sound =
     let low = sound.shape.frames_low in pays_more h.pays (omega (arith, low))
 
-pub unmade_cause : (s t : RigState) (result : Result Batch EmFault)
+pub unmade_cause : {F : Type 0} (s t : RigState) (result : Result (Batch F) EmFault)
     → IfErr result (StopsNewTrunk s t) → IfErr result (Cause s t)
 unmade_cause s t (Ok b) h = tt
 unmade_cause s t (Err fault) h = h.cause
 
 -- A command was given to it, with at most the moves of its share,
-pub take_moves : (s t : RigState) (b d : Batch) → Sound s → CountsCommand s t b d
+pub take_moves : {F : Type 0} (s t : RigState) (b d : Batch F) → Sound s → CountsCommand s t b d
     → WithinAllowance (Some map_share) ((batch_counts b).n + 1) (batch_counts b).syncs (batch_counts b).spent s t
 take_moves s t b d sound n = λ z.
     let share = share_at s.pool.shape (batch_spent d) d.calls (b.calls + 1) d.syncs b.syncs n.calls n.syncs (n.share z) in
@@ -103,7 +103,7 @@ take_moves s t b d sound n = λ z.
     sound.shape (omega arith) (omega arith) (omega (arith, spent, syncs)) share (omega arith)
 
 -- and at most the blocks of its room,
-module _ (s t : RigState) (b : Batch) (i : IsGivenBatch s b) (sound : Sound s) where
+module _ {F : Type 0} (s t : RigState) (b : Batch F) (i : IsGivenBatch s b) (sound : Sound s) where
   own_room : IsTrue s.device.told → tree_room s.pool.shape (b.calls + 1) + (trunk_of b).answers.blocks
       ≤ room s.pool.shape (b.calls + 1)
   own_room z =
@@ -128,7 +128,7 @@ module _ (s t : RigState) (b : Batch) (i : IsGivenBatch s b) (sound : Sound s) w
       (room s.pool.shape (b.calls + 1)) s t (over z).full cause same (own_room z)
 
 -- or the call gave up.
-module _ (T : Type 0) (c : Command) (s t : RigState) (b d : Batch) where
+module _ {F : Type 0} (T : Type 0) (c : Command) (s t : RigState) (b d : Batch F) where
   pub take_goes : (result : Result T EmFault) → TakesTo c s t b d result
       → Goes (batch_blocks s b) s t
   take_goes (Ok x) h = record {

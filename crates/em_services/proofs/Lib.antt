@@ -4,6 +4,7 @@ pub mod Batching
 pub mod InOrder
 pub mod Moves
 pub mod OrderedBatch
+pub mod Rules
 pub mod ScanSyncs
 pub mod Scanning
 pub mod StabAnswers

@@ -28,6 +28,7 @@ use Rattle.em_services.specs.ScanService.{HoldsParts, list_counts}
 use Rattle.em_services.specs.Service.{FullOverRoom, GivesAtSync, WithinRoom}
 use Rattle.em_services.proofs.AnswerOrder.{records_few}
 use Rattle.em_services.proofs.Scanning.{due_parts, list_held}
+use Rattle.em_settle.specs.Add.{apply_of}
 
 -- two values of a session, the other one first
 pub session_swapped : {held : List ℕ} {s t : RigState} (xs ys : List ℕ) → Session held s t (xs ++ ys)
@@ -61,7 +62,7 @@ commands_length s l i z =
     let same = length-map (writer_items s w) command_in in
     omega (arith, count, left, same)
 
-module _ (s t : RigState) (m n : ScanMap) (sound : Sound s) (i : IsScanMap s m) where
+module _ {F : Type 0} (s t : RigState) (m n : ScanMap F) (sound : Sound s) (i : IsScanMap s m) where
   pub sync_is : (result : Result Chain EmFault) → Syncs s t m n result → OnOk result (IsScanMap t n)
   sync_is (Ok c) h = h.answers.is
   sync_is (Err fault) h = tt
@@ -111,7 +112,7 @@ module _ (s t : RigState) (m n : ScanMap) (sound : Sound s) (i : IsScanMap s m) 
 
   pub sync_items : (result : Result Chain EmFault) → Syncs s t m n result
       → IfOk result (λ c. IsTrue s.device.told → (before cs : List Command) → HoldsParts s m before cs
-      → chain_items t c ≡ answers_after before cs)
+      → chain_items t c ≡ answers_after (apply_of m.settle.kind) before cs)
   sync_items (Ok c) h = λ z before cs k. h.answers.items_are z ∙ due_parts s m before cs k z
   sync_items (Err fault) h = tt
 
@@ -129,7 +130,7 @@ module _ (s t : RigState) (m n : ScanMap) (sound : Sound s) (i : IsScanMap s m) 
       let own = list_held s m.list sound i.list in
       let low = sound.shape.block_low in
       let p = payload_of s.pool.shape in
-      let few = records_few (before_of s m) (since_of s m) in
+      let few = records_few (apply_of m.settle.kind) (before_of s m) (since_of s m) in
       let left = length-drop m.answered (commands_of s m) in
       let all = commands_length s m.list i.list z in
       let one = ceiling_rises (list_len m.list) (list_len m.list + 1) p (omega (arith, low)) (omega arith) in

@@ -27,6 +27,7 @@ use Rattle.em_tree_walk.proofs.Losses.{writer_length}
 use Rattle.em_model.specs.MapAnswers.{answers_after}
 use Rattle.std.proofs.Math.Seq.{drop-append_seam, take-append_seam}
 use Rattle.em_services.proofs.AnswerOrder.{records_few}
+use Rattle.em_settle.specs.Add.{apply_of}
 
 -- the blocks of a list are those that its commands fill
 pub list_held : (s : RigState) (l : CommandList) → Sound s → IsCommandList s l
@@ -53,7 +54,7 @@ list_made s t l lends still b = record {
 pub none_held : (t : RigState) (l : CommandList) → BeginsList t l → HoldsCommands t l []
 none_held t l b = record { n = b.len; commands = λ told. b.commands }
 
-pub parts_none : (t : RigState) (m : ScanMap) → BeginsList t m.list → answered_of m ≡ 0 → HoldsParts t m [] []
+pub parts_none : {F : Type 0} (t : RigState) (m : ScanMap F) → BeginsList t m.list → answered_of m ≡ 0 → HoldsParts t m [] []
 parts_none t m b none = record { all = none_held t m.list b; answered = none }
 
 pub room_still : (s t : RigState) → Unmoved s t → WithinRoom (Some plain_room) 0 [] s t
@@ -107,7 +108,7 @@ list_has_more s t l m c (Ok x) h = λ before cs k.
 list_has_more s t l m c (Err fault) h = tt
 
 -- The same of a map, whose syncs answered none more.
-pub parts_more : {T : Type 0} (s t : RigState) (m n : ScanMap) (c : Command) (result : Result T EmFault)
+pub parts_more : {F : Type 0} {T : Type 0} (s t : RigState) (m n : ScanMap F) (c : Command) (result : Result T EmFault)
     → Noted s t m.list n.list c result → answered_of n ≡ answered_of m
     → OnOk result ((before cs : List Command) → HoldsParts s m before cs → HoldsParts t n before (cs ++ c ∷ []))
 parts_more s t m n c (Ok x) h e = λ before cs k. record {
@@ -201,7 +202,7 @@ module _ (s t : RigState) (l : CommandList) (sound : Sound s) (i : IsCommandList
       omega (arith, over, cause.0, same, own, fit)
   answered_full (Err (Damaged block)) full cause same = λ z. tt
 
-pub map_room : (s t : RigState) (m : ScanMap) → IsScanMap s m → (before cs : List Command)
+pub map_room : {F : Type 0} (s t : RigState) (m : ScanMap F) → IsScanMap s m → (before cs : List Command)
     → HoldsParts s m before cs → StaysWithin (held m.list) (plain_room s.pool.shape (list_len m.list)) s t
     → WithinRoom (Some plain_room) (length (before ++ cs)) (list_blocks s m.list) s t
 map_room s t m i before cs h w = λ z.
@@ -209,18 +210,18 @@ map_room s t m i before cs h w = λ z.
     rw (← h.all.n) (record { is = let most = w.is in omega (arith, own, most) })
 
 -- what a map has still to answer is what its parts say
-pub due_parts : (s : RigState) (m : ScanMap) (before cs : List Command) → HoldsParts s m before cs
-    → IsTrue s.device.told → due_of s m ≡ answers_after before cs
+pub due_parts : {F : Type 0} (s : RigState) (m : ScanMap F) (before cs : List Command) → HoldsParts s m before cs
+    → IsTrue s.device.told → due_of s m ≡ answers_after (apply_of m.settle.kind) before cs
 due_parts s m before cs h told =
-    ap (λ (n : ℕ). answers_after (take n (list_commands s m.list)) (drop n (list_commands s m.list))) h.answered
-    ∙ ap (λ (xs : List Command). answers_after (take (length before) xs) (drop (length before) xs)) (h.all.commands told)
-    ∙ ap (λ (xs : List Command). answers_after xs (drop (length before) (before ++ cs))) (take-append_seam before cs)
-    ∙ ap (λ (xs : List Command). answers_after before xs) (drop-append_seam before cs)
+    ap (λ (n : ℕ). answers_after (apply_of m.settle.kind) (take n (list_commands s m.list)) (drop n (list_commands s m.list))) h.answered
+    ∙ ap (λ (xs : List Command). answers_after (apply_of m.settle.kind) (take (length before) xs) (drop (length before) xs)) (h.all.commands told)
+    ∙ ap (λ (xs : List Command). answers_after (apply_of m.settle.kind) xs (drop (length before) (before ++ cs))) (take-append_seam before cs)
+    ∙ ap (λ (xs : List Command). answers_after (apply_of m.settle.kind) before xs) (drop-append_seam before cs)
 
-pub map_items : (s t : RigState) (m : ScanMap) (result : Result Chain EmFault)
+pub map_items : {F : Type 0} (s t : RigState) (m : ScanMap F) (result : Result Chain EmFault)
     → IfOk result (AnsweredBy s t m.list (due_of s m))
     → IfOk result (λ c. IsTrue s.device.told → (before cs : List Command) → HoldsParts s m before cs
-    → chain_items t c ≡ answers_after before cs)
+    → chain_items t c ≡ answers_after (apply_of m.settle.kind) before cs)
 map_items s t m (Ok c) a = λ told before cs h. a.items_are told ∙ due_parts s m before cs h told
 map_items s t m (Err fault) a = tt
 
@@ -234,7 +235,7 @@ stab_room s t l i cs h w = λ z.
     let most = (rw (h.n, h.commands z) at (w z)).is in
     record { is = omega (arith, own, most) }
 
-pub map_full : (s t : RigState) (m : ScanMap) → Sound s → IsScanMap s m → (before cs : List Command)
+pub map_full : {F : Type 0} (s t : RigState) (m : ScanMap F) → Sound s → IsScanMap s m → (before cs : List Command)
     → HoldsParts s m before cs → (result : Result Chain EmFault)
     → (IsTrue s.device.told → IfErr result (λ fault. OnFull fault (s.blocks < s.used
     + ceiling (length (due_of s m)) (payload_of s.pool.shape))))
@@ -243,9 +244,9 @@ pub map_full : (s t : RigState) (m : ScanMap) → Sound s → IsScanMap s m → 
 map_full s t m sound i before cs h result full cause same =
     let R : List Record → Type 0 = λ rs. IfErr result (λ fault. OnFull fault (s.blocks < s.used
     + ceiling (length rs) (payload_of s.pool.shape))) in
-    answered_full s t m.list sound i.list (length (answers_after before cs)) (length (before ++ cs))
+    answered_full s t m.list sound i.list (length (answers_after (apply_of m.settle.kind) before cs)) (length (before ++ cs))
     (omega (arith, h.all.n))
-    (let few = records_few before cs in let both = length-append before cs in omega (arith, few, both)) result
+    (let few = records_few (apply_of m.settle.kind) before cs in let both = length-append before cs in omega (arith, few, both)) result
     (λ z. subst R (due_parts s m before cs h z) (full z)) cause same
 
 pub stab_full : (s t : RigState) (l : CommandList) → Sound s → IsCommandList s l → (cs : List Command)

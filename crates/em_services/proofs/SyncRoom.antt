@@ -1,42 +1,13 @@
 -- The room of a batch while the answers of a sync are put in order: its tree stands beside the queue and both lists.
-use Rattle.std.proofs.Common.{◌≡◌, ℕ, ◌+◌, ◌*◌, ◌<◌, ◌≤◌, List, [], length, IsTrue, arith}
+use Rattle.std.proofs.Common.{ℕ, ◌+◌, ◌*◌, ◌<◌, ◌≤◌, arith}
+use Rattle.std.specs.Int.{div_ceil}
 use Rattle.em_record.specs.Cost.{blocks_of, room}
 use Rattle.em_record.specs.Shape.{IsShape, ShapeNumbers, payload_of}
-use Rattle.em_model.specs.declared.command.Command.{Command}
-use Rattle.em_space.specs.Rig.{RigState, Sound}
 use Rattle.em_chain.specs.Counts.{ceiling}
 use Rattle.em_tree_cost.specs.Shares.{floors_of, tree_room}
-use Rattle.em_tree_cost.proofs.Rising.{tree_room_rises}
+use Rattle.em_tree_cost.proofs.Ceilings.{ceil_is, ceil_mono, ceiling_is}
 use Rattle.em_tree_cost.proofs.Wider.{blocks_wider, chain_most, floors_next}
-use Rattle.em_tree_cost.proofs.Ceilings.{ceil_is, ceil_mono, ceil_none, ceiling_is}
-use Rattle.std.specs.Int.{div_ceil}
-use Rattle.em_tree.proofs.RoomCalls.{rest_room}
-use Rattle.em_trunk.proofs.Rooms.{answers_blocks}
-use Rattle.em_map.specs.Batch.{HasCommands, IsBatch, batch_blocks, trunk_of}
-use Rattle.em_map.specs.declared.batch.Batch.{Batch}
-use Rattle.em_map.proofs.Rooms.{given_few}
 use Rattle.em_ready.proofs.RoomLaws.{times_rises}
-
--- The blocks of a batch between two calls are those of its tree and of the answers that it has given.
-pub held_blocks : (s : RigState) (b : Batch) → Sound s → IsBatch s b → IsTrue s.device.told
-    → length (batch_blocks s b) ≤ tree_room s.pool.shape b.calls + (trunk_of b).answers.blocks
-held_blocks s b sound is told =
-    let own = rest_room sound is.is told in
-    let rises = tree_room_rises s.pool.shape (trunk_of b).longest b.calls is.longest in
-    omega (arith, own, rises)
-
--- After a sync it has given none.
-pub none_given : (s : RigState) (b : Batch) (before : List Command) → Sound s → IsBatch s b → HasCommands s b before []
-    → IsTrue s.device.told → (trunk_of b).answers.blocks ≡ 0
-none_given s b before sound is h told =
-    let few = given_few s b before [] is h told in
-    let blocks = answers_blocks is.is.running sound.shape told in
-    let p = payload_of s.pool.shape in
-    let low = sound.shape.block_low in
-    let some : 0 < p = omega (arith, low) in
-    let none = ceil_mono (ceiling (trunk_of b).answers.count p) 0 p (trunk_of b).answers.count 0
-    (ceiling_is (trunk_of b).answers.count p some) (ceil_none p some) few in
-    omega (arith, blocks, none)
 
 -- a tree of n operations, a queue of two calls for each of m answers, and both lists of these
 pub sync_room : (shape : ShapeNumbers) (m n lists : ℕ) → IsShape shape → m ≤ n

@@ -27,18 +27,18 @@ use Rattle.em_tree_cost.specs.Shares.{tree_room}
 use Rattle.em_tree_cost.proofs.Rising.{queue_share_rises, tree_room_rises}
 use Rattle.em_tree_walk.proofs.Losses.{chain_length}
 use Rattle.em_trunk.specs.Room.{FullOverRoom as TreeFullOverRoom, WithinRoom as TreeWithinRoom}
-use Rattle.em_map.specs.Batch.{BatchHasFrames, CountsSync, HasCommands, SyncedBatch, batch_blocks, batch_spent, batch_unstored, trunk_of}
+use Rattle.em_map.specs.Batch.{BatchHasFrames, CountsSync, HasCommands, SyncedBatch, batch_blocks, batch_spent, batch_unstored, rule_of, trunk_of}
 use Rattle.em_map.specs.declared.batch.Batch.{Batch}
-use Rattle.em_map.proofs.Rooms.{given_blocks}
+use Rattle.em_map.proofs.Rooms.{given_blocks, held_blocks, none_given}
 use Rattle.em_map.proofs.Stays.{BatchStays, batch_beside, batch_frames_stay}
 use Rattle.em_ready.proofs.RoomLaws.{commands_room, over_used, room_rises, when_full}
 use Rattle.em_services.specs.BatchService.{AreAnswers, IsGivenBatch, OrdersAnswers, answers_share, batch_counts, map_share, ordering_moves, ordering_room}
 use Rattle.em_services.specs.InOrder.{lists_room}
-use Rattle.em_services.specs.Service.{CanAnswer, FullOverRoom, GivesAtSync, WithinAllowance, WithinRoom}
+use Rattle.em_services.specs.Service.{CanSync, FullOverRoom, GivesAtSync, WithinAllowance, WithinRoom}
 use Rattle.em_services.proofs.AnswerOrder.{answers_lack, answers_most}
 use Rattle.em_services.proofs.BatchAnswers.{ceiling_share}
 use Rattle.em_services.proofs.Moves.{call_moves, share_at, sync_spends, times_rise, two_rooms, within_map}
-use Rattle.em_services.proofs.SyncRoom.{held_blocks, none_given, sync_room}
+use Rattle.em_services.proofs.SyncRoom.{sync_room}
 
 -- reading and releasing a list of no more blocks
 list_more : (order blocks most all : ℕ) → blocks ≤ most → order + 3 * most ≤ all → order + 3 * blocks ≤ all
@@ -48,7 +48,7 @@ list_less : (order most all : ℕ) → order + 3 * most ≤ all → order ≤ al
 list_less order most all h = omega (arith, h)
 
 -- What its tree holds while it is settled is within the room of a command more.
-own_room : (s : RigState) (b : Batch) → IsGivenBatch s b → Sound s → IsTrue s.device.told
+own_room : {F : Type 0} (s : RigState) (b : Batch F) → IsGivenBatch s b → Sound s → IsTrue s.device.told
     → tree_room s.pool.shape b.calls + (trunk_of b).answers.blocks ≤ room s.pool.shape (b.calls + 1)
 own_room s b i sound z =
     let given = given_blocks s b i.before i.since i.is i.has z sound.shape in
@@ -57,19 +57,19 @@ own_room s b i sound z =
     omega (arith, one, more)
 
 -- The tree was settled, and handed out the answers: no more of them than commands,
-module _ (s m : RigState) (b d : Batch) (c : Chain) (f : SyncedBatch s m b d c) (i : IsGivenBatch s b) where
+module _ {F : Type 0} (s m : RigState) (b d : Batch F) (c : Chain) (f : SyncedBatch s m b d c) (i : IsGivenBatch s b) where
   told_m : IsTrue s.device.told → IsTrue m.device.told
   told_m z = f.session.touches.told ∙ z
 
   handed_count : IsTrue s.device.told → c.count ≤ b.calls
   handed_count z =
       let n = length_items m c f.chain (told_m z) in
-      let l = answers_most i.before i.since (chain_items m c) (f.ordered z i.before i.since i.has) in
+      let l = answers_most (rule_of b) i.before i.since (chain_items m c) (f.ordered z i.before i.since i.has) in
       let calls = i.has.calls in
       omega (arith, n, l, calls)
 
   -- which can be put in order,
-  pub handed_are : CanAnswer s.pool → AreAnswers m c
+  pub handed_are : CanSync s.pool → AreAnswers m c
   handed_are free = record {
     sound = f.session.sound;
     free = record {
@@ -82,7 +82,7 @@ module _ (s m : RigState) (b d : Batch) (c : Chain) (f : SyncedBatch s m b d c) 
     few = λ z.
         let n = handed_count (sym f.session.touches.told ∙ z) in
         let few = i.is.few in omega (arith, n, few);
-    lacks = λ z. answers_lack i.before i.since (chain_items m c)
+    lacks = λ z. answers_lack (rule_of b) i.before i.since (chain_items m c)
         (f.ordered (sym f.session.touches.told ∙ z) i.before i.since i.has);
   }
 
@@ -191,7 +191,7 @@ module _ (s m : RigState) (b d : Batch) (c : Chain) (f : SyncedBatch s m b d c) 
 
     pub synced_items : (result : Result Chain EmFault) → OrdersAnswers m t c result
         → IfOk result (λ e. IsTrue s.device.told → (before cs : List Command) → HasCommands s b before cs
-        → chain_items t e ≡ answers_after before cs)
+        → chain_items t e ≡ answers_after (rule_of b) before cs)
     synced_items (Ok e) o = λ z before cs h. o.items (told_m z) ∙ f.ordered z before cs h
     synced_items (Err fault) o = tt
 
@@ -304,7 +304,7 @@ module _ (s m : RigState) (b d : Batch) (c : Chain) (f : SyncedBatch s m b d c) 
     synced_cause (Err fault) o = cause_after (batch_blocks s b) s m t fault f.session.touches o.cause
 
 -- The sync gave up.
-module _ (s t : RigState) (b d : Batch) (fault : EmFault) (h : StopsTrunk s t (trunk_of b) (trunk_of d) fault)
+module _ {F : Type 0} (s t : RigState) (b d : Batch F) (fault : EmFault) (h : StopsTrunk s t (trunk_of b) (trunk_of d) fault)
     (n : CountsSync s t b d) (i : IsGivenBatch s b) (sound : Sound s) where
   pub unsynced_moves : WithinAllowance (Some map_share) ((batch_counts b).n + 1) ((batch_counts b).syncs + 1)
       (batch_counts b).spent s t

@@ -22,18 +22,18 @@ no_queue e = cc
 pub two_frames : 2 ≤ 4
 two_frames = omega arith
 
-pub frames_of : (b : Batch) (s : RigState) → IsGivenBatch s b → BatchHasFrames s b
+pub frames_of : {F : Type 0} (b : Batch F) (s : RigState) → IsGivenBatch s b → BatchHasFrames s b
 frames_of b s h = h.is.is.running.frames
 
-pub holds : (b : Batch) (s : RigState) → IsGivenBatch s b → IsTrue s.device.told
+pub holds : {F : Type 0} (b : Batch F) (s : RigState) → IsGivenBatch s b → IsTrue s.device.told
     → Holds s (batch_blocks s b)
 holds b s h told = (h.is.is.running.stands told).holds
 
-pub frames_stay : (b : Batch) (held : List ℕ) (s t : RigState) → BatchHasFrames s b
+pub frames_stay : {F : Type 0} (b : Batch F) (held : List ℕ) (s t : RigState) → BatchHasFrames s b
     → Touches held s t → FramesOut 2 t.pool → BatchHasFrames t b
 frames_stay b held s t f h o = batch_frames_stay held s t b h o.is f
 
-pub stays : (b : Batch) (held : List ℕ) (s t : RigState) → IsGivenBatch s b
+pub stays : {F : Type 0} (b : Batch F) (held : List ℕ) (s t : RigState) → IsGivenBatch s b
     → Touches held s t → (IsTrue s.device.told → Apart (batch_blocks s b) held)
     → FramesOut 2 t.pool
     → IsGivenBatch t b × (IsTrue s.device.told → batch_blocks t b ≡ batch_blocks s b)
@@ -45,14 +45,14 @@ stays b held s t i h a o =
       st.commands,
     )
 
-pub out : (b : Batch) (s : RigState) → BatchHasFrames s b → FramesOut 2 s.pool
+pub out : {F : Type 0} (b : Batch F) (s : RigState) → BatchHasFrames s b → FramesOut 2 s.pool
 out b s f = record { is = f.out }
 
-pub n_is : (b : Batch) (s : RigState) (before cs : List Command) → HasCommands s b before cs
+pub n_is : {F : Type 0} (b : Batch F) (s : RigState) (before cs : List Command) → HasCommands s b before cs
     → b.calls ≡ length (before ++ cs)
 n_is b s before cs h = omega (arith, h.calls, length-append before cs)
 
-pub syncs_few : (b : Batch) (s : RigState) (before cs : List Command) → HasCommands s b before cs
+pub syncs_few : {F : Type 0} (b : Batch F) (s : RigState) (before cs : List Command) → HasCommands s b before cs
     → b.syncs ≤ syncs_for Map (before ++ cs)
 syncs_few b s before cs h = omega (arith, h.syncs, syncs-append before cs)
 
@@ -71,7 +71,7 @@ rising shape m n is h =
     let answers = answers_rise shape m n is h in
     omega (arith, batch, answers)
 
-pub unstored_most : (b : Batch) → batch_unstored b ≤ 2
+pub unstored_most : {F : Type 0} (b : Batch F) → batch_unstored b ≤ 2
 unstored_most b = omega arith
 
 -- nor less room

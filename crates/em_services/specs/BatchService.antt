@@ -30,14 +30,14 @@ abbrev pub map_share : ShapeNumbers → ℕ → ℕ
 map_share shape n = batch_share shape n + answers_share shape n
 
 -- A batch with the commands that were given to it: up to and with the last sync, and since.
-pub record IsGivenBatch (s : RigState) (b : Batch) : Type 0 where
+pub record IsGivenBatch {F : Type 0} (s : RigState) (b : Batch F) : Type 0 where
   pub is : IsBatch s b
   pub before : List Command
   pub since : List Command
   pub has : HasCommands s b before since
 
 -- its numbers as a service
-abbrev pub batch_counts : Batch → ServiceCounts
+abbrev pub batch_counts : {F : Type 0} → Batch F → ServiceCounts
 batch_counts b = record {
   n = b.calls;
   syncs = b.syncs;

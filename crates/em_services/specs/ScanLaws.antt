@@ -30,7 +30,7 @@ pub n_is : (l : CommandList) (s : RigState) (cs : List Command) → HoldsCommand
     → list_len l ≡ length cs
 n_is l s cs h = h.n
 
-pub map_n_is : (m : ScanMap) (s : RigState) (before cs : List Command) → HoldsParts s m before cs
+pub map_n_is : {F : Type 0} (m : ScanMap F) (s : RigState) (before cs : List Command) → HoldsParts s m before cs
     → list_len m.list ≡ length (before ++ cs)
 map_n_is m s before cs h = h.all.n
 
@@ -38,7 +38,7 @@ map_n_is m s before cs h = h.all.n
 pub no_syncs : {n : ℕ} → 0 ≤ n
 no_syncs = omega arith
 
-pub map_syncs_few : (m : ScanMap) (s : RigState) (before cs : List Command) → HoldsParts s m before cs
+pub map_syncs_few : {F : Type 0} (m : ScanMap F) (s : RigState) (before cs : List Command) → HoldsParts s m before cs
     → 0 ≤ syncs_for Map (before ++ cs)
 map_syncs_few m s before cs h = omega arith
 
@@ -84,7 +84,7 @@ pub stab_stays : (l : CommandList) (held : List ℕ) (s t : RigState) → IsComm
 stab_stays l held s t i h a o =
     let st = stays l held s t i h a o in (st.0, st.1, λ before cs k. st.2 (before ++ cs) k)
 
-pub map_stays : (m : ScanMap) (held : List ℕ) (s t : RigState) → IsScanMap s m
+pub map_stays : {F : Type 0} (m : ScanMap F) (held : List ℕ) (s t : RigState) → IsScanMap s m
     → Touches held s t → (IsTrue s.device.told → Apart (list_blocks s m.list) held)
     → FramesOut 1 t.pool
     → IsScanMap t m × (IsTrue s.device.told → list_blocks t m.list ≡ list_blocks s m.list)

@@ -14,7 +14,7 @@ pub record HoldsCommands (s : RigState) (l : CommandList) (cs : List Command) : 
   pub commands : IsTrue s.device.told → list_commands s l ≡ cs
 
 -- These commands were given to a map: the first ones are those that its syncs answered.
-pub record HoldsParts (s : RigState) (m : ScanMap) (before cs : List Command) : Type 0 where
+pub record HoldsParts {F : Type 0} (s : RigState) (m : ScanMap F) (before cs : List Command) : Type 0 where
   pub all : HoldsCommands s m.list (before ++ cs)
   pub answered : answered_of m ≡ length before
 

@@ -6,6 +6,7 @@ use Rattle.em_lines.specs.declared.text.FileKind.TheVariants.{Map, Queue, Stab}
 use Rattle.em_frames.specs.Pool.{PoolCounts, GivenFrames, LentFrames, singles_of}
 use Rattle.em_space.specs.Rig.{RigState, Sound, Touches, IfFull}
 use Rattle.em_record.specs.declared.record.Record.{Record}
+use Rattle.em_model.specs.Map.{Combiner}
 use Rattle.em_model.specs.MapAnswers.{answers_after}
 use Rattle.em_model.specs.Sync.{syncs_of}
 use Rattle.em_model.specs.declared.command.Command.{Command}
@@ -32,10 +33,10 @@ pub record ServiceCounts : Type 0 where
 
 -- the records of the answers to some commands of a file of this kind that come after others: of a map those to the later
 -- ones, since a sync gave the others; of an interval list those to all
-abbrev pub records_for : FileKind → List Command → List Command → List Record
-records_for Map before commands = answers_after before commands
-records_for Queue before commands = []
-records_for Stab before commands = stab_pairs (before ++ commands)
+abbrev pub records_for : Combiner → FileKind → List Command → List Command → List Record
+records_for apply Map before commands = answers_after apply before commands
+records_for apply Queue before commands = []
+records_for apply Stab before commands = stab_pairs (before ++ commands)
 
 -- how many syncs there are among some commands of a file of this kind: only a map's file has any
 abbrev pub syncs_for : FileKind → List Command → ℕ
@@ -54,8 +55,14 @@ size_of Stab commands = length commands + length (stab_pairs commands)
 abbrev pub RisesBySize : (ShapeNumbers → ℕ → ℕ) → Type 0
 RisesBySize f = (s : ShapeNumbers) (m n : ℕ) → IsShape s → m ≤ n → f s m ≤ f s n
 
--- The frames that the answers may need are free: 2f + 8 single ones, two areas and the rack.
+-- The frames that the answers may need are free: 2f + 6 single ones, two areas and the rack.
 pub record CanAnswer (p : PoolCounts) : Type 0 where
+  pub singles : 2 * fan_of p.shape + 6 ≤ p.free
+  pub areas : 2 ≤ p.free_areas
+  pub rack : p.rack_out ≡ false
+
+-- Those that a sync may need are free: two single ones more, since the service keeps its own.
+pub record CanSync (p : PoolCounts) : Type 0 where
   pub singles : 2 * fan_of p.shape + 8 ≤ p.free
   pub areas : 2 ≤ p.free_areas
   pub rack : p.rack_out ≡ false

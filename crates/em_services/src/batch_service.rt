@@ -14,6 +14,7 @@ ghost use Rattle.em_lines.specs.Kind.{IsOfKind};
 ghost use Rattle.em_model.specs.declared.command.Command.TheVariants as variants;
 ghost use Rattle.em_lines.specs.declared.text.FileKind.TheVariants as kind;
 ghost use Rattle.em_record.specs.Cost.{room as stated_room};
+ghost use Rattle.em_settle.specs.Add.{apply_of};
 ghost use Rattle.em_trunk.specs.Room.{FullOverRoom, WithinRoom};
 
 use crate::ordering::put_in_order;
@@ -24,23 +25,26 @@ use em_lines::FileKind;
 use em_map::Batch;
 use em_model::Command;
 use em_pqueue::ExtQueue;
+use em_settle::{AddSettle, Settle};
 use em_space::{EmFault, Rig};
 
 /// A batch has at most this many commands, and so at most as many answers.
 const ANSWERS_MOST: u64 = 1 << 40;
 
 /// Gives a batch a command of its file that is no sync.
-fn give_batch<D: Device>(
-    batch: &mut Batch,
+fn give_batch<D: Device, F: Fn(u64, u64) -> u64 + Drop>(
+    batch: &mut Batch<F>,
     rig: &mut Rig<'_, D>,
     command: Command,
 ) -> Result<(), EmFault>
     requires sound { Sound (seen D.state rig.old) }
     requires is { IsBatch (seen D.state rig.old) batch.old }
+    requires ready { ⟦<AddSettle<F> as Settle>⟧.IsReady batch.old.tree.settle }
     requires free { CanServe (seen D.state rig.old).pool }
     requires few { batch.old.calls < 2 ^ 40 }
     requires kind { IsOfKind kind.Map command }
     requires other { command ≡ variants.Sync → ⊥ }
+    ensures rule { batch.new.tree.settle ≡ batch.old.tree.settle }
     ensures takes { TakesTo command (seen D.state rig.old) (seen D.state rig.new)
         batch.old batch.new result }
     ensures counts { CountsCommand (seen D.state rig.old) (seen D.state rig.new)
@@ -54,6 +58,7 @@ fn give_batch<D: Device>(
         Command::Put { key, value } => batch.put(rig, key, value),
         Command::Del { key } => batch.del(rig, key),
         Command::Get { key } => batch.get(rig, key),
+        Command::Add { key, value } => batch.add(rig, key, value),
         _ => Ok(()),
     }
 }
@@ -74,16 +79,24 @@ fn order_answers<D: Device>(rig: &mut Rig<'_, D>, answers: Chain) -> Result<Chai
     }
 }
 
-impl Service for Batch {
-    ghost use Rattle.em_map.specs.Batch.{BatchHasFrames, HasCommands, batch_blocks};
+impl<F: Fn(u64, u64) -> u64 + Drop> Service for Batch<F> {
+    ghost use Rattle.em_map.specs.Batch.{BatchHasFrames, HasCommands, batch_blocks, rule_of};
+
+    type Rule = AddSettle<F>;
 
     ghost KIND = { kind.Map };
+
+    ghost combiner = { λ b. rule_of b };
+
+    ghost combiner_of = { λ rule. apply_of rule.kind };
+
+    ghost IsRule = { λ rule. ⟦<AddSettle<F> as Settle>⟧.IsReady rule };
 
     ghost Has = { λ b s before cs. HasCommands s b before cs };
 
     ghost blocks = { λ b s. batch_blocks s b };
 
-    ghost IsService = { λ b s. IsGivenBatch s b };
+    ghost IsService = { λ b s. IsGivenBatch s b × ⟦<AddSettle<F> as Settle>⟧.IsReady b.tree.settle };
 
     ghost HasItsFrames = { λ b s. BatchHasFrames s b };
 
@@ -99,15 +112,16 @@ impl Service for Batch {
 
     ghost few_frames = { laws.two_frames };
 
-    ghost frames_of = { laws.frames_of };
+    ghost frames_of = { λ b s h. laws.frames_of b s h.0 };
 
     ghost n_is = { laws.n_is };
 
     ghost syncs_few = { laws.syncs_few };
 
-    ghost holds = { laws.holds };
+    ghost holds = { λ b s h told. laws.holds b s h.0 told };
 
-    ghost stays = { laws.stays };
+    ghost stays = { λ b held s t h touches apart out.
+        let st = laws.stays b held s t h.0 touches apart out in ((st.0, h.1), st.1, st.2) };
 
     ghost frames_stay = { laws.frames_stay };
 
@@ -122,8 +136,8 @@ impl Service for Batch {
     const KIND: FileKind = FileKind::Map;
 
     #[tactic(auto, using(crate::proofs::Batching::made, crate::proofs::Batching::made_given, crate::proofs::Batching::made_full, crate::proofs::Batching::made_none, crate::proofs::Batching::made_room, crate::proofs::Batching::unmade_goes, crate::proofs::Batching::unmade_owes, crate::proofs::Batching::unmade_cause, crate::proofs::Batching::made_moves))]
-    fn new<D: Device>(rig: &mut Rig<'_, D>) -> Result<Batch, EmFault> {
-        Batch::new(rig)
+    fn new<D: Device>(rig: &mut Rig<'_, D>, rule: AddSettle<F>) -> Result<Batch<F>, EmFault> {
+        Batch::with(rig, rule)
     }
 
     #[tactic(auto, using(crate::proofs::Batching::take_goes, crate::proofs::Batching::take_frames, crate::proofs::Batching::take_is, crate::proofs::Batching::take_has, crate::proofs::Batching::takes, crate::proofs::Batching::take_owes, crate::proofs::Batching::take_cause))]
@@ -138,7 +152,7 @@ impl Service for Batch {
         }
     }
 
-    #[tactic(auto, using(crate::proofs::BatchAnswers::answers_owes, crate::proofs::BatchAnswers::answers_cause, crate::proofs::BatchAnswers::unfinished_gives, crate::proofs::BatchAnswers::unfinished_owes, crate::proofs::BatchAnswers::unfinished_cause))]
+    #[tactic(auto, using(crate::proofs::BatchAnswers::answers_cause, crate::proofs::BatchAnswers::unfinished_gives, crate::proofs::BatchAnswers::unfinished_owes, crate::proofs::BatchAnswers::unfinished_cause))]
     fn answers<D: Device>(self, rig: &mut Rig<'_, D>) -> Result<Chain, EmFault> {
         match self.finish(rig) {
             Ok(answers) => order_answers(rig, answers),

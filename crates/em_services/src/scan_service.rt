@@ -1,7 +1,8 @@
 //! The map and the interval list of em_plain as services. They keep their commands in a list, which is
 //! read again for each answer: so their moves have no bound that the trait could state.
 
-ghost use Rattle.std.specs.Prelude.{◌≡◌, ◌++◌, ◌<◌, ◌≤◌, ◌^◌, None, OnOk, Some};
+ghost use Rattle.std.specs.Prelude.{◌≡◌, ◌++◌, ◌<◌, ◌≤◌, ◌^◌, ⊤, None, OnOk, Some};
+ghost use Rattle.em_settle.specs.Add.{apply_of};
 ghost use Rattle.em_space.specs.Rig.{Sound};
 ghost use Rattle.em_space.specs.Seen.{seen};
 ghost use Rattle.em_plain.specs.CommandList.{IsCommandList, Noted, list_blocks, list_len};
@@ -19,11 +20,12 @@ use em_frames::Device;
 use em_lines::FileKind;
 use em_model::Command;
 use em_plain::{ScanMap, ScanStab};
+use em_settle::{AddSettle, Settle};
 use em_space::{EmFault, Rig};
 
 /// Gives a map a command of its file that is no sync.
-fn give_map<D: Device>(
-    map: &mut ScanMap,
+fn give_map<D: Device, F: Fn(u64, u64) -> u64 + Drop>(
+    map: &mut ScanMap<F>,
     rig: &mut Rig<'_, D>,
     command: Command,
 ) -> Result<(), EmFault>
@@ -37,11 +39,13 @@ fn give_map<D: Device>(
         map.old.list map.new.list command result }
     ensures is { OnOk result (IsScanMap (seen D.state rig.new) map.new) }
     ensures answered { answered_of map.new ≡ answered_of map.old }
+    ensures settle { map.new.settle ≡ map.old.settle }
 {
     match command {
         Command::Put { key, value } => map.put(rig, key, value),
         Command::Del { key } => map.del(rig, key),
         Command::Get { key } => map.get(rig, key),
+        Command::Add { key, value } => map.add(rig, key, value),
         _ => Ok(()),
     }
 }
@@ -67,16 +71,24 @@ fn give_stab<D: Device>(
     }
 }
 
-impl Service for ScanMap {
+impl<F: Fn(u64, u64) -> u64 + Drop> Service for ScanMap<F> {
     ghost use Rattle.em_plain.specs.ScanMap.{MapHasFrame};
 
+    type Rule = AddSettle<F>;
+
     ghost KIND = { kind.Map };
+
+    ghost combiner = { λ m. apply_of m.settle.kind };
+
+    ghost combiner_of = { λ rule. apply_of rule.kind };
+
+    ghost IsRule = { λ rule. ⟦<AddSettle<F> as Settle>⟧.IsReady rule };
 
     ghost Has = { λ m s before cs. HoldsParts s m before cs };
 
     ghost blocks = { λ m s. list_blocks s m.list };
 
-    ghost IsService = { λ m s. IsScanMap s m };
+    ghost IsService = { λ m s. IsScanMap s m × ⟦<AddSettle<F> as Settle>⟧.IsReady m.settle };
 
     ghost HasItsFrames = { λ m s. MapHasFrame s m };
 
@@ -92,21 +104,22 @@ impl Service for ScanMap {
 
     ghost few_frames = { laws.one_frame };
 
-    ghost frames_of = { λ m s h. h.list.writer.frame };
+    ghost frames_of = { λ m s h. h.0.list.writer.frame };
 
     ghost n_is = { laws.map_n_is };
 
     ghost syncs_few = { laws.map_syncs_few };
 
-    ghost holds = { λ m s h told. laws.holds m.list s h.list told };
+    ghost holds = { λ m s h told. laws.holds m.list s h.0.list told };
 
-    ghost stays = { laws.map_stays };
+    ghost stays = { λ m held s t h touches apart out.
+        let st = laws.map_stays m held s t h.0 touches apart out in ((st.0, h.1), st.1, st.2) };
 
     ghost frames_stay = { λ m held s t. laws.frames_stay m.list held s t };
 
     ghost out = { λ m s h. laws.out m.list s h };
 
-    ghost unstored_most = { λ m s h. laws.unstored_most m.list s h.list };
+    ghost unstored_most = { λ m s h. laws.unstored_most m.list s h.0.list };
 
     ghost rising = { tt };
 
@@ -115,8 +128,8 @@ impl Service for ScanMap {
     const KIND: FileKind = FileKind::Map;
 
     #[tactic(auto, using(crate::proofs::Scanning::list_made, crate::proofs::Scanning::parts_none, crate::proofs::Scanning::room_still))]
-    fn new<D: Device>(rig: &mut Rig<'_, D>) -> Result<ScanMap, EmFault> {
-        ScanMap::new(rig)
+    fn new<D: Device>(rig: &mut Rig<'_, D>, rule: AddSettle<F>) -> Result<ScanMap<F>, EmFault> {
+        ScanMap::with(rig, rule)
     }
 
     #[tactic(auto, using(crate::proofs::Scanning::list_takes, crate::proofs::Scanning::parts_more, crate::proofs::Scanning::take_room, crate::proofs::Scanning::take_full))]
@@ -143,7 +156,15 @@ impl Service for ScanMap {
 impl Service for ScanStab {
     ghost use Rattle.em_plain.specs.ScanStab.{IsScanStab, StabHasFrame};
 
+    type Rule = ();
+
     ghost KIND = { kind.Stab };
+
+    ghost combiner = { λ v x y. x };
+
+    ghost combiner_of = { λ rule x y. x };
+
+    ghost IsRule = { λ rule. ⊤ };
 
     ghost Has = { λ v s before cs. HoldsCommands s v.list (before ++ cs) };
 
@@ -188,7 +209,7 @@ impl Service for ScanStab {
     const KIND: FileKind = FileKind::Stab;
 
     #[tactic(auto, using(crate::proofs::Scanning::list_made, crate::proofs::Scanning::none_held, crate::proofs::Scanning::room_still))]
-    fn new<D: Device>(rig: &mut Rig<'_, D>) -> Result<ScanStab, EmFault> {
+    fn new<D: Device>(rig: &mut Rig<'_, D>, _rule: ()) -> Result<ScanStab, EmFault> {
         ScanStab::new(rig)
     }
 

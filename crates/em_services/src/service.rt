@@ -18,7 +18,7 @@ ghost use Rattle.em_space.specs.Seen.{seen};
 ghost use Rattle.em_chain.specs.Chain.{chain_items, empty_chain};
 ghost use Rattle.em_chain.specs.Effects.{Unmoved};
 ghost use Rattle.em_lines.specs.Kind.{IsOfKind};
-ghost use Rattle.em_services.specs.Service.{CanAnswer, FramesOut, GivesFrames, GivesAtSync, LeavesAnswers, MakesService, RisesBySize, ServiceCounts, TakesCommand, WithinAllowance, WithinRoom, records_for, size_of, syncs_for, FullOverRoom};
+ghost use Rattle.em_services.specs.Service.{CanAnswer, CanSync, FramesOut, GivesFrames, GivesAtSync, LeavesAnswers, MakesService, RisesBySize, ServiceCounts, TakesCommand, WithinAllowance, WithinRoom, records_for, size_of, syncs_for, FullOverRoom};
 ghost use Rattle.em_lines.specs.declared.text.FileKind as kinds;
 ghost use Rattle.em_lines.specs.declared.text.FileKind.TheVariants as kind;
 
@@ -34,8 +34,17 @@ use em_space::{EmFault, Rig};
 /// A service can't be dropped: `answers` and `abandon` give its frames back. After a fault of `take` or `sync`
 /// only `abandon` may be called.
 pub trait Service {
+    /// What it is made by: the rules of its answers.
+    type Rule;
+
     /// The kind of file that it answers.
     ghost KIND: { kinds.FileKind };
+    /// How it joins the value of an add to that of its key, and how a rule says it.
+    ghost combiner: { Self → ℕ → ℕ → ℕ };
+
+    ghost combiner_of: { Self.Rule → ℕ → ℕ → ℕ };
+    /// The rule does what it says.
+    ghost IsRule: { Self.Rule → Type 0 };
     /// It took these commands: the first ones up to and with the last sync, and those since. What it makes of them
     /// is said if the device tells.
     ghost Has: { Self → RigState → List commands.Command → List commands.Command → Type 0 };
@@ -58,15 +67,17 @@ pub trait Service {
 
     const KIND: FileKind;
 
-    /// A service with no command.
-    fn new<D: Device>(rig: &mut Rig<'_, D>) -> Result<Self, EmFault>
+    /// A service with no command, by this rule.
+    fn new<D: Device>(rig: &mut Rig<'_, D>, rule: Self::Rule) -> Result<Self, EmFault>
         requires sound { Sound (seen D.state rig.old) }
         requires free { CanServe (seen D.state rig.old).pool }
+        requires rule { IsRule rule }
         ensures makes { IfOk result (λ v. MakesService allowance room frames
             (blocks v (seen D.state rig.new)) (counts v)
             (seen D.state rig.old) (seen D.state rig.new)) }
         ensures is { IfOk result (λ v. IsService v (seen D.state rig.new)) }
         ensures has { IfOk result (λ v. Has v (seen D.state rig.new) [] []) }
+        ensures joins { IfOk result (λ v. combiner v ≡ combiner_of rule) }
         ensures goes { OnErr result (Goes [] (seen D.state rig.old) (seen D.state rig.new)) }
         ensures room { WithinRoom room 0 [] (seen D.state rig.old) (seen D.state rig.new) }
         ensures full { IfErr result (FullOverRoom room 0 [] (seen D.state rig.old)) }
@@ -86,6 +97,7 @@ pub trait Service {
         requires other { command ≡ variants.Sync → ⊥ }
         ensures goes { Goes (blocks self.old (seen D.state rig.old))
             (seen D.state rig.old) (seen D.state rig.new) }
+        ensures joins { combiner self.new ≡ combiner self.old }
         ensures frames { HasItsFrames self.new (seen D.state rig.new) }
         ensures is { OnOk result (IsService self.new (seen D.state rig.new)) }
         ensures has { OnOk result ((before cs : List commands.Command)
@@ -113,10 +125,11 @@ pub trait Service {
     fn sync<D: Device>(&mut self, rig: &mut Rig<'_, D>) -> Result<Chain, EmFault>
         requires sound { Sound (seen D.state rig.old) }
         requires is { IsService self.old (seen D.state rig.old) }
-        requires free { CanAnswer (seen D.state rig.old).pool }
+        requires free { CanSync (seen D.state rig.old).pool }
         requires few { (counts self.old).n < 2 ^ 40 }
         ensures goes { Goes (blocks self.old (seen D.state rig.old))
             (seen D.state rig.old) (seen D.state rig.new) }
+        ensures joins { combiner self.new ≡ combiner self.old }
         ensures frames { HasItsFrames self.new (seen D.state rig.new) }
         ensures is { OnOk result (IsService self.new (seen D.state rig.new)) }
         ensures has { IsOfKind KIND variants.Sync
@@ -129,7 +142,7 @@ pub trait Service {
         ensures items { IsOfKind KIND variants.Sync → IfOk result (λ c.
             IsTrue (seen D.state rig.old).device.told
             → (before cs : List commands.Command) → Has self.old (seen D.state rig.old) before cs
-            → chain_items (seen D.state rig.new) c ≡ records_for KIND before cs) }
+            → chain_items (seen D.state rig.new) c ≡ records_for (combiner self.old) KIND before cs) }
         ensures room { WithinRoom room ((counts self.old).n + 1)
             (blocks self.old (seen D.state rig.old))
             (seen D.state rig.old) (seen D.state rig.new) }
@@ -157,7 +170,7 @@ pub trait Service {
             (counts self) (seen D.state rig.old) (seen D.state rig.new)) }
         ensures items { IfOk result (λ c. IsTrue (seen D.state rig.old).device.told
             → (before cs : List commands.Command) → Has self (seen D.state rig.old) before cs
-            → chain_items (seen D.state rig.new) c ≡ records_for KIND before cs) }
+            → chain_items (seen D.state rig.new) c ≡ records_for (combiner self) KIND before cs) }
         ensures room { (before cs : List commands.Command)
             → Has self (seen D.state rig.old) before cs
             → WithinRoom room (size_of KIND (before ++ cs)) (blocks self (seen D.state rig.old))

@@ -3,7 +3,7 @@
 //!
 //!     intervals, points --finish--> (0, 3) (0, 7) (2, 3)
 
-ghost use Rattle.std.specs.Prelude.{◌++◌, ◌<◌, ◌^◌, Some};
+ghost use Rattle.std.specs.Prelude.{◌++◌, ◌<◌, ◌^◌, ⊤, Some};
 ghost use Rattle.em_space.specs.Queue.{CanServe};
 ghost use Rattle.em_space.specs.Rig.{Sound};
 ghost use Rattle.em_space.specs.Seen.{seen};
@@ -50,7 +50,15 @@ fn give_list<D: Device>(
 impl Service for Stab {
     ghost use Rattle.em_segment.specs.Stabs.{HasCommands, StabHasFrames, stab_blocks};
 
+    type Rule = ();
+
     ghost KIND = { kind.Stab };
+
+    ghost combiner = { λ v x y. x };
+
+    ghost combiner_of = { λ rule x y. x };
+
+    ghost IsRule = { λ rule. ⊤ };
 
     ghost Has = { λ v s before cs. HasCommands s v (before ++ cs) };
 
@@ -95,7 +103,7 @@ impl Service for Stab {
     const KIND: FileKind = FileKind::Stab;
 
     #[tactic(auto, using(crate::proofs::Stabbing::made, crate::proofs::Stabbing::made_is, crate::proofs::Stabbing::made_none, crate::proofs::Stabbing::made_moves, crate::proofs::Stabbing::made_room, crate::proofs::Stabbing::made_surely, crate::proofs::Stabbing::made_by))]
-    fn new<D: Device>(rig: &mut Rig<'_, D>) -> Result<Stab, EmFault> {
+    fn new<D: Device>(rig: &mut Rig<'_, D>, _rule: ()) -> Result<Stab, EmFault> {
         Stab::new(rig)
     }
 

@@ -1,6 +1,8 @@
--- The laws of both implementations, and of all operations, each as one record.
-use Rattle.std.specs.Prelude.{Option, ⊤}
+-- The laws of the implementations, and of all operations, each as one record.
+use Rattle.std.specs.Prelude.{ℕ, Option, ⊤}
 use Rattle.em_record.specs.declared.record.Record.{Record}
+use Rattle.em_settle.specs.Add.{add_step_of, IsAddOp}
+use Rattle.em_settle.specs.AddLaws as add
 use Rattle.em_settle.specs.Bag.{bag_key_of, bag_step_of}
 use Rattle.em_settle.specs.BagLaws as bag
 use Rattle.em_settle.specs.Laws.{IsFold, IsSettle}
@@ -16,6 +18,15 @@ map_settles = record {
   keeps = map.keeps;
   keeps_key = map.keeps_key;
   stays_below = map.stays_below;
+}
+
+-- The operations of a map with adds have the laws of `Settle`, whatever joins the values.
+pub add_settles : (apply : ℕ → ℕ → ℕ) → IsSettle map_key_of (add_step_of apply) IsAddOp IsMapKept
+add_settles apply = record {
+  in_order = map.in_order;
+  keeps = add.keeps apply;
+  keeps_key = add.keeps_key apply;
+  stays_below = add.stays_below apply;
 }
 
 -- The operations of a bag have the laws of `Settle`.

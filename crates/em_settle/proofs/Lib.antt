@@ -8,3 +8,4 @@ pub mod Laws
 pub mod Bags
 pub mod MapRows
 pub mod BagRows
+pub mod AddRows

@@ -8,3 +8,5 @@ pub mod Bag
 pub mod Orders
 pub mod MapLaws
 pub mod BagLaws
+pub mod Add
+pub mod AddLaws

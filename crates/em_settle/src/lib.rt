@@ -2,12 +2,16 @@
 //! in which operations wait.
 #![tactic(auto)]
 
+mod add;
 mod bag;
+mod combine;
 mod map;
 mod settle;
 mod step;
 
+pub use add::AddSettle;
 pub use bag::BagSettle;
+pub use combine::Combine;
 pub use map::MapSettle;
 pub use settle::Settle;
 pub use step::Step;

@@ -66,7 +66,7 @@ impl Settle for MapSettle {
 }
 
 /// The stored record of a key with a value.
-fn stored_record(key: u64, value: u64) -> Record
+pub(crate) fn stored_record(key: u64, value: u64) -> Record
     ensures { result ≡ map_record key value }
 {
     Record {
@@ -78,7 +78,7 @@ fn stored_record(key: u64, value: u64) -> Record
 }
 
 /// The answer of a get with this number.
-fn answer(stored: Option<Record>, number: u64) -> Record
+pub(crate) fn answer(stored: Option<Record>, number: u64) -> Record
     ensures { result ≡ map_answer stored number }
 {
     match stored {

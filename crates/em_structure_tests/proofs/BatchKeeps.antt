@@ -18,7 +18,7 @@ use Rattle.em_structure_tests.proofs.Frames.{back}
 use Rattle.em_structure_tests.proofs.Kept.{never}
 
 -- a call that gives a command
-pub given_keeps : {T : Type 0} (c : Command) (s t : RigState) (b d : Batch) (r : Result T EmFault)
+pub given_keeps : {F : Type 0} {T : Type 0} (c : Command) (s t : RigState) (b d : Batch F) (r : Result T EmFault)
     → s.device.told ≡ false → TakesTo c s t b d r → CountsCommand s t b d → KeepsBatch 1 s t b d r
 given_keeps c s t b d (Ok x) e p n = record {
   sound = p.tree.session.sound;
@@ -38,7 +38,7 @@ given_keeps c s t b d (Err fault) e p n = record {
 }
 
 -- A sync, whose answers were read.
-pub synced_keeps : (s t u : RigState) (b d : Batch) (c : Chain) (r : Result (Unit {0}) EmFault)
+pub synced_keeps : {F : Type 0} (s t u : RigState) (b d : Batch F) (c : Chain) (r : Result (Unit {0}) EmFault)
     → s.device.told ≡ false → SyncedBatch s t b d c → CountsSync s t b d → Goes (chain_blocks t c) t u
     → KeepsBatch 1 s u b d r
 synced_keeps s t u b d c r e p n g = record {
@@ -67,7 +67,7 @@ synced_keeps s t u b d c r e p n g = record {
     calls_ok (Err fault) = tt
 
 -- A new batch may get commands.
-pub new_ready : (n : ℕ) (s t : RigState) (b : Batch) → n ≤ 2 ^ 40 → HasAll s → IsNewBatch s t b
+pub new_ready : {F : Type 0} (n : ℕ) (s t : RigState) (b : Batch F) → n ≤ 2 ^ 40 → HasAll s → IsNewBatch s t b
     → ReadyBatch n t b
 new_ready n s t b few h new =
     let x = new.tree.frames in
@@ -86,7 +86,7 @@ new_ready n s t b few h new =
     }
 
 -- A batch was made, given commands, and abandoned.
-pub abandoned_keeps : {T : Type 0} (n : ℕ) (s t u v : RigState) (b d : Batch) (q : Result T EmFault)
+pub abandoned_keeps : {F : Type 0} {T : Type 0} (n : ℕ) (s t u v : RigState) (b d : Batch F) (q : Result T EmFault)
     → IsNewBatch s t b → KeepsBatch n t u b d q → LeavesTrunk u v → KeepsRig s v
 abandoned_keeps n s t u v b d q new kept leaves = record {
   sound = leaves.sound;
@@ -94,7 +94,7 @@ abandoned_keeps n s t u v b d q new kept leaves = record {
 }
 
 -- It was finished, or wasn't.
-pub finished_keeps : {T : Type 0} (n : ℕ) (s t u v : RigState) (b d : Batch) (a : T)
+pub finished_keeps : {F : Type 0} {T : Type 0} (n : ℕ) (s t u v : RigState) (b d : Batch F) (a : T)
     (r : Result Chain EmFault) → IsNewBatch s t b → KeepsBatch n t u b d (Ok a)
     → FinishesBatch u v d r → KeepsRig s v
 finished_keeps n s t u v b d a (Ok c) new kept p = record {

@@ -70,10 +70,10 @@ abbrev pub KeepsTree : {T : Type 0} → ℕ → RigState → RigState → Trunk 
 KeepsTree more s t v w result =
     Keeps more (tree_calls v) (tree_calls w) s t (TrunkHasFrames t w) (IsMapTree t w) result
 
-abbrev pub ReadyBatch : ℕ → RigState → Batch → Type 0
+abbrev pub ReadyBatch : {F : Type 0} → ℕ → RigState → Batch F → Type 0
 ReadyBatch more s b = Ready more b.calls s (IsBatch s b)
 
-abbrev pub KeepsBatch : {T : Type 0} → ℕ → RigState → RigState → Batch → Batch → Result T EmFault
+abbrev pub KeepsBatch : {F : Type 0} {T : Type 0} → ℕ → RigState → RigState → Batch F → Batch F → Result T EmFault
     → Type 0
 KeepsBatch more s t b d result =
     Keeps more b.calls d.calls s t (BatchHasFrames t d) (IsBatch t d) result

@@ -1,23 +1,27 @@
 //! A batch that gets commands. A command is an operation of a map, of which the batch makes the number itself, or a sync, which
-//! has 3 as its word c.
-ghost use Rattle.std.specs.Prelude.{◌≤◌, ◌^◌, length};
+//! is `SETTLE`.
+ghost use Rattle.std.specs.Prelude.{◌≡◌, ◌≤◌, ◌^◌, length};
 ghost use Rattle.em_space.specs.Seen.{seen};
 ghost use Rattle.em_structure_tests.specs.Ready.{HasAll, KeepsBatch, KeepsRig, ReadyBatch};
 
 use crate::reading::{is_long, note, read_all};
+use crate::trees::SETTLE;
 use em_frames::Device;
 use em_map::Batch;
 use em_record::Record;
+use em_settle::{AddSettle, Combine, Settle};
 use em_space::{EmFault, Rig};
 
 /// A sync. Notes the blocks in use then, and reads the answers that it hands out.
-fn sync<D: Device>(
+fn sync<D: Device, F: Fn(u64, u64) -> u64 + Drop>(
     rig: &mut Rig<'_, D>,
-    batch: &mut Batch,
+    batch: &mut Batch<F>,
     found: &mut Vec<Record>,
 ) -> Result<(), EmFault>
-    requires { ReadyBatch 1 (seen D.state rig.old) batch.old }
-    ensures { KeepsBatch 1 (seen D.state rig.old) (seen D.state rig.new) batch.old batch.new result }
+    requires ready { ReadyBatch 1 (seen D.state rig.old) batch.old }
+    requires rule { ⟦<AddSettle<F> as Settle>⟧.IsReady batch.old.tree.settle }
+    ensures rule { batch.new.tree.settle ≡ batch.old.tree.settle }
+    ensures kept { KeepsBatch 1 (seen D.state rig.old) (seen D.state rig.new) batch.old batch.new result }
 {
     let chain = batch.sync(rig)?;
     read_all(rig, chain, found)
@@ -25,32 +29,39 @@ fn sync<D: Device>(
 
 /// One command.
 #[tactic(auto, using(crate::proofs::BatchKeeps::given_keeps))]
-fn step<D: Device>(
+fn step<D: Device, F: Fn(u64, u64) -> u64 + Drop>(
     rig: &mut Rig<'_, D>,
-    batch: &mut Batch,
+    batch: &mut Batch<F>,
     call: Record,
     found: &mut Vec<Record>,
 ) -> Result<(), EmFault>
-    requires { ReadyBatch 1 (seen D.state rig.old) batch.old }
-    ensures { KeepsBatch 1 (seen D.state rig.old) (seen D.state rig.new) batch.old batch.new result }
+    requires ready { ReadyBatch 1 (seen D.state rig.old) batch.old }
+    requires rule { ⟦<AddSettle<F> as Settle>⟧.IsReady batch.old.tree.settle }
+    ensures rule { batch.new.tree.settle ≡ batch.old.tree.settle }
+    ensures kept { KeepsBatch 1 (seen D.state rig.old) (seen D.state rig.new) batch.old batch.new result }
 {
+    if call == SETTLE {
+        return sync(rig, batch, found);
+    }
     match call.c {
         0 => batch.put(rig, call.a, call.d),
         1 => batch.del(rig, call.a),
-        3 => sync(rig, batch, found),
+        3 => batch.add(rig, call.a, call.d),
         _ => batch.get(rig, call.a),
     }
 }
 
 /// Some commands.
-fn step_all<D: Device>(
+fn step_all<D: Device, F: Fn(u64, u64) -> u64 + Drop>(
     rig: &mut Rig<'_, D>,
-    batch: &mut Batch,
+    batch: &mut Batch<F>,
     calls: &[Record],
     found: &mut Vec<Record>,
 ) -> Result<(), EmFault>
-    requires { ReadyBatch (length calls.now) (seen D.state rig.old) batch.old }
-    ensures { KeepsBatch (length calls.now) (seen D.state rig.old) (seen D.state rig.new)
+    requires ready { ReadyBatch (length calls.now) (seen D.state rig.old) batch.old }
+    requires rule { ⟦<AddSettle<F> as Settle>⟧.IsReady batch.old.tree.settle }
+    ensures rule { batch.new.tree.settle ≡ batch.old.tree.settle }
+    ensures kept { KeepsBatch (length calls.now) (seen D.state rig.old) (seen D.state rig.new)
         batch.old batch.new result }
 {
     for call in calls {
@@ -71,7 +82,8 @@ pub fn serve<D: Device>(
     if is_long(calls) {
         return Ok(());
     }
-    let mut batch = Batch::new(rig)?;
+    let sum = AddSettle::new(|x: u64, y: u64| x.wrapping_add(y), Combine::Sum);
+    let mut batch = Batch::with(rig, sum)?;
     match step_all(rig, &mut batch, calls, found) {
         Ok(()) => {
             let tree = batch.tree();

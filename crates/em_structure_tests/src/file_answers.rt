@@ -16,6 +16,7 @@ use em_io::{MemShelf, MemSink, Printer, Shelf, Sink, Slot};
 use em_lines::{FileKind, TextKind};
 use em_plain::{ScanMap, ScanQueue, ScanStab};
 use em_record::{Failed, Shape};
+use em_settle::{AddSettle, Combine, Settle};
 use em_space::Rig;
 use std::alloc::Global;
 use std::test::Fail;
@@ -31,11 +32,12 @@ fn add_line(text: &mut MemSink, word: &[u8], numbers: &[u64]) -> Result<(), Fail
     line.end_line(text)
 }
 
-/// Adds a line of a map: of a hundred, `dels` are deletions, so many others gets, and the rest puts. The keys, which are
-/// this many, lie wide apart.
+/// Adds a line of a map: of a hundred, `dels` are deletions, so many others gets, and the rest puts, or with `adds` as many
+/// adds as puts. The keys, which are this many, lie wide apart.
 fn add_map_line(
     text: &mut MemSink,
     state: &mut u64,
+    adds: bool,
     keys: u64,
     dels: u64,
     asks: u64,
@@ -49,7 +51,28 @@ fn add_map_line(
         return add_line(text, b"get", &[key]);
     }
     let value = draw(state) % 1000;
-    add_line(text, b"put", &[key, value])
+    let word: &[u8] = if adds && value % 2 == 1 {
+        b"add"
+    } else {
+        b"put"
+    };
+    add_line(text, word, &[key, value])
+}
+
+/// What a row's word says of its file: the kind, how its adds are joined, and whether it has any.
+type Said = (FileKind, Combine, bool);
+
+/// What a word says: a kind of file, or how the adds of a map's file are joined.
+fn said_by(word: &str) -> Said {
+    match word {
+        "map" => (FileKind::Map, Combine::Sum, false),
+        "sum" => (FileKind::Map, Combine::Sum, true),
+        "max" => (FileKind::Map, Combine::Max, true),
+        "min" => (FileKind::Map, Combine::Min, true),
+        "xor" => (FileKind::Map, Combine::Xor, true),
+        "queue" => (FileKind::Queue, Combine::Sum, false),
+        _ => (FileKind::Stab, Combine::Sum, false),
+    }
 }
 
 /// Adds a line of a queue: of a hundred, so many are pops, and the others pushes.
@@ -88,15 +111,18 @@ fn add_stab_line(text: &mut MemSink, state: &mut u64, keys: u64, asks: u64) -> R
 
 /// A drawn file of a kind, of this many lines. Of a hundred, so many ask, and the last one of a map is a sync. In the
 /// second half of a queue's file the others ask, and of a map's 90 delete, so that both grow and are emptied.
-fn drawn(alloc: Global, kind: FileKind, lines: u64, keys: u64, asks: u64) -> Result<MemSink, Fail> {
+fn drawn(alloc: Global, said: Said, lines: u64, keys: u64, asks: u64) -> Result<MemSink, Fail> {
+    let (kind, _, adds) = said;
     let mut text = MemSink::new(alloc, 4096, &[])?;
     let mut state = lines;
     let half = lines / 2;
     for number in 0..lines {
         match kind {
             FileKind::Map if number % 100 == 99 => add_line(&mut text, b"sync", &[])?,
-            FileKind::Map if number < half => add_map_line(&mut text, &mut state, keys, 20, asks)?,
-            FileKind::Map => add_map_line(&mut text, &mut state, keys, 90, asks)?,
+            FileKind::Map if number < half => {
+                add_map_line(&mut text, &mut state, adds, keys, 20, asks)?;
+            }
+            FileKind::Map => add_map_line(&mut text, &mut state, adds, keys, 90, asks)?,
             FileKind::Stab => add_stab_line(&mut text, &mut state, keys, asks)?,
             FileKind::Queue if number < half => {
                 add_queue_line(&mut text, &mut state, keys, asks)?;
@@ -109,11 +135,26 @@ fn drawn(alloc: Global, kind: FileKind, lines: u64, keys: u64, asks: u64) -> Res
     Ok(text)
 }
 
-/// Answers the open file of a kind by its structure or by a list, on a rig of which no block is or was in use.
-#[tactic(auto, using(crate::proofs::ListQueue::list_alone, crate::proofs::ListQueue::list_goes, crate::proofs::ListQueue::list_new, crate::proofs::ListQueue::list_serves))]
-fn answer<D: Device, H: Shelf, W: Sink>(
-    by_list: bool,
-    kind: FileKind,
+/// Answers the open map file by a list, whose adds are joined by these rules.
+fn run_list<D: Device, H: Shelf, W: Sink, F: Fn(u64, u64) -> u64 + Drop>(
+    settle: AddSettle<F>,
+    rig: &mut Rig<'_, D>,
+    shelf: &mut H,
+    out: &mut W,
+) -> Status
+    requires rule { ⟦<AddSettle<F> as Settle>⟧.IsReady settle }
+    requires unused { IsUnused (seen D.state rig.old) }
+    requires free { IsReady (seen D.state rig.old).pool }
+    requires none_moved { (seen D.state rig.old).moves ≡ 0 }
+    requires ready { ((H.stand shelf.old).slot First).ready ≡ true }
+    ensures goes { Goes [] (seen D.state rig.old) (seen D.state rig.new) }
+{
+    run_service::<D, H, W, ScanMap<F>>(settle, rig, shelf, out)
+}
+
+/// The same by this combiner.
+fn run_listed<D: Device, H: Shelf, W: Sink>(
+    combine: Combine,
     rig: &mut Rig<'_, D>,
     shelf: &mut H,
     out: &mut W,
@@ -124,12 +165,48 @@ fn answer<D: Device, H: Shelf, W: Sink>(
     requires ready { ((H.stand shelf.old).slot First).ready ≡ true }
     ensures goes { Goes [] (seen D.state rig.old) (seen D.state rig.new) }
 {
+    match combine {
+        Combine::Sum => {
+            let sum = AddSettle::new(|x: u64, y: u64| y.wrapping_add(x), Combine::Sum);
+            run_list(sum, rig, shelf, out)
+        }
+        Combine::Max => {
+            let greatest = AddSettle::new(|x: u64, y: u64| x.max(y), Combine::Max);
+            run_list(greatest, rig, shelf, out)
+        }
+        Combine::Min => {
+            let least = AddSettle::new(|x: u64, y: u64| x.min(y), Combine::Min);
+            run_list(least, rig, shelf, out)
+        }
+        Combine::Xor => {
+            let exclusive = AddSettle::new(|x: u64, y: u64| x ^ y, Combine::Xor);
+            run_list(exclusive, rig, shelf, out)
+        }
+    }
+}
+
+/// Answers the open file of a kind by its structure or by a list, on a rig of which no block is or was in use.
+#[tactic(auto, using(crate::proofs::ListQueue::list_alone, crate::proofs::ListQueue::list_goes, crate::proofs::ListQueue::list_new, crate::proofs::ListQueue::list_serves))]
+fn answer<D: Device, H: Shelf, W: Sink>(
+    by_list: bool,
+    said: Said,
+    rig: &mut Rig<'_, D>,
+    shelf: &mut H,
+    out: &mut W,
+) -> Status
+    requires unused { IsUnused (seen D.state rig.old) }
+    requires free { IsReady (seen D.state rig.old).pool }
+    requires none_moved { (seen D.state rig.old).moves ≡ 0 }
+    requires ready { ((H.stand shelf.old).slot First).ready ≡ true }
+    ensures goes { Goes [] (seen D.state rig.old) (seen D.state rig.new) }
+{
+    let (kind, combine, _) = said;
     if !by_list {
-        return run_open(kind, rig, shelf, out);
+        return run_open(kind, combine, rig, shelf, out);
     }
     match kind {
-        FileKind::Map => run_service::<D, H, W, ScanMap>(rig, shelf, out),
-        FileKind::Stab => run_service::<D, H, W, ScanStab>(rig, shelf, out),
+        FileKind::Map => run_listed(combine, rig, shelf, out),
+        FileKind::Stab => run_service::<D, H, W, ScanStab>((), rig, shelf, out),
         FileKind::Queue => match ScanQueue::new(rig) {
             Ok(queue) => run_queue(rig, queue, shelf, out),
             Err(fault) => status_of(Stop::Em(fault)),
@@ -141,7 +218,7 @@ fn answer<D: Device, H: Shelf, W: Sink>(
 fn ended<H: Shelf, W: Sink>(
     alloc: Global,
     by_list: bool,
-    kind: FileKind,
+    said: Said,
     shape: Shape,
     shelf: &mut H,
     out: &mut W,
@@ -150,7 +227,7 @@ fn ended<H: Shelf, W: Sink>(
 {
     let mut device = MemDevice::new(alloc, &[])?;
     let mut rig = opened_as(alloc, shape, 100_000, &mut device)?;
-    let status = answer(by_list, kind, &mut rig, shelf, out);
+    let status = answer(by_list, said, &mut rig, shelf, out);
     let moves = rig.moves();
     rig.close().end();
     Ok((status, moves))
@@ -160,7 +237,7 @@ fn ended<H: Shelf, W: Sink>(
 fn answered(
     alloc: Global,
     by_list: bool,
-    kind: FileKind,
+    said: Said,
     shape: Shape,
     text: &[u8],
 ) -> Result<(Status, u64, MemSink), Fail> {
@@ -168,7 +245,7 @@ fn answered(
     shelf.add("a", text)?;
     shelf.open(Slot::First, "a")?;
     let mut out = MemSink::new(alloc, 4096, &[])?;
-    let (status, moves) = ended(alloc, by_list, kind, shape, &mut shelf, &mut out)?;
+    let (status, moves) = ended(alloc, by_list, said, shape, &mut shelf, &mut out)?;
     Ok((status, moves, out))
 }
 
@@ -176,14 +253,14 @@ fn answered(
 /// many bytes are printed, and the structure moves at least so many blocks.
 fn alike(
     alloc: Global,
-    kind: FileKind,
+    said: Said,
     shape: Shape,
     text: &[u8],
     status: Status,
     least: (usize, u64),
 ) -> Result<bool, Fail> {
-    let (listed, _, lines) = answered(alloc, true, kind, shape, text)?;
-    let (other, moves, out) = answered(alloc, false, kind, shape, text)?;
+    let (listed, _, lines) = answered(alloc, true, said, shape, text)?;
+    let (other, moves, out) = answered(alloc, false, said, shape, text)?;
     let sent = out.bytes();
     Ok(
         listed == status
@@ -215,26 +292,22 @@ fn row_alike(alloc: Global, row: &str) -> Result<bool, Fail> {
     let (asks, rest) = number_of(rest)?;
     let (bytes, rest) = field_of(rest);
     let (moves, _) = number_of(rest)?;
-    let kind = match word {
-        "map" => FileKind::Map,
-        "queue" => FileKind::Queue,
-        _ => FileKind::Stab,
-    };
+    let said = said_by(word);
     let shape = Shape::new(block, frames)?;
     let least = (bytes.parse::<usize>()?, moves);
-    let mut text = drawn(alloc, kind, lines, keys, asks)?;
-    let whole = alike(alloc, kind, shape, text.bytes(), Status::Done, least)?;
+    let mut text = drawn(alloc, said, lines, keys, asks)?;
+    let whole = alike(alloc, said, shape, text.bytes(), Status::Done, least)?;
     add_line(&mut text, b"bogus", &[])?;
     let malformed = Status::Malformed {
         kind: Malform::Text(TextKind::Unknown),
         place: lines.saturating_add(1),
     };
-    Ok(whole && alike(alloc, kind, shape, text.bytes(), malformed, (0, 0))?)
+    Ok(whole && alike(alloc, said, shape, text.bytes(), malformed, (0, 0))?)
 }
 
-/// A row has a kind of file and a shape, the lines of its drawn file, how many keys or points there are, how many of a hundred lines
+/// A row has a kind of file, or how the adds of a map's are joined, and a shape, the lines of its drawn file, how many keys or points there are, how many of a hundred lines
 /// ask, and how many bytes are printed and blocks moved at least.
-const ROWS: [&str; 28] = [
+const ROWS: [&str; 36] = [
     // Few keys and many. Nothing but the tree's root has operations before the end.
     "map 128 64|50|1|40|1|0",
     "map 144 72|50|1|40|1|0",
@@ -249,6 +322,15 @@ const ROWS: [&str; 28] = [
     // join of short leaves. Each of the 200 syncs stores the block of the commands since the last one and loads it, loads
     // the root, and loads and stores the block of a leaf: 1,000 moves at least.
     "map 128 64|20000|8000|2|100|1000",
+    // The same keys have a value if a put of an odd value is an add in its place.
+    "sum 128 64|20000|8000|2|100|1000",
+    "max 128 64|20000|8000|2|100|1000",
+    "min 128 64|20000|8000|2|100|1000",
+    "xor 128 64|20000|8000|2|100|1000",
+    "sum 144 72|300|7|30|1|0",
+    "max 144 72|300|7|30|1|0",
+    "min 144 72|300|7|30|1|0",
+    "xor 144 72|300|7|30|1|0",
     // Few keys and many. All items are held in memory.
     "queue 128 64|50|1|50|1|0",
     "queue 144 72|50|1|50|1|0",
@@ -298,7 +380,7 @@ fn a_made_map_is_answered_as_by_a_list(rt: HostRuntime) -> Result<(), Fail> {
         let (status, _) = ended(
             rt.alloc(),
             number == 0,
-            FileKind::Map,
+            said_by("map"),
             shape,
             &mut shelf,
             tally,

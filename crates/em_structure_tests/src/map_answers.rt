@@ -8,12 +8,14 @@ use em_record::Record;
 use std::alloc::Global;
 use std::test::Fail;
 
-/// The commands of a text. `K=V` is a put, `K-` a del and `K?` a get.
+/// The commands of a text. `K=V` is a put, `K+V` an add, `K-` a del and `K?` a get.
 fn commands_of(alloc: Global, text: &str) -> Result<Vec<Record>, Fail> {
     let mut commands = Vec::new(alloc);
     for word in text.split(',') {
         if let Some((key, value)) = word.split_once('=') {
             commands.push(record(key.parse::<u64>()?, 1, 0, value.parse::<u64>()?))?;
+        } else if let Some((key, value)) = word.split_once('+') {
+            commands.push(record(key.parse::<u64>()?, 1, 3, value.parse::<u64>()?))?;
         } else if let Some((key, _)) = word.split_once('-') {
             commands.push(record(key.parse::<u64>()?, 1, 1, 0))?;
         } else if let Some((key, _)) = word.split_once('?') {
@@ -36,7 +38,8 @@ fn answers_of(alloc: Global, text: &str) -> Result<Vec<Record>, Fail> {
     Ok(answers)
 }
 
-/// Commands, and the answers in the order of their numbers. Each get sees the commands before it, of its own key alone.
+/// Commands, and the answers in the order of their numbers. Each get sees the commands before it, of its own key alone. Adds
+/// are sums, modulo 2^64.
 /// The last line has forty puts of one key.
 const ROWS: &str = "\
 |
@@ -46,6 +49,8 @@ const ROWS: &str = "\
 0=7,18446744073709551615=8,9-,1?|4
 0=7,18446744073709551615=8,9-,18446744073709551615?|4 8
 0=7,18446744073709551615=8,9-,9?|4
+1=9,1+2,1?,1-,1+2,1+3,1?,2+4,2?|3 11,7 5,9 4
+1=18446744073709551615,1+2,1?|3 1
 1=2,1=2,1=2,1=2,1=2,1=2,1=2,1=2,1=2,1=2,1=2,1=2,1=2,1=2,1=2,1=2,1=2,1=2,1=2,1=2,1=2,1=2,1=2,1=2,1=2,1=2,1=2,1=2,1=2,1=2,1=2,1=2,1=2,1=2,1=2,1=2,1=2,1=2,1=2,1=2,1?|41 2
 ";
 
@@ -71,7 +76,7 @@ fn each_get_answers_the_last_put_of_its_key_before_it(rt: HostRuntime) -> Result
             "row {row}"
         );
     }
-    assert_eq!(rt; row, 8);
+    assert_eq!(rt; row, 10);
     Ok(())
 }
 

@@ -18,6 +18,10 @@ fn map_commands(alloc: Global, ops: &[Record]) -> Result<Vec<Command>, AllocErro
                 value: op.d,
             },
             1 => Command::Del { key: op.a },
+            3 => Command::Add {
+                key: op.a,
+                value: op.d,
+            },
             _ => Command::Get { key: op.a },
         })?;
     }
@@ -27,7 +31,11 @@ fn map_commands(alloc: Global, ops: &[Record]) -> Result<Vec<Command>, AllocErro
 /// What a batch would note of operations, with the answers of `em_model`: three notes, and an answer for each get.
 fn found_by_model(alloc: Global, ops: &[Record]) -> Result<Vec<Record>, AllocError> {
     let commands = map_commands(alloc, ops)?;
-    let values = map_answers_of(alloc, commands.as_slice())?;
+    let values = map_answers_of(
+        alloc,
+        &|x: u64, y: u64| x.wrapping_add(y),
+        commands.as_slice(),
+    )?;
     let mut values = values.iter();
     let mut found = Vec::new(alloc);
     for _ in 0..3 {

@@ -128,8 +128,8 @@ impl<S: Settle> Tree<S> {
     /// Hands out the answers given so far, as a chain in any order. None of them is left, and the tree goes on: what it stores, and
     /// what waits, is the same. No block is taken, and one move at most is made, which the tree's moves don't count.
     ///
-    /// `Full` never comes, nor `Damaged`; `DeviceFault` comes only if the device's count of faults rose, and then the tree may only
-    /// be abandoned.
+    /// `Full` never comes. `DeviceFault` comes only if the device's count of faults rose, and `Damaged` only over a device that
+    /// doesn't tell; then the tree may only be abandoned.
     #[tactic(auto, using(crate::proofs::Handed::hands_answers))]
     pub fn take_answers<D: Device>(&mut self, rig: &mut Rig<'_, D>) -> Result<Chain, EmFault>
         requires sound { Sound (seen D.state rig.old) }

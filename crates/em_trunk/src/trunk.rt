@@ -1,6 +1,6 @@
 //! What a tree keeps in memory, but for its settling rule.
 
-ghost use Rattle.std.specs.Prelude.{◌≡◌, ℕ, ◌-◌, ◌+◌, ◌<◌, ◌≤◌, ◌^◌};
+ghost use Rattle.std.specs.Prelude.{◌≡◌, ℕ, ◌-◌, ◌+◌, ◌<◌, ◌≤◌, ◌^◌, ◌/◌};
 ghost use Rattle.em_record.specs.Shape.{IsShape};
 ghost use Rattle.em_space.specs.Rig.{Sound};
 ghost use Rattle.em_space.specs.Seen.{seen};
@@ -172,9 +172,9 @@ impl Trunk {
         requires longest { self.old.longest ≤ 2 ^ 101 }
         ensures { self.new ≡ with_steps shape.now self.old }
     {
-        let block = shape.block() as u128;
-        let pushed = 160 * (self.pushed / block + 2);
-        let longest = 64 * (self.longest / block + 2);
+        let block = shape.block();
+        let pushed = 160 * (whole_blocks(self.pushed, block) + 2);
+        let longest = 64 * (whole_blocks(self.longest, block) + 2);
         self.steps = (MOST_LEVELS as u128 + 2) * (pushed + longest);
     }
 
@@ -212,5 +212,16 @@ impl Trunk {
         let fresh = Writer::new(rig);
         let whole = mem::replace(&mut self.answers, fresh);
         whole.finish(rig)
+    }
+}
+
+/// How many blocks of this many records these records fill. Numbers below 2^64 are divided as such, many times as fast.
+fn whole_blocks(records: u128, block: u64) -> u128
+    requires some { 0 < block }
+    ensures { result ≡ records / block }
+{
+    match u64::try_from(records) {
+        Ok(few) => (few / block) as u128,
+        Err(_) => records / block as u128,
     }
 }

@@ -6,6 +6,8 @@ use Rattle.em_words.specs.declared.job.Origin.TheVariants.{Files, Made}
 use Rattle.em_words.specs.declared.job.Task.{Task}
 use Rattle.em_words.specs.declared.job.Task.TheVariants.{Answer, Eval}
 use Rattle.em_lines.specs.declared.text.FileKind.TheVariants.{Map, Queue, Stab}
+use Rattle.em_settle.specs.declared.combine.Combine.{Combine}
+use Rattle.em_settle.specs.declared.combine.Combine.TheVariants.{Sum, Max, Min, Xor}
 use Rattle.em_ends.specs.declared.status.Usage.{Usage}
 use Rattle.em_ends.specs.declared.status.UsageKind.TheVariants.{NoCommand, UnknownCommand, UnknownOption, RepeatedOption, BadValue, MissingOperand, ExtraOperand, BlockRange, FramesRange, FramesMultiple, BlocksRange, UnknownKind, CountRange}
 use Rattle.em_words.specs.Job.{default_frames, job_of, refused}
@@ -28,7 +30,7 @@ job_of_task task = job_on task Files
 
 -- the same of a map file
 abbrev job : ℕ → ℕ → ℕ → Bool → ℕ → Result Job Usage
-job = job_of_task (Answer Map)
+job = job_of_task (Answer Map Sum)
 
 -- the job of `map` and these words
 abbrev map_of : List (List ℕ) → Result Job Usage
@@ -59,11 +61,11 @@ a_plain_map = refl
 -- Tasks.
 
 a_plain_queue : job_of (codes "queue" ∷ codes "a" ∷ [])
-    ≡ job_of_task (Answer Queue) 1024 256 1048576 false 1
+    ≡ job_of_task (Answer Queue Sum) 1024 256 1048576 false 1
 a_plain_queue = refl
 
 a_stab_of_64_frames : job_of (codes "stab" ∷ codes "--frames=64" ∷ codes "a" ∷ [])
-    ≡ job_of_task (Answer Stab) 1024 64 1048576 false 2
+    ≡ job_of_task (Answer Stab Sum) 1024 64 1048576 false 2
 a_stab_of_64_frames = refl
 
 another_command : job_of (codes "evaluate" ∷ codes "a" ∷ codes "b" ∷ []) ≡ refused UnknownCommand 0
@@ -166,6 +168,56 @@ a_stab_of_two_operands : job_of (codes "stab" ∷ codes "a" ∷ codes "b" ∷ []
     ≡ refused ExtraOperand 2
 a_stab_of_two_operands = refl
 
+-- the job of `map` by this combiner, where the operand is the word of this number
+abbrev combined : Combine → ℕ → Result Job Usage
+combined combine = job_of_task (Answer Map combine) 1024 256 1048576 false
+
+-- words before the name of a file, and what `map` gives of them
+abbrev Row : Type 0
+Row = List (List ℕ) × Result Job Usage
+
+-- each row says what its words give
+abbrev Hold : List Row → Type 0
+Hold rows = map (λ (row : Row). map_of (row.0 ++ codes "a" ∷ [])) rows ≡ map (λ (row : Row). row.1) rows
+
+-- how adds are joined: by each name, by another one, by none, twice, and beside other options
+combiners : Hold (
+    ([], combined Sum 1)
+    ∷ (codes "--combine=sum" ∷ [], combined Sum 2)
+    ∷ (codes "--combine=max" ∷ [], combined Max 2)
+    ∷ (codes "--combine=min" ∷ [], combined Min 2)
+    ∷ (codes "--combine=xor" ∷ [], combined Xor 2)
+    ∷ (
+      codes "--frames=64" ∷ codes "--combine=max" ∷ codes "--stats" ∷ [],
+      job_of_task (Answer Map Max) 1024 64 1048576 true 4,
+    )
+    ∷ (codes "--combine=avg" ∷ [], refused BadValue 1)
+    ∷ (codes "--combine=Sum" ∷ [], refused BadValue 1)
+    ∷ (codes "--combine=" ∷ [], refused BadValue 1)
+    ∷ (codes "--combine" ∷ [], refused BadValue 1)
+    ∷ (codes "--combine=maximum" ∷ [], refused BadValue 1)
+    ∷ (codes "--combine=max=" ∷ [], refused BadValue 1)
+    ∷ (codes "--combine=1" ∷ [], refused BadValue 1)
+    ∷ (codes "--stats" ∷ codes "--combine=avg" ∷ [], refused BadValue 2)
+    ∷ (codes "--combine=max" ∷ codes "--combine=max" ∷ [], refused RepeatedOption 2)
+    ∷ (codes "--combine=max" ∷ codes "--combine=avg" ∷ [], refused RepeatedOption 2)
+    ∷ (codes "--combine=avg" ∷ codes "--combine=max" ∷ [], refused BadValue 1)
+    ∷ (codes "--combined=max" ∷ [], refused UnknownOption 1)
+    ∷ [])
+combiners = refl
+
+-- at every other command the option is unknown
+no_combiners : map job_of (
+    (codes "queue" ∷ codes "--combine=max" ∷ codes "a" ∷ [])
+    ∷ (codes "stab" ∷ codes "--stats" ∷ codes "--combine=max" ∷ codes "a" ∷ [])
+    ∷ (codes "eval" ∷ codes "--combine=sum" ∷ codes "a" ∷ codes "b" ∷ [])
+    ∷ (codes "gen" ∷ codes "--combine=sum" ∷ codes "map" ∷ codes "1" ∷ codes "2" ∷ [])
+    ∷ (codes "queue" ∷ codes "--combine=avg" ∷ codes "a" ∷ [])
+    ∷ [])
+    ≡ refused UnknownOption 1 ∷ refused UnknownOption 2 ∷ refused UnknownOption 1
+    ∷ refused UnknownOption 1 ∷ refused UnknownOption 1 ∷ []
+no_combiners = refl
+
 -- Made texts.
 
 -- words after `gen`, and the job that they name
@@ -182,16 +234,16 @@ abbrev made : Task → ℕ → ℕ → Result Job Usage
 made task start count = job_on task (Made start count) 1024 256 1048576 false 1
 
 jobs_made : MakesJobs (
-    (codes "map" ∷ codes "1" ∷ codes "8" ∷ [], made (Answer Map) 1 8)
-    ∷ (codes "queue" ∷ codes "0" ∷ codes "1" ∷ [], made (Answer Queue) 0 1)
+    (codes "map" ∷ codes "1" ∷ codes "8" ∷ [], made (Answer Map Sum) 1 8)
+    ∷ (codes "queue" ∷ codes "0" ∷ codes "1" ∷ [], made (Answer Queue Sum) 0 1)
     ∷ (
       codes "stab" ∷ codes "18446744073709551615" ∷ codes "1073741824" ∷ [],
-      made (Answer Stab) 18446744073709551615 1073741824,
+      made (Answer Stab Sum) 18446744073709551615 1073741824,
     )
     ∷ (codes "eval" ∷ codes "00000000000000000007" ∷ codes "02" ∷ [], made (Eval None false) 7 2)
     ∷ (
       codes "--block=128" ∷ codes "--stats" ∷ codes "map" ∷ codes "1" ∷ codes "8" ∷ [],
-      job_on (Answer Map) (Made 1 8) 128 64 1048576 true 3,
+      job_on (Answer Map Sum) (Made 1 8) 128 64 1048576 true 3,
     )
     ∷ [])
 jobs_made = refl
@@ -215,13 +267,7 @@ jobs_refused : MakesJobs (
     ∷ [])
 jobs_refused = refl
 
--- words before the name of a file, and what `map` gives of them
-abbrev Row : Type 0
-Row = List (List ℕ) × Result Job Usage
-
--- each row says what its words give
-abbrev Hold : List Row → Type 0
-Hold rows = map (λ (row : Row). map_of (row.0 ++ codes "a" ∷ [])) rows ≡ map (λ (row : Row). row.1) rows
+-- Options of every command.
 
 options : Hold (
     (codes "--" ∷ [], refused UnknownOption 1)

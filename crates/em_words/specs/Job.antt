@@ -14,10 +14,11 @@ use Rattle.em_words.specs.declared.job.Task.TheVariants.{Answer, Eval}
 use Rattle.em_words.specs.declared.job.Verb.{Verb}
 use Rattle.em_words.specs.declared.job.Verb.TheVariants.{Over, Generate}
 use Rattle.em_lines.specs.declared.text.FileKind.TheVariants.{Map, Queue, Stab}
+use Rattle.em_settle.specs.declared.combine.Combine.TheVariants.{Sum}
 use Rattle.em_ends.specs.declared.status.Usage.{Usage}
 use Rattle.em_ends.specs.declared.status.UsageKind.{UsageKind}
 use Rattle.em_ends.specs.declared.status.UsageKind.TheVariants.{NoCommand, UnknownCommand, BadValue, MissingOperand, ExtraOperand, BlockRange, FramesRange, FramesMultiple, BlocksRange, UnknownKind, CountRange}
-use Rattle.em_words.specs.Options.{has_option, number_of_word, number_or, option_words, options_refusal, word_of}
+use Rattle.em_words.specs.Options.{combine_with, has_option, number_of_word, number_or, option_words, options_refusal, word_of}
 
 -- the words as the program gets them
 abbrev pub texts_of : List (String Global) → List (List ℕ)
@@ -40,7 +41,7 @@ unless (Some usage) next = Err usage
 
 -- how many operands a task has: a name for each of its files
 abbrev pub operand_count : Task → ℕ
-operand_count (Answer kind) = 1
+operand_count (Answer kind combine) = 1
 operand_count (Eval uninit wide) = 2
 
 -- how many operands a command has: `gen` has a kind, a start and a count
@@ -94,9 +95,9 @@ blocks_with options = blocks_within options (number_or (codes "--blocks") option
 
 -- the word of a task
 abbrev pub task_name : Task → List ℕ
-task_name (Answer Map) = codes "map"
-task_name (Answer Queue) = codes "queue"
-task_name (Answer Stab) = codes "stab"
+task_name (Answer Map combine) = codes "map"
+task_name (Answer Queue combine) = codes "queue"
+task_name (Answer Stab combine) = codes "stab"
 task_name (Eval uninit wide) = codes "eval"
 
 -- the word names this task
@@ -106,9 +107,9 @@ is_named task word = bytes_eq word (task_name task)
 -- the task of a command, from the command's word, before its options are read
 abbrev pub task_of : List ℕ → Option Task
 task_of word =
-    if is_named (Answer Map) word then Some (Answer Map)
-    else (if is_named (Answer Queue) word then Some (Answer Queue)
-    else (if is_named (Answer Stab) word then Some (Answer Stab)
+    if is_named (Answer Map Sum) word then Some (Answer Map Sum)
+    else (if is_named (Answer Queue Sum) word then Some (Answer Queue Sum)
+    else (if is_named (Answer Stab Sum) word then Some (Answer Stab Sum)
     else (if is_named (Eval None false) word then Some (Eval None false) else None)))
 
 -- a bit that a number says
@@ -122,14 +123,8 @@ uninit_with options = bit_said (number_or (codes "--uninit") options 2)
 
 -- the task as the options say
 abbrev pub task_with : Task → List (List ℕ) → Task
-task_with (Answer kind) options = Answer kind
+task_with (Answer kind combine) options = Answer kind (combine_with options)
 task_with (Eval uninit wide) options = Eval (uninit_with options) (has_option (codes "--wide") options)
-
--- whether a command evaluates a circuit of its files
-abbrev pub evaluates : Verb → Bool
-evaluates (Over (Answer kind)) = false
-evaluates (Over (Eval uninit wide)) = true
-evaluates Generate = false
 
 -- what the word of a command asks for
 abbrev pub verb_of : List ℕ → Option Verb
@@ -188,7 +183,7 @@ job_by Generate words options file = made_job words options file
 
 -- the job of these words, of which these are the options that stand after the command
 abbrev pub job_behind : Verb → List (List ℕ) → List (List ℕ) → Result Job Usage
-job_behind verb words options = unless (options_refusal (evaluates verb) [] options)
+job_behind verb words options = unless (options_refusal verb [] options)
     (operands_of (operands_wanted verb) (length options + 1) (length words)
     >>= λ file. job_by verb words options file)
 

@@ -7,6 +7,12 @@ use Rattle.em_ends.specs.declared.status.Usage.{Usage}
 use Rattle.em_ends.specs.declared.status.UsageKind.{UsageKind}
 use Rattle.em_ends.specs.declared.status.UsageKind.TheVariants.{UnknownOption, RepeatedOption, BadValue}
 use Rattle.em_lines.specs.CommandLine.{number_of}
+use Rattle.em_lines.specs.declared.text.FileKind.TheVariants.{Map}
+use Rattle.em_settle.specs.declared.combine.Combine.{Combine}
+use Rattle.em_settle.specs.declared.combine.Combine.TheVariants.{Sum, Max, Min, Xor}
+use Rattle.em_words.specs.declared.job.Task.TheVariants.{Answer, Eval}
+use Rattle.em_words.specs.declared.job.Verb.{Verb}
+use Rattle.em_words.specs.declared.job.Verb.TheVariants.{Over}
 
 -- the word begins as an option does
 abbrev pub is_option : List ℕ → Bool
@@ -37,14 +43,16 @@ abbrev pub option_names : List (List ℕ)
 option_names =
     codes "--block" ∷ codes "--frames" ∷ codes "--blocks" ∷ codes "--stats" ∷ []
 
--- the names of those that a command has besides if it evaluates a circuit
-abbrev pub eval_names : List (List ℕ)
-eval_names = codes "--uninit" ∷ codes "--wide" ∷ []
+-- the names of those that a command has besides: one that answers a map file, or evaluates a circuit of its files
+abbrev pub own_names : Verb → List (List ℕ)
+own_names (Over (Answer Map combine)) = codes "--combine" ∷ []
+own_names (Over (Eval uninit wide)) = codes "--uninit" ∷ codes "--wide" ∷ []
+own_names other = []
 
--- the name is one of an option of a command that evaluates a circuit, or of another one
-abbrev pub knows : Bool → List ℕ → Bool
-knows evaluates name = if list_any (bytes_eq name) eval_names then evaluates
-    else list_any (bytes_eq name) option_names
+-- the name is one of an option of this command
+abbrev pub knows : Verb → List ℕ → Bool
+knows verb name =
+    list_any (bytes_eq name) (own_names verb) || list_any (bytes_eq name) option_names
 
 -- the names of the options without a value
 abbrev pub flag_names : List (List ℕ)
@@ -58,19 +66,28 @@ place_of name options = position (has_name name) options
 abbrev pub has_option : List ℕ → List (List ℕ) → Bool
 has_option name options = is_some (place_of name options)
 
--- the word of an option has the value that it wants: `--stats` and `--wide` none, `--uninit` a bit, and every
--- other a number
+-- the combiner that a word names
+abbrev pub combine_of : List ℕ → Option Combine
+combine_of word =
+    if bytes_eq word (codes "--combine=sum") then Some Sum
+    else (if bytes_eq word (codes "--combine=max") then Some Max
+    else (if bytes_eq word (codes "--combine=min") then Some Min
+    else (if bytes_eq word (codes "--combine=xor") then Some Xor else None)))
+
+-- the word of an option has the value that it wants: `--stats` and `--wide` none, `--uninit` a bit, `--combine` the name
+-- of a combiner, and every other a number
 abbrev pub has_value : List ℕ → Bool
 has_value word =
     if list_any (bytes_eq (name_of word)) flag_names then bytes_eq word (name_of word)
     else (if has_name (codes "--uninit") word
     then bytes_eq word (codes "--uninit=0") || bytes_eq word (codes "--uninit=1")
-    else is_some (number_in word))
+    else (if has_name (codes "--combine") word then is_some (combine_of word)
+    else is_some (number_in word)))
 
 -- what is wrong with an option word after these earlier ones
-abbrev pub option_fault : Bool → List (List ℕ) → List ℕ → Option UsageKind
-option_fault evaluates earlier word =
-    if not (knows evaluates (name_of word)) then Some UnknownOption
+abbrev pub option_fault : Verb → List (List ℕ) → List ℕ → Option UsageKind
+option_fault verb earlier word =
+    if not (knows verb (name_of word)) then Some UnknownOption
     else (if has_option (name_of word) earlier then Some RepeatedOption
     else (if not (has_value word) then Some BadValue else None))
 
@@ -80,17 +97,22 @@ refused_or None number behind = behind
 refused_or (Some kind) number behind = Some (record { kind = kind; word = number })
 
 -- the first refusal among option words that stand after these earlier ones
-abbrev pub options_refusal : Bool → List (List ℕ) → List (List ℕ) → Option Usage
-options_refusal evaluates earlier [] = None
-options_refusal evaluates earlier (word ∷ words) =
-    refused_or (option_fault evaluates earlier word) (length earlier + 1)
-    (options_refusal evaluates (earlier ++ word ∷ []) words)
+abbrev pub options_refusal : Verb → List (List ℕ) → List (List ℕ) → Option Usage
+options_refusal verb earlier [] = None
+options_refusal verb earlier (word ∷ words) =
+    refused_or (option_fault verb earlier word) (length earlier + 1)
+    (options_refusal verb (earlier ++ word ∷ []) words)
 
 -- the number that the option of this name gives, or the default
 abbrev pub number_or : List ℕ → List (List ℕ) → ℕ → ℕ
 number_or name options default =
     unwrap_or (option_and_then (λ place. number_in (get_or options place []))
     (place_of name options)) default
+
+-- the combiner that the options say, or else the sum
+abbrev pub combine_with : List (List ℕ) → Combine
+combine_with options = unwrap_or (option_and_then (λ place. combine_of (get_or options place []))
+    (place_of (codes "--combine") options)) Sum
 
 -- the number of the word of the option of this name, which stands after the command
 abbrev pub word_of : List ℕ → List (List ℕ) → ℕ

@@ -1,19 +1,20 @@
 ghost use Rattle.std.specs.Prelude.{◌≡◌, ◌+◌, ◌-◌, ◌<◌, ◌≤◌, ◌^◌, length, IfOk};
-ghost use Rattle.em_words.specs.Job.{texts_of, job_of, task_name, task_of, blocks_with, count_at, count_within, default_frames, evaluates, job_by, job_with, made_job, name_at, number_at, operand_count, operands_by, operands_of, operands_wanted, shape_with, task_at, task_with, uninit_with, verb_of, IsCount, IsJob, IsOrigin};
+ghost use Rattle.em_words.specs.Job.{texts_of, job_of, task_name, task_of, blocks_with, count_at, count_within, default_frames, job_by, job_with, made_job, name_at, number_at, operand_count, operands_by, operands_of, operands_wanted, shape_with, task_at, task_with, uninit_with, verb_of, IsCount, IsJob, IsOrigin};
 
 use crate::option::{
-    BLOCK, BLOCKS, FRAMES, STATS, UNINIT, WIDE, has_option, number_or, option_words, test_options,
-    word_of,
+    BLOCK, BLOCKS, FRAMES, STATS, UNINIT, WIDE, combine_with, has_option, number_or, option_words,
+    test_options, word_of,
 };
 use em_ends::{Usage, UsageKind};
 use em_lines::{FileKind, number};
 use em_record::{Shape, ShapeFault};
+use em_settle::Combine;
 
 /// What a run does with its files.
 #[derive(Clone, Copy, Debug, PartialEq, Eq, Drop)]
 pub enum Task {
-    /// A file of commands is answered.
-    Answer(FileKind),
+    /// A file of commands is answered. The adds of a map file are joined by `combine`.
+    Answer { kind: FileKind, combine: Combine },
     /// A circuit is evaluated on a stimulus, which is its second file. An uninitialised latch begins with
     /// the bit `uninit`; without it a circuit that has one is refused. With `wide` up to 64 steps are taken
     /// at once, and a circuit that has latches is refused.
@@ -75,24 +76,43 @@ pub fn task_name(task: Task) -> &'static [u8]
     ensures short { length result.now ≤ 20 }
 {
     match task {
-        Task::Answer(FileKind::Map) => b"map",
-        Task::Answer(FileKind::Queue) => b"queue",
-        Task::Answer(FileKind::Stab) => b"stab",
+        Task::Answer {
+            kind: FileKind::Map,
+            ..
+        } => b"map",
+        Task::Answer {
+            kind: FileKind::Queue,
+            ..
+        } => b"queue",
+        Task::Answer {
+            kind: FileKind::Stab,
+            ..
+        } => b"stab",
         Task::Eval { .. } => b"eval",
     }
 }
 
-/// The task of a command.
+/// The answering of a file of this kind by no option of its own.
+fn answering(kind: FileKind) -> Task
+    ensures { result ≡ Task.Answer kind Combine.Sum }
+{
+    Task::Answer {
+        kind,
+        combine: Combine::Sum,
+    }
+}
+
+/// The task of a command, before its options are read.
 fn task_of(word: &str) -> Option<Task>
     ensures { result ≡ task_of word.now }
 {
     let word = word.as_bytes();
-    if word == task_name(Task::Answer(FileKind::Map)) {
-        Some(Task::Answer(FileKind::Map))
-    } else if word == task_name(Task::Answer(FileKind::Queue)) {
-        Some(Task::Answer(FileKind::Queue))
-    } else if word == task_name(Task::Answer(FileKind::Stab)) {
-        Some(Task::Answer(FileKind::Stab))
+    if word == task_name(answering(FileKind::Map)) {
+        Some(answering(FileKind::Map))
+    } else if word == task_name(answering(FileKind::Queue)) {
+        Some(answering(FileKind::Queue))
+    } else if word == task_name(answering(FileKind::Stab)) {
+        Some(answering(FileKind::Stab))
     } else if word == task_name(PLAIN_EVAL) {
         Some(PLAIN_EVAL)
     } else {
@@ -176,22 +196,14 @@ fn task_with(task: Task, options: &[String]) -> Task
     ensures { result ≡ task_with task (texts_of options.now) }
 {
     match task {
-        Task::Answer(kind) => Task::Answer(kind),
+        Task::Answer { kind, .. } => Task::Answer {
+            kind,
+            combine: combine_with(options),
+        },
         Task::Eval { .. } => Task::Eval {
             uninit: uninit_with(options),
             wide: has_option(options, WIDE),
         },
-    }
-}
-
-/// Whether a command evaluates a circuit of its files.
-fn evaluates(verb: Verb) -> bool
-    ensures { result ≡ evaluates verb }
-{
-    match verb {
-        Verb::Over(Task::Eval { .. }) => true,
-        Verb::Over(Task::Answer(_)) => false,
-        Verb::Generate => false,
     }
 }
 
@@ -201,7 +213,7 @@ fn operand_count(task: Task) -> u64
     ensures few { result ≤ 2 }
 {
     match task {
-        Task::Answer(_) => 1,
+        Task::Answer { .. } => 1,
         Task::Eval { .. } => 2,
     }
 }
@@ -359,7 +371,7 @@ pub fn read_job(words: &[String]) -> Result<Job, Usage>
         });
     };
     let options = option_words(&words[1..]);
-    test_options(evaluates(verb), options)?;
+    test_options(verb, options)?;
     let first = options.len() as u64 + 1;
     let file = operands_of(operands_wanted(verb), first, words.len() as u64)?;
     job_by(verb, words, options, file)

@@ -3,10 +3,12 @@ ghost use Rattle.std.specs.List.{list_any};
 ghost use Rattle.std.specs.Prelude.{◌≡◌, ◌+◌, ◌==◌, [], bytes_eq, not, position, string_bytes};
 ghost use Rattle.std.specs.Result.{result_err, result_ok};
 ghost use Rattle.em_words.specs.Job.{texts_of};
-ghost use Rattle.em_words.specs.Options.{has_name, has_option, has_value, is_option, eval_names, flag_names, name_of, number_in, number_or, knows, option_fault, option_words, options_refusal, word_of};
+ghost use Rattle.em_words.specs.Options.{has_name, has_option, has_value, is_option, combine_of, combine_with, flag_names, own_names, name_of, number_in, number_or, knows, option_fault, option_words, options_refusal, word_of};
 
+use crate::job::{Task, Verb};
 use em_ends::{Usage, UsageKind};
-use em_lines::number;
+use em_lines::{FileKind, number};
+use em_settle::Combine;
 
 /// The option that gives the records of a block.
 pub const BLOCK: &[u8] = b"--block";
@@ -25,6 +27,18 @@ pub const UNINIT: &[u8] = b"--uninit";
 
 /// The option that takes many steps of a circuit at once.
 pub const WIDE: &[u8] = b"--wide";
+
+/// The option that names how the adds of a map file are joined.
+const COMBINE: &[u8] = b"--combine";
+
+/// The words that are this option.
+const COMBINE_SUM: &[u8] = b"--combine=sum";
+
+const COMBINE_MAX: &[u8] = b"--combine=max";
+
+const COMBINE_MIN: &[u8] = b"--combine=min";
+
+const COMBINE_XOR: &[u8] = b"--combine=xor";
 
 /// The two words that are the option of an uninitialised latch.
 const UNINIT_0: &[u8] = b"--uninit=0";
@@ -81,11 +95,20 @@ fn has_name(word: &String, name: &[u8]) -> bool
     name_of(bytes_of(word)) == name
 }
 
-/// Whether the name is one of an option that a command has only if it evaluates a circuit.
-fn is_of_eval(name: &[u8]) -> bool
-    ensures { result ≡ list_any (bytes_eq name.now) eval_names }
+/// Whether the name is one of an option that this command has besides those of all.
+fn is_own(verb: Verb, name: &[u8]) -> bool
+    ensures { result ≡ list_any (bytes_eq name.now) (own_names verb) }
 {
-    name == UNINIT || name == WIDE
+    match verb {
+        Verb::Over(Task::Eval { .. }) => name == UNINIT || name == WIDE,
+        Verb::Over(
+            Task::Answer {
+                kind: FileKind::Map,
+                ..
+            },
+        ) => name == COMBINE,
+        _ => false,
+    }
 }
 
 /// Whether the name is one of an option without a value.
@@ -95,14 +118,27 @@ fn is_flag(name: &[u8]) -> bool
     name == STATS || name == WIDE
 }
 
-/// Whether the name is one of an option of a command that evaluates a circuit, or of another one.
-fn is_known(evaluates: bool, name: &[u8]) -> bool
-    ensures { result ≡ knows evaluates name.now }
+/// Whether the name is one of an option of this command.
+fn is_known(verb: Verb, name: &[u8]) -> bool
+    ensures { result ≡ knows verb name.now }
 {
-    if is_of_eval(name) {
-        evaluates
+    is_own(verb, name) || name == BLOCK || name == FRAMES || name == BLOCKS || name == STATS
+}
+
+/// The combiner that a word names.
+fn combine_of(word: &[u8]) -> Option<Combine>
+    ensures { result ≡ combine_of word.now }
+{
+    if word == COMBINE_SUM {
+        Some(Combine::Sum)
+    } else if word == COMBINE_MAX {
+        Some(Combine::Max)
+    } else if word == COMBINE_MIN {
+        Some(Combine::Min)
+    } else if word == COMBINE_XOR {
+        Some(Combine::Xor)
     } else {
-        name == BLOCK || name == FRAMES || name == BLOCKS || name == STATS
+        None
     }
 }
 
@@ -114,6 +150,8 @@ fn has_value(word: &[u8]) -> bool
         word == name_of(word)
     } else if name_of(word) == UNINIT {
         word == UNINIT_0 || word == UNINIT_1
+    } else if name_of(word) == COMBINE {
+        combine_of(word).is_some()
     } else {
         number_in(word).is_some()
     }
@@ -152,6 +190,17 @@ pub fn number_or(options: &[String], name: &[u8], default: u64) -> u64
     }
 }
 
+/// The combiner that the options say, or else the sum.
+#[tactic(auto, using(crate::proofs::RefusalLaws::combine_found, crate::proofs::RefusalLaws::combine_missing))]
+pub fn combine_with(options: &[String]) -> Combine
+    ensures { result ≡ combine_with (texts_of options.now) }
+{
+    match place_of(options, COMBINE) {
+        Some(place) => combine_of(bytes_of(&options[place])).unwrap_or(Combine::Sum),
+        None => Combine::Sum,
+    }
+}
+
 /// The number of the word of the option of this name, where it stands among the option words.
 #[tactic(auto, using(crate::proofs::OptionLemmas::position_map, crate::proofs::RefusalLaws::word_missing))]
 pub fn word_of(options: &[String], name: &[u8]) -> u64
@@ -164,11 +213,11 @@ pub fn word_of(options: &[String], name: &[u8]) -> u64
 }
 
 /// What is wrong with an option word after these earlier ones.
-fn option_fault(evaluates: bool, earlier: &[String], word: &[u8]) -> Option<UsageKind>
-    ensures { result ≡ option_fault evaluates (texts_of earlier.now) word.now }
+fn option_fault(verb: Verb, earlier: &[String], word: &[u8]) -> Option<UsageKind>
+    ensures { result ≡ option_fault verb (texts_of earlier.now) word.now }
 {
     let name = name_of(word);
-    if !is_known(evaluates, name) {
+    if !is_known(verb, name) {
         return Some(UsageKind::UnknownOption);
     }
     if has_option(earlier, name) {
@@ -191,12 +240,12 @@ pub fn option_words(words: &[String]) -> &[String]
     }
 }
 
-/// Tests the option words of a command that evaluates a circuit, or of another one, each in its turn.
-pub fn test_options(evaluates: bool, options: &[String]) -> Result<(), Usage>
-    ensures { result_err result ≡ options_refusal evaluates [] (texts_of options.now) }
+/// Tests the option words of this command, each in its turn.
+pub fn test_options(verb: Verb, options: &[String]) -> Result<(), Usage>
+    ensures { result_err result ≡ options_refusal verb [] (texts_of options.now) }
 {
     for (place, word) in options.iter().enumerate() {
-        if let Some(kind) = option_fault(evaluates, &options[..place], bytes_of(word)) {
+        if let Some(kind) = option_fault(verb, &options[..place], bytes_of(word)) {
             return Err(Usage {
                 kind,
                 word: place as u64 + 1,

@@ -1,5 +1,7 @@
 -- What the top call says of a job, from how its run ended.
-use Rattle.std.proofs.Common.{◌≡◌, ℕ, ◌+◌, ◌-◌, ◌*◌, ◌<◌, ◌≤◌, ◌^◌, inl, inr, ⊎_elim, Bool, List, Option, refl, ap, subst, ◌∙◌, arith, Ok, IfSome}
+use Rattle.std.proofs.Common.{◌≡◌, ℕ, ◌+◌, ◌-◌, ◌*◌, ◌<◌, ◌≤◌, ◌^◌, inl, inr, ⊎_elim, Bool, List, Option, refl, sym, ap, subst, ◌∙◌, arith, Ok, IfSome}
+use Rattle.std.specs.Prelude.{String}
+use Rattle.std.specs.Global.{Global}
 use Rattle.em_record.specs.Shape.{ShapeNumbers}
 use Rattle.em_io.specs.Shelf.{SlotState, Stand}
 use Rattle.em_io.specs.declared.shelf.Shelf.{Ghosts as ShelfGhosts}
@@ -19,12 +21,13 @@ use Rattle.em_ends.specs.declared.status.Status.TheVariants as status
 use Rattle.em_ends.specs.Asked.{Asked}
 use Rattle.em_run.specs.Tasks.{OpensNamed}
 use Rattle.emtool.specs.Bound.{transfer_bound, stated_room}
-use Rattle.em_run.specs.Due.{due_by, texts_on}
+use Rattle.em_run.specs.Due.{due_by, job_names, texts_on}
 use Rattle.em_ends.specs.Opens.{ReadsNamed}
 use Rattle.em_run.specs.Origin.{LeavesOutside, OnMade, asked_on, slots_of, tells_of}
 use Rattle.emtool.specs.Promise.{Completes, EndsAsDue, FullHasCause, GivesDue, KeepsCost, Run, room_of, IsTold}
 use Rattle.em_ends.specs.Ended.{Caused, Ended, Outside, outside}
-use Rattle.em_run.specs.Runs.{HasSizes, RunsJob, RunsOn}
+use Rattle.em_run.specs.Runs.{HasRig, HasSizes, NamesJob, RunsJob, RunsOn, RunsWords}
+use Rattle.em_words.specs.Job.{job_of, texts_of}
 use Rattle.em_ends.specs.Status.{OnBegun, OnUsage}
 use Rattle.em_ends.proofs.EndLaws.{ended_opened, full_by_moves}
 
@@ -35,9 +38,9 @@ origin_room : (origin : Origin) (task : Task) (shape : ShapeNumbers) (texts : Sl
     → IfSome (asked_on origin task texts).room (λ f. used < f shape slots)
     → used ≤ transfer_bound task shape texts (slots_of origin slots) + 2 * shape.frames
     → used < stated_room task shape texts (slots_of origin slots)
-origin_room Files (Answer kind) shape texts slots used h k = omega (arith, h, k)
+origin_room Files (Answer kind combine) shape texts slots used h k = omega (arith, h, k)
 origin_room Files (Eval uninit wide) shape texts slots used h k = omega (arith, h, k)
-origin_room (Made start count) (Answer kind) shape texts slots used h k = omega (arith, h, k)
+origin_room (Made start count) (Answer kind combine) shape texts slots used h k = omega (arith, h, k)
 origin_room (Made start count) (Eval uninit wide) shape texts slots used h k = omega (arith, h, k)
 
 -- the moves of a run on texts of this origin are within the transfer cost
@@ -45,9 +48,9 @@ origin_moves : (origin : Origin) (task : Task) (shape : ShapeNumbers) (texts : S
     (slots : Slot → SlotState) (before after : ℕ)
     → IfSome (asked_on origin task texts).moves (λ f. after ≤ before + f shape slots)
     → after - before ≤ transfer_bound task shape texts (slots_of origin slots)
-origin_moves Files (Answer kind) shape texts slots before after h = omega (arith, h)
+origin_moves Files (Answer kind combine) shape texts slots before after h = omega (arith, h)
 origin_moves Files (Eval uninit wide) shape texts slots before after h = omega (arith, h)
-origin_moves (Made start count) (Answer kind) shape texts slots before after h = omega (arith, h)
+origin_moves (Made start count) (Answer kind combine) shape texts slots before after h = omega (arith, h)
 origin_moves (Made start count) (Eval uninit wide) shape texts slots before after h = omega (arith, h)
 
 -- Where the device isn't begun or there is no memory, shelf and output stay.
@@ -200,3 +203,17 @@ opened_run {h = h} {w = w} {job = job} {names = names} {device = device} {shelf 
     (ended_opened tells asked s.pool.shape job.shape s.blocks job.blocks old
     (outside h w s.device shelf out) (outside h w t.device shelf_after out_after) status shape
     o.blocks_is o.told o.unmoved refl r.ended)) b
+
+-- The run of words that name this job is that of the job.
+pub words_run : {H W : Type 0} {h : ShelfGhosts H} {w : SinkGhosts W} {s t : RigState} {shelf shelf_after : H} {out out_after : W}
+    {status : Status} {job : Job} (words : List (String Global)) → job_of (texts_of words) ≡ Ok job
+    → RunsWords h w (texts_of words) (job_of (texts_of words)) s t shelf out shelf_after out_after status
+    → RunsOn h w job.task job.origin (job_names (texts_of words) job) s t shelf out shelf_after out_after status
+words_run {h = h} {w = w} {s = s} {t = t} {shelf = shelf} {shelf_after = shelf_after} {out = out} {out_after = out_after}
+    {status = status} words e r =
+    subst (λ j. RunsWords h w (texts_of words) j s t shelf out shelf_after out_after status) e r
+
+-- A rig of its sizes is one for these words.
+pub words_rig : (s : RigState) (job : Job) (words : List (String Global)) → job_of (texts_of words) ≡ Ok job → HasRig job s
+    → NamesJob (job_of (texts_of words)) s
+words_rig s job words e h = subst (λ j. NamesJob j s) (sym e) h

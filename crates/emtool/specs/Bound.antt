@@ -15,7 +15,7 @@ use Rattle.em_answers.specs.Limits.{syncs_in}
 -- the transfer cost of a run's size, by the text of each slot and how far it was read; of a map as often as syncs were
 -- taken, and once more
 abbrev pub transfer_bound : Task → ShapeNumbers → (Slot → List ℕ) → (Slot → SlotState) → ℕ
-transfer_bound (Answer kind) shape texts slots = (syncs_in kind (texts First) (slots First).left + 1)
+transfer_bound (Answer kind combine) shape texts slots = (syncs_in kind (texts First) (slots First).left + 1)
     * cost shape (run_size kind (texts First) (slots First).left)
 transfer_bound (Eval uninit wide) shape texts slots =
     eval_cost shape (circuit_read (start_of uninit) (slots First) (texts First))
@@ -24,7 +24,7 @@ transfer_bound (Eval uninit wide) shape texts slots =
 
 -- the room of a run's size, by the same; of an evaluation that of twice its circuit's size
 abbrev pub size_room : Task → ShapeNumbers → (Slot → List ℕ) → (Slot → SlotState) → ℕ
-size_room (Answer kind) shape texts slots = room shape (run_size kind (texts First) (slots First).left)
+size_room (Answer kind combine) shape texts slots = room shape (run_size kind (texts First) (slots First).left)
 size_room (Eval uninit wide) shape texts slots =
     eval_room shape (circuit_read (start_of uninit) (slots First) (texts First))
 

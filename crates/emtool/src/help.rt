@@ -11,10 +11,11 @@ usage: emtool map|queue|stab [options] FILE
 Answers a command file, or evaluates a circuit, with structures in external memory.
 
 Commands:
-  map FILE      lines `put K V`, `del K`, `get K` and `sync`; prints one line for each get: the value
-                of the key by the commands before it, or `-`; at each `sync`, before it reads on, the
-                lines of all gets so far that weren't printed, and at the end the others; where a line
-                is faulty, those that were printed at the syncs before it
+  map FILE      lines `put K V`, `add K V`, `del K`, `get K` and `sync`; prints one line for each get:
+                the value of the key by the commands before it, or `-`; an add joins V to the value
+                of the key, or sets it if there is none (--combine); at each `sync`, before it reads
+                on, the lines of all gets so far that weren't printed, and at the end the others;
+                where a line is faulty, those that were printed at the syncs before it
                 example: emtool map prices.txt
   queue FILE    lines `push K V` and `pop`; prints one line for each pop before it reads on: the key
                 and the value of the element with the least key, of equal keys the one pushed first,
@@ -45,6 +46,10 @@ Options, before the operands:
                 example: emtool map --block=128 --frames=64 prices.txt
   --blocks=N    blocks of the scratch device, 1 to 1099511627776; default 1048576
                 example: emtool map --blocks=1000 prices.txt
+  --combine=NAME
+                at `map` alone: how an add joins two values: sum (modulo 2^64), max, min or xor;
+                default sum
+                example: emtool map --combine=max prices.txt
   --uninit=N    at `eval` alone: 0 or 1, the bit with which a latch begins if its reset is its own
                 literal; no default: without the option such a circuit is refused
                 example: emtool eval --uninit=0 counter.aag counter.txt

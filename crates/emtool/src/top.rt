@@ -1,10 +1,10 @@
-ghost use Rattle.std.specs.Prelude.{◌≡◌, ◌-◌, ◌≤◌};
+ghost use Rattle.std.specs.Prelude.{◌≡◌, ◌-◌, ◌≤◌, Ok};
 ghost use Rattle.std.specs.Result.{result_err};
 ghost use Rattle.em_record.specs.Count.{Rose};
 ghost use Rattle.em_io.specs.Shelf.{IsFresh};
 ghost use Rattle.em_frames.specs.Pool.{fresh_pool};
-ghost use Rattle.em_run.specs.Due.{names_on};
-ghost use Rattle.em_words.specs.Job.{HasBlocks, IsOrigin, texts_of, job_of};
+ghost use Rattle.em_run.specs.Due.{job_names};
+ghost use Rattle.em_words.specs.Job.{HasBlocks, texts_of, job_of};
 ghost use Rattle.emtool.specs.Statistics.{HasStats};
 ghost use Rattle.emtool.specs.Promise.{run_of, Begins, Completes, DamageHasCause, EndsAsDue, FullHasCause, GivesDue, KeepsCost, LeavesAll, Opens, ReadsFiles, Reports, ReportsFront, SendsFront};
 ghost use Rattle.em_ends.specs.Ended.{outside, GoesOn};
@@ -14,28 +14,26 @@ ghost use Rattle.em_ends.specs.Status.{refusal_of, OnBegun, OnNoMemory, OnUsage}
 use em_ends::{Outcome, Status, report, stats_of, unmoved};
 use em_frames::{BeginFault, Device, Grant, Pool};
 use em_io::{Shelf, Sink};
-use em_run::run_on;
+use em_run::run_job;
 use em_space::Rig;
-use em_words::{Job, name_at, read_job};
+use em_words::{Job, read_job};
 
-/// Runs a job with a pool of its shape, which it gives up. The names are those of the job's files, if
-/// it has some.
+/// Runs the job that the words name with a pool of its shape, which it gives up.
 pub fn run_pool<D: Device, H: Shelf, W: Sink>(
+    words: &[String],
     job: &Job,
-    first: &str,
-    second: &str,
     pool: Pool,
     device: &mut D,
     shelf: &mut H,
     out: &mut W,
 ) -> Outcome
+    requires job { job_of (texts_of words.now) ≡ Ok job.now }
     requires blocks { HasBlocks job.now }
-    requires origin { IsOrigin job.now.origin }
     requires pool { pool ≡ fresh_pool job.now.shape }
     requires device { (D.state device.old).blocks ≡ 0 }
     requires shelf { IsFresh (H.stand shelf.old) }
     ensures runs { RunsJob H.Shelf W.Sink job.now
-        (names_on job.now.origin job.now.task first.now second.now)
+        (job_names (texts_of words.now) job.now)
         (D.state device.old) shelf.old out.old (D.state device.new) shelf.new out.new
         result.status }
     ensures none_moved { (D.state device.old).moves ≡ 0 }
@@ -45,7 +43,7 @@ pub fn run_pool<D: Device, H: Shelf, W: Sink>(
 {
     match Rig::open(job.shape, job.blocks, device, pool) {
         Ok(mut rig) => {
-            let status = run_on(job.task, job.origin, &mut rig, shelf, first, second, out);
+            let status = run_job(words, &mut rig, shelf, out);
             let stats = stats_of(&rig, job.stats);
             let pool = rig.close();
             pool.end();
@@ -68,23 +66,21 @@ pub fn run_pool<D: Device, H: Shelf, W: Sink>(
     }
 }
 
-/// Runs a job with a pool of its shape, which the grant makes. The names are those of the job's
-/// files.
-fn run_job<D: Device, H: Shelf, W: Sink>(
+/// Runs the job that the words name with a pool of its shape, which the grant makes.
+fn run_granted<D: Device, H: Shelf, W: Sink>(
+    words: &[String],
     job: &Job,
-    first: &str,
-    second: &str,
     grant: Grant,
     device: &mut D,
     shelf: &mut H,
     out: &mut W,
 ) -> Outcome
+    requires job { job_of (texts_of words.now) ≡ Ok job.now }
     requires blocks { HasBlocks job.now }
-    requires origin { IsOrigin job.now.origin }
     requires device { (D.state device.old).blocks ≡ 0 }
     requires shelf { IsFresh (H.stand shelf.old) }
     ensures runs { RunsJob H.Shelf W.Sink job.now
-        (names_on job.now.origin job.now.task first.now second.now)
+        (job_names (texts_of words.now) job.now)
         (D.state device.old) shelf.old out.old (D.state device.new) shelf.new out.new
         result.status }
     ensures none_moved { OnBegun result.status ((D.state device.old).moves ≡ 0) }
@@ -99,7 +95,7 @@ fn run_job<D: Device, H: Shelf, W: Sink>(
             stats: None,
         };
     };
-    run_pool(job, first, second, pool, device, shelf, out)
+    run_pool(words, job, pool, device, shelf, out)
 }
 
 /// Runs the job that the words name: `words` are those after the program's name. Answers of a
@@ -180,17 +176,9 @@ pub fn emtool<D: Device, H: Shelf, W: Sink, E: Sink>(
         words.now device.old shelf.old out.old device.new shelf.new out.new) result }
     ensures message_later { E.faults err.old ≤ E.faults err.new }
 {
-    // The words, which carry an allocator, go no further than `read_job` and `name_at`.
+    // The words, which carry an allocator, go no further than `read_job`, and `run_job`, which reads them again.
     let outcome = match read_job(words) {
-        Ok(job) => run_job(
-            &job,
-            name_at(words, job.file),
-            name_at(words, job.file + 1),
-            grant,
-            device,
-            shelf,
-            out,
-        ),
+        Ok(job) => run_granted(words, &job, grant, device, shelf, out),
         Err(usage) => Outcome {
             status: Status::Usage {
                 kind: usage.kind,

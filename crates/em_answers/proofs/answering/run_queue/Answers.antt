@@ -9,6 +9,7 @@ use Rattle.em_ends.specs.Stop.{fault_counts}
 use Rattle.em_answers.specs.Limits.{queue_limits}
 use Rattle.em_answers.proofs.FileRuns.{runs_answered}
 use Rattle.em_answers.proofs.QueueRuns.{calls_within, gives_up, queue_filled, queue_stops}
+use Rattle.em_answers.proofs.Rooms.{queue_keeps}
 use Rattle.em_answers.proofs.answering.run_queue.Goals as goal
 
 pub returns-in-Ok-clause-gives : goal.returns-in-Ok-clause-gives
@@ -70,15 +71,21 @@ returns-in-Err-clause-moves g c = λ t d.
     (ap (λ s. s.moves) c.abandon.ensures.leaves.same)
 
 pub returns-in-Ok-clause-runs : goal.returns-in-Ok-clause-runs
-returns-in-Ok-clause-runs g c =
+returns-in-Ok-clause-runs g c = λ apply.
     let first = seen g.D.Device.state c.args.rig.now in
     let mid = seen g.D.Device.state c.serve-done.new.rig in
     let last = seen g.D.Device.state c.abandon.new.rig in
+    let stand = g.H.Shelf.stand c.args.shelf.now in
+    let after = g.H.Shelf.stand c.serve-done.new.shelf in
+    let feed = c.new-feed.result in
+    let queue = c.serve-done.new.queue in
+    let counts = g.Q.Queue.counts queue in
     let r = c.in-Ok.ensures in
     let l = c.abandon.ensures.leaves in
-    runs_answered g.H.Shelf g.W.Sink (queue_limits g.Q.Queue.room) kind.Queue
+    let laws = g.met.Q.Queue in
+    runs_answered apply g.H.Shelf g.W.Sink (queue_limits g.Q.Queue.room) kind.Queue
     (g.Q.Queue.blocks c.args.queue first) c.args.shelf.now c.args.out.now c.serve-done.new.feed
-    c.serve-done.new.shelf c.serve-done.new.out first last c.requires.ready c.new-feed.result (Ok tt)
+    c.serve-done.new.shelf c.serve-done.new.out first last c.requires.ready feed (Ok tt)
     c.new-feed.ensures (record {
       sound = l.sound;
       touches = touches_then _ first mid last r.calls_only.touches l.touches;
@@ -89,10 +96,12 @@ returns-in-Ok-clause-runs g c =
       answers = r.answers;
       stop = tt;
       moves = λ t. tt;
+      most = queue_keeps g.Q.Queue.room g.H.Shelf.tells (rest feed stand) (after.slot feed.slot).left counts mid last
+          laws.rising_room (laws.k_most queue mid r.frames) r.calls (laws.fits queue mid r.frames) r.most l;
     })
 
 pub returns-in-Err-clause-runs : goal.returns-in-Err-clause-runs
-returns-in-Err-clause-runs g c =
+returns-in-Err-clause-runs g c = λ apply.
     let first = seen g.D.Device.state c.args.rig.now in
     let mid = seen g.D.Device.state c.serve-done.new.rig in
     let last = seen g.D.Device.state c.abandon.new.rig in
@@ -106,7 +115,7 @@ returns-in-Err-clause-runs g c =
     let l = c.abandon.ensures.leaves in
     let laws = g.met.Q.Queue in
     rw (c.status_of.ensures.is)
-    (runs_answered g.H.Shelf g.W.Sink (queue_limits g.Q.Queue.room) kind.Queue
+    (runs_answered apply g.H.Shelf g.W.Sink (queue_limits g.Q.Queue.room) kind.Queue
     (g.Q.Queue.blocks c.args.queue first) c.args.shelf.now c.args.out.now c.serve-done.new.feed
     c.serve-done.new.shelf c.serve-done.new.out first last c.requires.ready feed (Err stop)
     c.new-feed.ensures (record {
@@ -126,4 +135,6 @@ returns-in-Err-clause-runs g c =
             counts stop laws.rising_room (laws.k_most queue mid r.frames) r.calls l r.full;
       };
       moves = λ t. tt;
+      most = queue_keeps g.Q.Queue.room g.H.Shelf.tells (rest feed stand) (after.slot feed.slot).left counts mid last
+          laws.rising_room (laws.k_most queue mid r.frames) r.calls (laws.fits queue mid r.frames) r.most l;
     }))

@@ -7,13 +7,14 @@ use Rattle.em_ends.specs.Stop.{Prints, fault_counts}
 use Rattle.em_answers.specs.Print.{records_text}
 use Rattle.em_answers.specs.Reading.{service_limits}
 use Rattle.em_answers.proofs.Due.{on_ok, print_stops, prints_due, reads_due, stop_on}
+use Rattle.em_answers.proofs.Rooms.{same_keeps}
 use Rattle.em_answers.proofs.ServiceMoves.{printed_reads}
 use Rattle.em_answers.proofs.read.answer_file.Goals as goal
 
 pub returns-in_err-answers-clause-answers : goal.returns-in_err-answers-clause-answers
 returns-in_err-answers-clause-answers g c = λ t d.
     let r = c.in_err-answers.ensures in
-    reads_due g.H.Shelf.tells g.S.Service.KIND (rest c.args.feed.now (g.H.Shelf.stand c.args.shelf.now))
+    reads_due (g.S.Service.combiner_of c.args.rule) g.H.Shelf.tells g.S.Service.KIND (rest c.args.feed.now (g.H.Shelf.stand c.args.shelf.now))
     (fault_counts (g.H.Shelf.faults c.args.shelf.now) (g.W.Sink.faults c.args.out.now))
     (fault_counts (g.H.Shelf.faults c.read_answers.new.shelf) (g.W.Sink.faults c.read_answers.new.out))
     (seen g.D.Device.state c.args.rig.now) (seen g.D.Device.state c.read_answers.new.rig) _ _
@@ -48,7 +49,7 @@ returns-clause-answers g c = λ t d.
     let printed : Prints g.W.Sink.took (records_text kind answers.stabs (chain_items mid answers.records))
     (g.W.Sink.state c.read_answers.new.out) (g.W.Sink.state c.print_answers.new.out) c.print_answers.result =
     rw c.KIND.ensures at (p.prints (r.goes.touches.told ∙ d)) in
-    prints_due g.met.W.Sink.rule (g.met.W.Sink.is_state c.args.out.now) kind
+    prints_due (g.S.Service.combiner_of c.args.rule) g.met.W.Sink.rule (g.met.W.Sink.is_state c.args.out.now) kind
     (rest c.args.feed.now (g.H.Shelf.stand c.args.shelf.now)) answers.stabs (chain_items mid answers.records)
     answers (g.W.Sink.faults c.read_answers.new.out) (g.W.Sink.faults c.print_answers.new.out) mid
     (seen g.D.Device.state c.print_answers.new.rig) c.print_answers.result g.met.S.Service.no_queue
@@ -69,3 +70,10 @@ returns-clause-moves g c = λ t.
     printed_reads g.S.Service.allowance g.S.Service.KIND _ _ (seen g.D.Device.state c.args.rig.now)
     (seen g.D.Device.state c.read_answers.new.rig) (seen g.D.Device.state c.print_answers.new.rig)
     (r.moves t) (λ d. let b = r.blocks t d in let m = c.print_answers.ensures.moves in omega (arith, b, m))
+
+pub returns-clause-most : goal.returns-clause-most
+returns-clause-most g c =
+    let k = c.print_answers.ensures.keeps in
+    same_keeps g.S.Service.room g.H.Shelf.tells g.S.Service.KIND _ _ (seen g.D.Device.state c.read_answers.new.rig)
+    (seen g.D.Device.state c.print_answers.new.rig) k.goes.touches.shape k.goes.touches.told k.most
+    c.in_ok-answers.ensures.most

@@ -25,7 +25,7 @@ returns-in-Sync-clause-moves g c =
 
 pub returns-in-Sync-clause-prints : goal.returns-in-Sync-clause-prints
 returns-in-Sync-clause-prints g c = λ told given has.
-    prints_sync g.S.Service.KIND given c.args.command c.in-Sync.is g.met.S.Service.no_queue
+    prints_sync (g.S.Service.combiner c.args.service.now) g.S.Service.KIND given c.args.command c.in-Sync.is g.met.S.Service.no_queue
     (rw c.in-Sync.is at c.requires.kind) (c.answer_sync.ensures.prints told _ _ has)
 
 -- another command was taken
@@ -44,7 +44,7 @@ returns-in-Ok-clause-moves g c =
 
 pub returns-in-Ok-clause-prints : goal.returns-in-Ok-clause-prints
 returns-in-Ok-clause-prints g c = λ told given has.
-    prints_other g.met.W.Sink.rule (g.met.W.Sink.is_state c.args.out.now) g.S.Service.KIND given c.args.command _
+    prints_other (g.S.Service.combiner c.args.service.now) g.met.W.Sink.rule (g.met.W.Sink.is_state c.args.out.now) g.S.Service.KIND given c.args.command _
     c.in_default.not-Sync
 
 -- or the service gave up
@@ -54,7 +54,7 @@ returns-in-Err-clause-moves g c =
 
 pub returns-in-Err-clause-prints : goal.returns-in-Err-clause-prints
 returns-in-Err-clause-prints g c = λ told given has.
-    prints_other g.met.W.Sink.rule (g.met.W.Sink.is_state c.args.out.now) g.S.Service.KIND given c.args.command _
+    prints_other (g.S.Service.combiner c.args.service.now) g.met.W.Sink.rule (g.met.W.Sink.is_state c.args.out.now) g.S.Service.KIND given c.args.command _
     c.in_default.not-Sync
 
 pub returns-in-Err-clause-full : goal.returns-in-Err-clause-full

@@ -1,4 +1,4 @@
-use Rattle.std.proofs.Common.{◌≡◌, ◌+◌, ◌++◌, ◌∷◌, List, [], ap, sym, subst, ◌∙◌, refl, arith, length, IsTrue}
+use Rattle.std.proofs.Common.{◌≡◌, ◌+◌, ◌++◌, ◌∷◌, ◌≤◌, List, [], ap, sym, subst, ◌∙◌, refl, arith, length, IsTrue}
 use Rattle.std.proofs.lemmas.List.{append-nil}
 use Rattle.em_io.specs.Feed.{rest}
 use Rattle.em_model.specs.Stab.{stab_answers}
@@ -11,11 +11,13 @@ use Rattle.em_chain.proofs.Keeps.{touches_none}
 use Rattle.em_lines.specs.CommandLine.{parsed_from}
 use Rattle.em_lines.specs.LineTaken.{LineTaken}
 use Rattle.em_lines.specs.Lines.{lines_of}
+use Rattle.em_lines.specs.RunSize.{run_size}
 use Rattle.em_lines.proofs.ReadLaws.{counted_left, counted_more, counted_none, counted_read, good_more}
 use Rattle.em_lines.proofs.Steps.{reads_then}
 use Rattle.em_services.specs.Service.{syncs_for}
-use Rattle.em_answers.proofs.Listing.{alone_next, answers_same, stabs_next, taken_most}
+use Rattle.em_answers.proofs.Listing.{alone_next, syncs_same, stabs_next, taken_most}
 use Rattle.em_answers.proofs.ReadingStops.{stops_command}
+use Rattle.em_answers.proofs.Rooms.{alone_keeps, call_keeps}
 use Rattle.em_answers.proofs.ServiceMoves.{command_reads, given_reads}
 use Rattle.em_answers.proofs.Synced.{given_all, given_faulty, given_stopped, given_unread, printed_next, printed_none}
 use Rattle.em_answers.proofs.read.read_all.Goals as goal
@@ -31,12 +33,13 @@ loop-next-init g c =
     record {
       goes = record { sound = r.sound; touches = touches_none _ s s (goes_nothing s r.sound).touches; frames = same_frames s.pool };
       free = r.free;
+      joins = refl;
       is = r.is;
       within = within_same s _;
       alone = r.alone;
       given = [];
       has = r.none;
-      printed = λ d. printed_none g.met.W.Sink.rule (g.met.W.Sink.is_state c.args.out.now) kind;
+      printed = λ d. printed_none (g.S.Service.combiner c.args.service.now) g.met.W.Sink.rule (g.met.W.Sink.is_state c.args.out.now) kind;
       write_later = omega arith;
       number = omega (arith, n);
       few = omega (arith, n);
@@ -65,7 +68,7 @@ pub returns-in-Err-Fault-clause-synced : goal.returns-in-Err-Fault-clause-synced
 returns-in-Err-Fault-clause-synced g c = λ told d.
     let inv = c.loop-next.invariant in
     let faulty = rw c.in-Err-Fault.field-0-is at (c.in-Err-Fault.ensures.fault told) in
-    given_faulty g.met.W.Sink.rule (g.met.W.Sink.is_state c.args.out.now) g.S.Service.KIND inv.given
+    given_faulty (g.S.Service.combiner c.args.service.now) g.met.W.Sink.rule (g.met.W.Sink.is_state c.args.out.now) g.S.Service.KIND inv.given
     (inv.printed d) _ _ (inv.good told) c.at_line.result
     (ap (λ r. r.good) (rw c.KIND.ensures at (rw inv.number at faulty)))
 
@@ -80,10 +83,18 @@ returns-in-Err-Fault-clause-moves g c = λ told.
     (laws.n_is service mid _ _ inv.has) (laws.syncs_few service mid _ _ inv.has)
     (counted_read g.S.Service.KIND inv.reads c.in-Err-Fault.ensures.reads.reads told (inv.counted told))
 
+pub returns-in-Err-Fault-clause-most : goal.returns-in-Err-Fault-clause-most
+returns-in-Err-Fault-clause-most g c =
+    let inv = c.loop-next.invariant in
+    alone_keeps g.S.Service.allowance g.S.Service.room g.H.Shelf.tells g.S.Service.KIND _ _ _
+    (g.S.Service.counts c.loop-next.service) (seen g.D.Device.state c.loop-next.rig) g.met.S.Service.rising_room
+    inv.goes.sound.shape inv.alone
+    (λ told. counted_read g.S.Service.KIND inv.reads c.in-Err-Fault.ensures.reads.reads told (inv.counted told))
+
 pub returns-in-Err-Read-clause-synced : goal.returns-in-Err-Read-clause-synced
 returns-in-Err-Read-clause-synced g c = λ told d.
     let inv = c.loop-next.invariant in
-    given_unread g.met.W.Sink.rule (g.met.W.Sink.is_state c.args.out.now) g.S.Service.KIND inv.given
+    given_unread (g.S.Service.combiner c.args.service.now) g.met.W.Sink.rule (g.met.W.Sink.is_state c.args.out.now) g.S.Service.KIND inv.given
     (inv.printed d) _ _ (inv.good told)
 
 pub returns-in-Err-Read-clause-moves : goal.returns-in-Err-Read-clause-moves
@@ -96,6 +107,14 @@ returns-in-Err-Read-clause-moves g c = λ told.
     (seen g.D.Device.state c.args.rig.now) mid inv.given _ laws.rising inv.goes inv.alone (inv.good told)
     (laws.n_is service mid _ _ inv.has) (laws.syncs_few service mid _ _ inv.has)
     (counted_read g.S.Service.KIND inv.reads c.in-Err-Read.ensures.reads.reads told (inv.counted told))
+
+pub returns-in-Err-Read-clause-most : goal.returns-in-Err-Read-clause-most
+returns-in-Err-Read-clause-most g c =
+    let inv = c.loop-next.invariant in
+    alone_keeps g.S.Service.allowance g.S.Service.room g.H.Shelf.tells g.S.Service.KIND _ _ _
+    (g.S.Service.counts c.loop-next.service) (seen g.D.Device.state c.loop-next.rig) g.met.S.Service.rising_room
+    inv.goes.sound.shape inv.alone
+    (λ told. counted_read g.S.Service.KIND inv.reads c.in-Err-Read.ensures.reads.reads told (inv.counted told))
 
 pub returns-in_default-clause-reads : goal.returns-in_default-clause-reads
 returns-in_default-clause-reads g c =
@@ -122,7 +141,7 @@ returns-in_default-clause-synced g c = λ told d.
     let inv = c.loop-next.invariant in
     let kind = g.S.Service.KIND in
     let ended = rw c.in_default.is at (c.in-Ok.ensures.ended told) in
-    given_all g.met.W.Sink.rule (g.met.W.Sink.is_state c.args.out.now) kind inv.given (inv.printed d) _ _
+    given_all (g.S.Service.combiner c.args.service.now) g.met.W.Sink.rule (g.met.W.Sink.is_state c.args.out.now) kind inv.given (inv.printed d) _ _
     (inv.good told) c.loop-next.stabs
     (ap (λ s. (parsed_from kind ((g.S.Service.counts c.loop-next.service).n + 1) (lines_of s)).good) ended.0)
 
@@ -136,6 +155,14 @@ returns-in_default-clause-moves g c = λ told.
     (seen g.D.Device.state c.args.rig.now) mid inv.given _ laws.rising inv.goes inv.alone (inv.good told)
     (laws.n_is service mid _ _ inv.has) (laws.syncs_few service mid _ _ inv.has)
     (counted_read g.S.Service.KIND inv.reads c.in-Ok.ensures.reads.reads told (inv.counted told))
+
+pub returns-in_default-clause-most : goal.returns-in_default-clause-most
+returns-in_default-clause-most g c =
+    let inv = c.loop-next.invariant in
+    alone_keeps g.S.Service.allowance g.S.Service.room g.H.Shelf.tells g.S.Service.KIND _ _ _
+    (g.S.Service.counts c.loop-next.service) (seen g.D.Device.state c.loop-next.rig) g.met.S.Service.rising_room
+    inv.goes.sound.shape inv.alone
+    (λ told. counted_read g.S.Service.KIND inv.reads c.in-Ok.ensures.reads.reads told (inv.counted told))
 
 pub returns-in_err-give-clause-goes : goal.returns-in_err-give-clause-goes
 returns-in_err-give-clause-goes g c =
@@ -168,17 +195,38 @@ returns-in_err-give-clause-moves g c = λ told.
     (inv.good told ∙ ap (λ r. inv.given ++ r.good) line.from) (laws.n_is service mid _ _ inv.has)
     (laws.syncs_few service mid _ _ inv.has) taken c.in_err-give.ensures.moves
 
+pub returns-in_err-give-clause-most : goal.returns-in_err-give-clause-most
+returns-in_err-give-clause-most g c =
+    let inv = c.loop-next.invariant in
+    let l = c.in-Ok.ensures in
+    let kind = g.S.Service.KIND in
+    let counts = g.S.Service.counts c.loop-next.service in
+    let text = rest c.args.feed.now (g.H.Shelf.stand c.args.shelf.now) in
+    let left = ((g.H.Shelf.stand c.take_line.new.shelf).slot c.args.feed.now.slot).left in
+    let few : IsTrue g.H.Shelf.tells → counts.n + 1 ≤ run_size kind text left = λ told.
+    let line = rw c.KIND.ensures at (rw inv.number at (rw c.in-Some.is at (l.taken told))) in
+    let more = counted_more kind _ _ _ counts.n c.in-Some.command (inv.counted told) line in
+    let taken = counted_left kind _ _ c.take_line.new.feed
+    (g.H.Shelf.stand c.take_line.new.shelf) c.args.feed.now.slot (counts.n + 1) more
+    (l.reads.reads.slot ∙ inv.reads.slot) (omega arith) in
+    let m = taken_most kind text left in
+    omega (arith, taken, m) in
+    call_keeps g.S.Service.allowance g.S.Service.room g.H.Shelf.tells kind text left _ _ (counts.n + 1) counts
+    (seen g.D.Device.state c.loop-next.rig) (seen g.D.Device.state c.give.new.rig) g.met.S.Service.rising_room
+    inv.goes.sound.shape c.in_err-give.ensures.goes.touches inv.alone (λ told. c.in_err-give.ensures.room)
+    (λ told. let n = few told in omega (arith, n)) few
+
 pub returns-in_err-give-clause-synced : goal.returns-in_err-give-clause-synced
 returns-in_err-give-clause-synced g c = λ told d.
     let inv = c.loop-next.invariant in
     let v = c.in_err-give.ensures in
     let kind = g.S.Service.KIND in
     let line = rw c.KIND.ensures at (rw inv.number at (rw c.in-Some.is at (c.in-Ok.ensures.taken told))) in
-    given_stopped g.met.W.Sink.rule (g.met.W.Sink.is_state c.args.out.now) kind inv.given (inv.printed d) _ _
+    given_stopped (g.S.Service.combiner c.args.service.now) g.met.W.Sink.rule (g.met.W.Sink.is_state c.args.out.now) kind inv.given (inv.printed d) _ _
     (inv.good told) c.in-Some.command _ (g.W.Sink.faults c.loop-next.out) (g.W.Sink.faults c.give.new.out)
     (seen g.D.Device.state c.loop-next.rig) (seen g.D.Device.state c.give.new.rig) _ _
     c.from_residual.ensures.1 (ap (λ r. r.good) line.from) v.cause
-    (v.prints (inv.goes.touches.told ∙ d) inv.given inv.has)
+    (rw inv.joins at (v.prints (inv.goes.touches.told ∙ d) inv.given inv.has))
 
 pub returns-in_err-give-clause-stop : goal.returns-in_err-give-clause-stop
 returns-in_err-give-clause-stop g c =
@@ -223,7 +271,8 @@ loop-next-preserved g c =
     let n = v.takes.n in
     record {
       goes = goes_within held _ first mid last inv.goes inv.within v.goes;
-      free = answers_same mid.pool last.pool inv.free v.goes.frames;
+      free = syncs_same mid.pool last.pool inv.free v.goes.frames;
+      joins = v.joins ∙ inv.joins;
       is = v.is;
       within = within_then first mid held _ _ inv.goes.touches inv.within v.takes.within;
       alone = alone_next g.S.Service.allowance g.S.Service.room (syncs_for kind (command ∷ [])) _ _ counts
@@ -231,8 +280,8 @@ loop-next-preserved g c =
           inv.alone v.goes.touches v.takes v.room v.moves;
       given = inv.given ++ command ∷ [];
       has = v.has inv.given inv.has;
-      printed = λ d. printed_next g.met.W.Sink.rule (g.met.W.Sink.is_state c.args.out.now) kind inv.given
-          (inv.printed d) command (v.prints (inv.goes.touches.told ∙ d) inv.given inv.has).all;
+      printed = λ d. printed_next (g.S.Service.combiner c.args.service.now) g.met.W.Sink.rule (g.met.W.Sink.is_state c.args.out.now) kind inv.given
+          (inv.printed d) command (rw inv.joins at (v.prints (inv.goes.touches.told ∙ d) inv.given inv.has)).all;
       write_later = omega (arith, inv.write_later, v.later);
       number = omega (arith, n, inv.number);
       few = let m = rw c.in-Some.is at l.number in omega (arith, m, n, inv.number);

@@ -10,7 +10,7 @@ use Rattle.em_lines.specs.CommandLine.{parsed_from, first_fault, good_commands}
 use Rattle.em_lines.specs.Lines.{lines_of}
 use Rattle.em_lines.specs.Reads.{Reads}
 use Rattle.em_lines.proofs.ReadLaws.{Counted}
-use Rattle.em_services.specs.Service.{CanAnswer}
+use Rattle.em_services.specs.Service.{CanSync}
 use Rattle.em_answers.specs.Answer.{synced_text}
 use Rattle.em_answers.specs.Reading.{StandsAlone}
 use Rattle.em_answers.proofs.read.read_all.Given as goal
@@ -26,7 +26,8 @@ invariant-loop-next g l =
     let held = g.S.Service.blocks l.fn.service first in
     record {
       goes : Goes held first now;
-      free : CanAnswer now.pool;
+      free : CanSync now.pool;
+      joins : g.S.Service.combiner l.service ≡ g.S.Service.combiner l.fn.service;
       is : g.S.Service.IsService l.service now;
       within : Within first held (g.S.Service.blocks l.service now);
       alone : StandsAlone g.S.Service.allowance g.S.Service.room
@@ -34,7 +35,7 @@ invariant-loop-next g l =
       given : List Command;
       has : g.S.Service.Has l.service now (up_to_sync given) (since_sync given);
       printed : IsTrue first.device.told → g.W.Sink.state l.out
-          ≡ g.W.Sink.took (g.W.Sink.state l.fn.out) (synced_text kind given);
+          ≡ g.W.Sink.took (g.W.Sink.state l.fn.out) (synced_text (g.S.Service.combiner l.fn.service) kind given);
       write_later : g.W.Sink.faults l.fn.out ≤ g.W.Sink.faults l.out;
       number : l.number ≡ n + 1;
       few : n ≤ 2 ^ 40;

@@ -8,7 +8,9 @@ use Rattle.em_services.specs.Service.{FullOverRoom, size_of}
 use Rattle.em_answers.specs.Answer.{synced_text}
 use Rattle.em_answers.proofs.AnswerBlocks.{records_blocks}
 use Rattle.em_answers.proofs.Due.{unprinted}
+use Rattle.em_answers.proofs.Listing.{alone_unused, no_counts}
 use Rattle.em_answers.proofs.ReadingStops.{stops_answers, stops_around, stops_new}
+use Rattle.em_answers.proofs.Rooms.{answers_keep, call_keeps, same_keeps}
 use Rattle.em_answers.proofs.ServiceMoves.{all_reads, new_reads, reads_around}
 use Rattle.em_answers.proofs.read.read_answers.Goals as goal
 
@@ -23,8 +25,8 @@ returns-in-Err-clause-stop g c =
 
 pub returns-in-Err-clause-synced : goal.returns-in-Err-clause-synced
 returns-in-Err-clause-synced g c = λ t d.
-    unprinted g.met.W.Sink.rule (g.met.W.Sink.is_state c.args.out.now)
-    (synced_text g.S.Service.KIND (good_commands g.S.Service.KIND
+    unprinted (g.S.Service.combiner_of c.args.rule) g.met.W.Sink.rule (g.met.W.Sink.is_state c.args.out.now)
+    (synced_text (g.S.Service.combiner_of c.args.rule) g.S.Service.KIND (good_commands g.S.Service.KIND
     (rest c.args.feed.now (g.H.Shelf.stand c.args.shelf.now)))) c.in-Err.fault
 
 pub returns-in-Err-clause-moves : goal.returns-in-Err-clause-moves
@@ -33,11 +35,21 @@ returns-in-Err-clause-moves g c = λ t.
     (seen g.D.Device.state c.new.new.rig) g.met.S.Service.rising c.requires.unused.sound.shape
     c.requires.none_moved c.in-Err.ensures.moves
 
+pub returns-in-Err-clause-most : goal.returns-in-Err-clause-most
+returns-in-Err-clause-most g c =
+    let e = c.in-Err.ensures in
+    let s = seen g.D.Device.state c.args.rig.now in
+    call_keeps g.S.Service.allowance g.S.Service.room g.H.Shelf.tells g.S.Service.KIND _ _ [] [] 0 no_counts s
+    (seen g.D.Device.state c.new.new.rig) g.met.S.Service.rising_room c.requires.unused.sound.shape e.goes.touches
+    (alone_unused g.S.Service.allowance g.S.Service.room s c.requires.unused c.requires.none_moved) (λ t. e.room)
+    (λ t. omega arith) (λ t. omega arith)
+
 pub returns-in-Ok-answers-clause-records : goal.returns-in-Ok-answers-clause-records
 returns-in-Ok-answers-clause-records g c = λ t d.
     let r = c.in-Ok-read_all.ensures in
     let made = c.in-Ok.ensures.makes in
-    c.in-Ok-answers.ensures.items (r.goes.touches.told ∙ made.touches.told ∙ d) _ _ (r.has t)
+    rw (r.joins ∙ c.in-Ok.ensures.joins) at
+    (c.in-Ok-answers.ensures.items (r.goes.touches.told ∙ made.touches.told ∙ d) _ _ (r.has t))
 
 pub returns-in-Ok-answers-clause-blocks : goal.returns-in-Ok-answers-clause-blocks
 returns-in-Ok-answers-clause-blocks g c = λ t d.
@@ -55,14 +67,16 @@ returns-in-Ok-answers-clause-blocks g c = λ t d.
     let taken = r.taken t in
     let len = g.met.S.Service.n_is c.read_all.new.service u _ _ (r.has t)
     ∙ ap (λ (cs : List Command). length cs) (sync_parts good) in
-    records_blocks kind text left s v c.in-Ok-answers.records c.requires.unused.sound.shape
+    records_blocks (g.S.Service.combiner_of c.args.rule) kind text left s v c.in-Ok-answers.records c.requires.unused.sound.shape
     (a.gives.touches.shape ∙ r.goes.touches.shape ∙ made.touches.shape) a.leaves.is
-    (a.gives.touches.told ∙ here) (a.leaves.packed here) (a.items here _ _ (r.has t))
+    (a.gives.touches.told ∙ here) (a.leaves.packed here)
+    (rw (r.joins ∙ c.in-Ok.ensures.joins) at (a.items here _ _ (r.has t)))
     (omega (arith, taken, len))
 
 pub returns-in-Ok-answers-clause-synced : goal.returns-in-Ok-answers-clause-synced
 returns-in-Ok-answers-clause-synced g c = λ t d.
-    let p = c.in-Ok-read_all.ensures.synced t (c.in-Ok.ensures.makes.touches.told ∙ d) in
+    let made = c.in-Ok.ensures in
+    let p = rw made.joins at (c.in-Ok-read_all.ensures.synced t (made.makes.touches.told ∙ d)) in
     record { all = p.all; fault = tt; part = p.part }
 
 pub returns-in-Ok-answers-clause-moves : goal.returns-in-Ok-answers-clause-moves
@@ -79,9 +93,22 @@ returns-in-Ok-answers-clause-moves g c = λ t.
     (c.in-Ok-answers.ensures.moves _ _ (r.has t)) (r.taken t) (laws.n_is service u _ _ (r.has t))
     (laws.syncs_few service u _ _ (r.has t))
 
+pub returns-in-Ok-answers-clause-most : goal.returns-in-Ok-answers-clause-most
+returns-in-Ok-answers-clause-most g c =
+    let u = seen g.D.Device.state c.read_all.new.rig in
+    let service = c.read_all.new.service in
+    let laws = g.met.S.Service in
+    let r = c.in-Ok-read_all.ensures in
+    let a = c.in-Ok-answers.ensures in
+    answers_keep g.S.Service.allowance g.S.Service.room g.H.Shelf.tells g.S.Service.KIND _ _ _
+    (g.S.Service.blocks service u) (g.S.Service.counts service) u (seen g.D.Device.state c.answers.new.rig)
+    laws.rising_room r.goes.sound.shape a.gives.touches r.alone (λ t. a.room _ _ (r.has t)) r.taken
+    (λ t. laws.n_is service u _ _ (r.has t))
+
 pub returns-in-Err-answers-clause-synced : goal.returns-in-Err-answers-clause-synced
 returns-in-Err-answers-clause-synced g c = λ t d.
-    let p = c.in-Ok-read_all.ensures.synced t (c.in-Ok.ensures.makes.touches.told ∙ d) in
+    let made = c.in-Ok.ensures in
+    let p = rw made.joins at (c.in-Ok-read_all.ensures.synced t (made.makes.touches.told ∙ d)) in
     record { all = tt; fault = tt; part = p.part }
 
 pub returns-in-Err-answers-clause-moves : goal.returns-in-Err-answers-clause-moves
@@ -120,6 +147,18 @@ returns-in-Err-answers-clause-stop g c =
     (λ t. subst (λ (cs : List Command). FullOverRoom g.S.Service.room (size_of kind cs) now u
     c.in-Err-answers.fault) (sync_parts good) (a.full _ _ (r.has t)))
 
+pub returns-in-Err-answers-clause-most : goal.returns-in-Err-answers-clause-most
+returns-in-Err-answers-clause-most g c =
+    let u = seen g.D.Device.state c.read_all.new.rig in
+    let service = c.read_all.new.service in
+    let laws = g.met.S.Service in
+    let r = c.in-Ok-read_all.ensures in
+    let a = c.in-Err-answers.ensures in
+    answers_keep g.S.Service.allowance g.S.Service.room g.H.Shelf.tells g.S.Service.KIND _ _ _
+    (g.S.Service.blocks service u) (g.S.Service.counts service) u (seen g.D.Device.state c.answers.new.rig)
+    laws.rising_room r.goes.sound.shape a.gives.touches r.alone (λ t. a.room _ _ (r.has t)) r.taken
+    (λ t. laws.n_is service u _ _ (r.has t))
+
 pub returns-in-Err-read_all-clause-stop : goal.returns-in-Err-read_all-clause-stop
 returns-in-Err-read_all-clause-stop g c =
     let m = seen g.D.Device.state c.new.new.rig in
@@ -132,7 +171,8 @@ returns-in-Err-read_all-clause-stop g c =
 
 pub returns-in-Err-read_all-clause-synced : goal.returns-in-Err-read_all-clause-synced
 returns-in-Err-read_all-clause-synced g c = λ t d.
-    let p = c.in-Err-read_all.ensures.synced t (c.in-Ok.ensures.makes.touches.told ∙ d) in
+    let made = c.in-Ok.ensures in
+    let p = rw made.joins at (c.in-Err-read_all.ensures.synced t (made.makes.touches.told ∙ d)) in
     record { all = tt; fault = p.fault; part = p.part }
 
 pub returns-in-Err-read_all-clause-moves : goal.returns-in-Err-read_all-clause-moves
@@ -142,3 +182,10 @@ returns-in-Err-read_all-clause-moves g c = λ t.
     (seen g.D.Device.state c.new.new.rig) (seen g.D.Device.state c.read_all.new.rig)
     (seen g.D.Device.state c.abandon.new.rig) made.touches.told made.touches.shape
     c.abandon.ensures.unmoved.moves (c.in-Err-read_all.ensures.moves t)
+
+pub returns-in-Err-read_all-clause-most : goal.returns-in-Err-read_all-clause-most
+returns-in-Err-read_all-clause-most g c =
+    let touches = c.abandon.ensures.gives.touches in
+    same_keeps g.S.Service.room g.H.Shelf.tells g.S.Service.KIND _ _ (seen g.D.Device.state c.read_all.new.rig)
+    (seen g.D.Device.state c.abandon.new.rig) touches.shape touches.told c.abandon.ensures.unmoved.same.most
+    c.in-Err-read_all.ensures.most

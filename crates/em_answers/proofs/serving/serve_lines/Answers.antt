@@ -17,7 +17,7 @@ use Rattle.em_lines.specs.declared.text.FileKind.TheVariants.{Queue}
 use Rattle.em_ends.proofs.Printing.{sent_step}
 use Rattle.em_answers.proofs.QueueModel.{follows_first}
 use Rattle.em_lines.proofs.ReadLaws.{counted_left, counted_more, counted_none, counted_read}
-use Rattle.em_answers.proofs.Served.{alone_next, next_answer, stops_by, stops_full}
+use Rattle.em_answers.proofs.Served.{alone_next, most_next, next_answer, stops_by, stops_full}
 use Rattle.em_answers.proofs.Waiting.{answers_done, answers_fault, answers_read, answers_stopped, answers_unsent, serving_sent}
 use Rattle.em_lines.proofs.Steps.{reads_then}
 use Rattle.em_answers.proofs.serving.serve_lines.Goals as goal
@@ -138,6 +138,13 @@ returns-in_err-pushes-clause-full g c =
     (stops_full g.Q.Queue (g.Q.Queue.blocks c.loop-feed.queue mid) mid last before after
     (g.W.Sink.faults c.send_before_reading.new.out) (g.W.Sink.faults c.serve_one.new.out) _ c.loop-feed.invariant.alone
     v.serves v.cause v.owes v.full)
+
+pub returns-in_err-pushes-clause-most : goal.returns-in_err-pushes-clause-most
+returns-in_err-pushes-clause-most g c =
+    most_next (g.Q.Queue.blocks c.loop-feed.queue (seen g.D.Device.state c.loop-feed.rig))
+    (seen g.D.Device.state c.loop-feed.rig) (seen g.D.Device.state c.serve_one.new.rig)
+    (g.Q.Queue.counts c.loop-feed.queue) (g.Q.Queue.counts c.serve_one.new.queue) c.loop-feed.invariant.alone
+    c.in_err-pushes.ensures.serves
 
 pub returns-in_err-pushes-clause-calls_only : goal.returns-in_err-pushes-clause-calls_only
 returns-in_err-pushes-clause-calls_only g c =

@@ -5,7 +5,8 @@ use Rattle.em_space.specs.Numbered.{NumberedTo}
 use Rattle.em_space.specs.Queue.{CanServe, Shares}
 use Rattle.em_space.specs.Rig.{Sound, Touches}
 use Rattle.em_space.specs.Seen.{seen}
-use Rattle.em_answers.specs.Answer.{text_for}
+use Rattle.em_model.specs.Queue.{queue_answers}
+use Rattle.em_answers.specs.Answer.{queue_text}
 use Rattle.em_lines.specs.CommandLine.{first_fault, good_commands, parsed_from}
 use Rattle.em_lines.specs.Lines.{lines_of}
 use Rattle.em_lines.specs.Reads.{Reads}
@@ -46,7 +47,7 @@ invariant-loop-feed g l =
           → first_fault Queue text ≡ (parsed_from Queue (c.n + 1) (lines_of left)).fault;
       counted : IsTrue g.H.Shelf.tells → Counted Queue text left c.n;
       serving : IsTrue g.H.Shelf.tells → IsTrue first.device.told
-          → Serving g.W.Sink.took (text_for Queue (good_commands Queue text))
+          → Serving g.W.Sink.took (queue_text (queue_answers (good_commands Queue text)))
           (parsed_from Queue (c.n + 1) (lines_of left)).good
           (g.Q.Queue.items l.queue now) l.pushes (g.W.Sink.state l.fn.out) (g.W.Sink.state l.out)
           l.printer;

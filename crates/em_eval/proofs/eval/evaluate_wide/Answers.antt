@@ -3,7 +3,7 @@ use Rattle.em_space.specs.Seen.{seen}
 use Rattle.em_pqueue.specs.ExtQueue.{counts_of}
 use Rattle.aig_text.proofs.Lines.{of_error}
 use Rattle.em_eval.specs.Evaluation.{RunsSteps}
-use Rattle.em_eval.proofs.EvalEnds.{can_make, can_run, evaluated_by, made_by, refused_goes, refused_paid, refused_room, runs_all, runs_none, still_ordered, unmade_by, unmade_cause, unmade_goes, unmade_paid, unmade_room}
+use Rattle.em_eval.proofs.EvalEnds.{begins_within, can_make, can_run, evaluated_by, made_by, made_most, refused_goes, refused_most, refused_paid, refused_room, runs_all, runs_none, still_ordered, unmade_by, unmade_cause, unmade_goes, unmade_most, unmade_paid, unmade_room}
 use Rattle.em_eval.proofs.EvalMoves.{evaluated_moves, group_fits, refused_moves, unmade_moves}
 use Rattle.em_eval.proofs.GroupRound.{header_none}
 use Rattle.em_eval.proofs.EvalRoom.{ext_tree}
@@ -26,7 +26,7 @@ returns-in_err-queue g c =
           c.from_residual.ensures.1
           (runs_none true g.H.Shelf g.W.Sink {t = t} c.args.shelf.now c.args.out.now g.met.W.Sink.rule
           (g.met.W.Sink.is_state c.args.out.now) (refused_goes c.args.ordered f) f.cause
-          (refused_paid c.requires.can f) (refused_room c.requires.can f)
+          (refused_paid c.requires.can f) (refused_most c.requires.can f) (refused_room c.requires.can f)
           (refused_moves true g.H.Shelf c.args.ordered c.args.shelf.now f));
     }
 
@@ -57,6 +57,8 @@ returns-in_err-evaluator g c =
           c.from_residual-in_err-evaluator.ensures.1
           (runs_none true g.H.Shelf g.W.Sink {t = t} c.args.shelf.now c.args.out.now g.met.W.Sink.rule
           (g.met.W.Sink.is_state c.args.out.now) (unmade_goes u) (unmade_cause u) (unmade_paid u)
+          (unmade_most u (ext_tree (seen g.D.Device.state c.new.new.rig).pool.shape)
+          c.in_err-evaluator.ensures.room (begins_within c.requires.can (makes_ext n)))
           (unmade_room u (ext_tree (seen g.D.Device.state c.new.new.rig).pool.shape)
           c.in_err-evaluator.ensures.room)
           (unmade_moves u true g.H.Shelf c.args.shelf.now n.moves));
@@ -83,8 +85,10 @@ returns g c =
     let made = made_by {a = a} c.requires.can (makes_ext c.in_ok-queue.ensures.makes) v.begins in
     let all = evaluated_by {a = a} {t = t} made v.meaning steps c.abandon.ensures.leaves
     c.send_rest.ensures.sends g.met.W.Sink.rule (g.met.W.Sink.is_state c.args.out.now) in
+    let tree = ext_tree (seen g.D.Device.state c.new.new.rig).pool.shape in
     record {
-      runs = runs_all all (ext_tree (seen g.D.Device.state c.new.new.rig).pool.shape) true
+      runs = runs_all all tree (made_most made tree v.room
+          (begins_within c.requires.can (makes_ext c.in_ok-queue.ensures.makes))) true
           (evaluated_moves all true (group_fits made) c.in_ok-queue.ensures.makes.moves
           steps.frames.is.has.share);
     }

@@ -1,4 +1,4 @@
-use Rattle.std.proofs.Common.{[], ◌++◌, arith, refl, sym, ◌∙◌, Err}
+use Rattle.std.proofs.Common.{[], ◌++◌, arith, refl, sym, ◌∙◌, Ok, Err}
 use Rattle.em_space.specs.Seen.{seen}
 use Rattle.em_space.proofs.Paying.{pays_of_owes, pays_then}
 use Rattle.em_space.proofs.Steps.{goes_then}
@@ -13,8 +13,8 @@ use Rattle.em_ends.specs.Stop.{circuit_stop}
 use Rattle.em_ends.specs.declared.stop.Stop.TheVariants.{Em}
 use Rattle.em_eval.proofs.Circuit.{reads_from}
 use Rattle.em_eval.proofs.CircuitCosts.{sort_low}
-use Rattle.em_eval.proofs.CircuitEdges.{edges_made, order_room, order_stops, stopped_by}
-use Rattle.em_eval.proofs.CircuitMade.{HasGraph, build_room, build_stops, ends_goes, graph_few, graph_goes, has_graph, has_parts, text_few, text_stops, unmade_stops}
+use Rattle.em_eval.proofs.CircuitEdges.{edges_made, order_most, order_room, order_stops, stopped_by}
+use Rattle.em_eval.proofs.CircuitMade.{HasGraph, MostAt, build_most, build_room, build_stops, ends_goes, graph_few, graph_goes, graph_most, has_graph, has_parts, parts_most, refused_most, text_few, text_most, text_stops, unmade_stops}
 use Rattle.em_eval.proofs.CircuitMoves.{build_moves, order_keeps, read_moves, used_moves}
 use Rattle.em_eval.proofs.EvalRoom.{ext_tree}
 use Rattle.em_eval.proofs.Making.{can_build}
@@ -34,7 +34,7 @@ returns-in_err-parts-clause-reads g c =
     c.read_either.new.shelf s t (circuit_stop c.in_err-parts.field-0.0) _
     c.from_residual.ensures.1 text
     (text_stops c.in_err-parts.field-0.0 c.requires.unused text e)
-    (read_moves text t e (omega arith))
+    (read_moves text t e (omega arith)) (text_most c.args.uninit {t = t} c.requires.unused text e.takes)
 
 -- a queue can be made after the text was read
 pub new-requires-clause-free : goal.new-requires-clause-free
@@ -61,6 +61,9 @@ returns-in_err-queue-clause-reads g c =
     (unmade_stops c.in_err-queue.field-0.0 c.requires.unused e.goes
     (pays_of_owes 0 0 0 e.owes (omega arith)) f (text_few c.args.uninit c.requires.unused text e.takes))
     (read_moves text u e f.moves)
+    (refused_most c.args.uninit c.requires.unused text
+    (text_most c.args.uninit {t = seen g.D.Device.state c.read_either.new.rig} c.requires.unused text e.takes) f
+    (text_few c.args.uninit c.requires.unused text e.takes))
 
 -- the parts that were read are those of some circuit
 pub check_and_build-requires-clause-parts : goal.check_and_build-requires-clause-parts
@@ -124,6 +127,8 @@ returns-in_err-graph-clause-reads g c =
     (build_moves text v e h
     (λ told n runs few short. used_moves v n runs refl makes since k.costs told few short) v
     (omega arith))
+    (build_most {q = ghosts} (Err fault) h (ext_tree u.pool.shape) makes.new.k k.room
+    (parts_most c.args.uninit c.requires.unused text e makes))
 
 -- another queue can be made after the graph was
 pub new-requires-2-clause-free : goal.new-requires-2-clause-free
@@ -174,6 +179,10 @@ returns-in_err-queue-2-clause-reads g c =
     (graph_few (counts_of q) c.in_ok-graph.graph h k.builds k.stores))
     (build_moves text v e h
     (λ told n runs few short. used_moves v n runs refl makes since k.costs told few short) w f.moves)
+    (refused_most c.args.uninit c.requires.unused text
+    (build_most {q = ghosts} (Ok c.in_ok-graph.graph) h (ext_tree u.pool.shape) makes.new.k k.room
+    (parts_most c.args.uninit c.requires.unused text e makes)) f
+    (graph_few (counts_of q) c.in_ok-graph.graph h k.builds k.stores))
 
 -- The graph was made, and a queue for its order.
 module _ (g : given.Over) (c : In_ok-queue-2 g) where
@@ -197,6 +206,22 @@ module _ (g : given.Over) (c : In_ok-queue-2 g) where
       let h = has_parts c.in_ok-parts.parts c.requires.unused text e makes.session.touches makes in
       has_graph (counts_of q) (queue_blocks u q) c.in_ok-graph.graph h k.uses_up k.builds
       second.session.touches second k.stores
+
+  most : MostAt c.args.uninit g.H.Shelf.tells
+      (source g.H.Shelf c.new-feed.result c.args.shelf.now)
+      (source g.H.Shelf c.read_either.new.feed c.read_either.new.shelf)
+      (seen g.D.Device.state c.args.rig.now) (seen g.D.Device.state c.new-2.new.rig)
+  most =
+      let u = seen g.D.Device.state c.new.new.rig in
+      let q = c.in_ok-queue.queue in
+      let e = c.in_ok-parts.ensures.reads in
+      let k = c.in_ok-graph.ensures in
+      let text = reads_from c.new-feed.ensures c.requires.ready e.feed in
+      let makes = makes_ext c.in_ok-queue.ensures.makes in
+      let h = has_parts c.in_ok-parts.parts c.requires.unused text e makes.session.touches makes in
+      graph_most (counts_of q) c.in_ok-graph.graph c.requires.unused text h k.uses_up k.builds k.stores
+      (build_most {q = ghosts} (Ok c.in_ok-graph.graph) h (ext_tree u.pool.shape) makes.new.k k.room
+      (parts_most c.args.uninit c.requires.unused text e makes)) second
 
 -- the graph is one after the second queue was made
 pub order-requires-clause-graph : goal.order-requires-clause-graph
@@ -261,6 +286,7 @@ returns-in_err-order-clause-reads g c =
     (order_keeps text v e p
     (λ told n runs few short. used_moves v n runs refl makes since b.costs told few short) refl
     (second g here) then h k.costs)
+    (order_most {q = ghosts} (Err stop) h (ext_tree w.pool.shape) (second g here).new.k k.blocks (most g here))
 
 -- edges were made
 pub returns-clause-goes : goal.returns-clause-goes
@@ -295,3 +321,5 @@ returns-clause-reads g c =
     (order_keeps text v e p
     (λ told n runs few short. used_moves v n runs refl makes since b.costs told few short) refl
     (second g here) then h k.costs)
+    (order_most {q = ghosts} (Ok c.in_ok-order.field-0) h (ext_tree w.pool.shape) (second g here).new.k k.blocks
+    (most g here))

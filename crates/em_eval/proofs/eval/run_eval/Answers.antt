@@ -12,7 +12,7 @@ use Rattle.em_ends.specs.Stop.{fault_counts}
 use Rattle.em_ends.specs.declared.status.Malform.TheVariants.{Aig}
 use Rattle.em_ends.specs.declared.status.Status.TheVariants.{Done, Malformed, ReadFault}
 use Rattle.em_ends.proofs.EndLaws.{ended_read, ended_stop}
-use Rattle.em_eval.proofs.Evaluated.{circuit_cause, circuit_few, circuit_keeps, circuit_stopped, device_keeps, done_caused, ended_latched, eval_fills, malformed_caused, none_first, none_more, none_taken, steps_cause, steps_caused, steps_done, steps_few, steps_keep, steps_stopped, still_there, still_unopened, unopened_caused}
+use Rattle.em_eval.proofs.Evaluated.{circuit_cause, circuit_few, circuit_keeps, circuit_most, circuit_stopped, device_keeps, done_caused, ended_latched, eval_fills, malformed_caused, none_first, none_more, none_taken, steps_cause, steps_caused, steps_done, steps_few, steps_keep, steps_most, steps_stopped, still_there, still_unopened, unopened_caused}
 use Rattle.em_ends.proofs.Opening.{lost_opened, not_done, on_end, text_left, text_some}
 use Rattle.em_eval.proofs.EvalOpens.{opens_eval, reads_both}
 use Rattle.em_eval.proofs.eval.run_eval.Goals as goal
@@ -33,6 +33,7 @@ returns-in_default-clause-runs g c =
       ended = ended_read g.met.W.Sink.rule _ _ _ _ _ _ (g.met.W.Sink.is_state c.args.out.now) refl
           (λ t d. none_more _ _);
       caused = search rules;
+      most = λ t d. let none = c.requires.unused.none_ever in omega (arith, none);
       opens = opens_eval c.args.uninit c.args.wide tells told circuit stimulus a b ReadFault o.leaves.text
           (λ t l. lost_opened (a.slot First) (b.slot First) (b.slot First) (a.text First circuit)
           fresh.first.lost (o.lost t) refl l)
@@ -82,6 +83,7 @@ returns-in-Err-clause-runs g c =
           (circuit_stopped c.args.wide (start_of c.args.uninit) tells x y w same g.met.W.Sink.rule _ _
           (g.met.W.Sink.is_state c.args.out.now) refl faults later s t stop refl own.cause));
       caused = search rules;
+      most = circuit_most c.args.wide (start_of c.args.uninit) tells x y w same last.slot s t says.most;
       opens = rw (c.status_of.ensures.is) (opens_eval c.args.uninit c.args.wide tells told circuit stimulus a last _
           (reads.leaves.text ∙ o.leaves.text)
           (λ z l. lost_opened (a.slot First) (b.slot First) (last.slot First) (a.text First circuit)
@@ -133,6 +135,7 @@ returns-then-ordered-ne0-clause-runs g c =
         write = omega arith;
         device = r.goes.touches.faults;
       });
+      most = circuit_most c.args.wide (start_of c.args.uninit) tells x y w same last.slot s t says.most;
       opens = opens_eval c.args.uninit c.args.wide tells told circuit stimulus a last latched
           (reads.leaves.text ∙ o.leaves.text)
           (λ z l. lost_opened (a.slot First) (b.slot First) (last.slot First) (a.text First circuit)
@@ -188,6 +191,8 @@ returns-in_default-open-clause-runs g c =
         write = omega (arith);
         device = r.goes.touches.faults;
       }) (omega (arith, o.cause.later, says.later, rose));
+      most = circuit_most c.args.wide (start_of c.args.uninit) tells x y w same last.slot s t
+          (λ e h. rw first (says.most e h));
       opens = opens_eval c.args.uninit c.args.wide tells told circuit stimulus a last ReadFault (p.leaves.text ∙ text)
           (λ z l. lost_opened (a.slot First) (b.slot First) (last.slot First) (a.text First circuit)
           fresh.first.lost (o.lost z) (ap (λ v. v.lost) first ∙ reads.lost z) l)
@@ -251,6 +256,8 @@ returns-in-Ok-evaluate_either-clause-runs g c =
         write = v.write_later;
         device = omega (arith, r.goes.touches.faults, v.goes.touches.faults);
       });
+      most = steps_most c.args.wide tells told x y z w t edges same given spells few last.slot s u r.goes.touches
+          (λ e. rw first (own.size e)) (λ e h. rw first (says.most e h)) v.most;
       opens = opens_eval c.args.uninit c.args.wide tells told circuit stimulus a last Done
           (v.reads.leaves.text ∙ p.leaves.text ∙ text)
           (λ e l. lost_opened (a.slot First) (b.slot First) (last.slot First) (a.text First circuit)
@@ -340,6 +347,8 @@ returns-in-Err-evaluate_either-clause-runs g c =
       caused = rw (c.status_of-in-Err-evaluate_either.ensures.is)
           (steps_caused _ _ (g.H.Shelf.faults c.open-2.new.self) (g.W.Sink.faults c.args.out.now) t u
           stop (search rules) (search rules) (search rules) (search rules) refl v.cause);
+      most = steps_most c.args.wide tells told x y z w t edges same given spells few last.slot s u r.goes.touches
+          (λ e. rw first (own.size e)) (λ e h. rw first (says.most e h)) v.most;
       opens = rw (c.status_of-in-Err-evaluate_either.ensures.is) (opens_eval c.args.uninit c.args.wide tells told circuit stimulus a last _
           (v.reads.leaves.text ∙ p.leaves.text ∙ text)
           (λ e l. lost_opened (a.slot First) (b.slot First) (last.slot First) (a.text First circuit)

@@ -1,4 +1,4 @@
-use Rattle.std.proofs.Common.{◌+◌, ◌≤◌}
+use Rattle.std.proofs.Common.{◌≡◌, ◌+◌, ◌≤◌}
 use Rattle.em_frames.specs.Pool.{SameFrames}
 use Rattle.em_space.specs.Rig.{Sound}
 use Rattle.em_space.specs.Seen.{seen}
@@ -11,5 +11,6 @@ invariant-loop-command g l = record {
   sound : Sound (seen g.D.Device.state l.rig);
   frames : SameFrames l.fn.rig.pool l.rig.pool;
   is : IsScanMap (seen g.D.Device.state l.rig) l.map;
+  settle : l.map.settle ≡ l.fn.map.settle;
   few : list_len l.map.list ≤ list_len l.fn.map.list + l.command-index;
 }

@@ -7,12 +7,14 @@ use Rattle.em_model.proofs.map.map_answers_of.Goals as goal
 use Rattle.em_model.proofs.map.map_answers_of.Goals.{in-Get+in_ok-push, in_default}
 
 pub loop-i-preserved : goal.loop-i-preserved
-loop-i-preserved c =
+loop-i-preserved g c = λ apply joins.
+    let before = c.loop-i.invariant apply joins in
     elim c.match-command.branch [
       | in-Get+in_ok-push w ↦
-          map_answers_from-more no_keys _ _ (Put 0 0) _ _ _ c.loop-i-test.true c.loop-i.invariant
-          (rw w.in-Get.is (grind (arith, common_steps)))
+          let value = w.value_after.ensures apply joins in
+          map_answers_from-more apply no_keys _ _ (Put 0 0) _ _ _ c.loop-i-test.true before
+          (rw w.in-Get.is (grind (arith, common_steps, value)))
       | in_default w ↦
-          map_answers_from-more no_keys _ _ (Put 0 0) _ _ _ c.loop-i-test.true c.loop-i.invariant
+          map_answers_from-more apply no_keys _ _ (Put 0 0) _ _ _ c.loop-i-test.true before
           (rw (answer_of-other _ _ w.in_default.not-Get) (grind (arith, common_steps)))
     ]

@@ -32,7 +32,7 @@ returns-clause-done g c =
     let e = c.abandon.ensures in
     adds_lent _ _ _ _ _ _ _ _ _ c.answer_by-done.result c.requires.beside.writer.writer o.lends
     o.unmoved c.answer_by-done.ensures.done e.gives e.unmoved
-    (λ z. ap (records_in c.args.asks) (items_lent c.requires.beside.chain o.lends z))
+    (λ z. ap (records_in (g.Q.Question.asks c.args.question.now)) (items_lent c.requires.beside.chain o.lends z))
 
 pub over-reader-requires-clause-is : goal.over-reader-requires-clause-is
 over-reader-requires-clause-is g c = view_of _ _ c.requires.beside.chain

@@ -10,8 +10,8 @@ use Rattle.em_plain.proofs.StabLists.{next_stab_most, stabs_more}
 use Rattle.em_plain.proofs.answers.answer_by.Goals as goal
 
 pub loop-number-init : goal.loop-number-init
-loop-number-init g c = scans_first _ 0 stabs_in (records_in c.args.asks) c.requires.ready.sound
-    c.requires.reader refl refl (records_none c.args.asks)
+loop-number-init g c = scans_first _ 0 stabs_in (records_in (g.Q.Question.asks c.args.question.now)) c.requires.ready.sound
+    c.requires.reader refl refl (records_none (g.Q.Question.asks c.args.question.now))
 
 pub answer_next-requires-clause-sound : goal.answer_next-requires-clause-sound
 answer_next-requires-clause-sound g c =
@@ -43,7 +43,7 @@ loop-number-preserved g c =
     let a = c.loop-number.invariant in
     let k = reads_on c.requires.ready.beside c.requires.reads a in
     scans_more a c.in_ok-stab.ensures.done
-    (λ z. records_next c.args.asks c.loop-number.number c.loop-number.stab a.read _ _ a.len a.number
+    (λ z. records_next (g.Q.Question.asks c.args.question.now) c.loop-number.number c.loop-number.stab a.read _ _ a.len a.number
     (k.1 z)) (stabs_more a.read _) (next_stab_most c.loop-number.stab _)
 
 pub returns-in_err-stab-clause-done : goal.returns-in_err-stab-clause-done
@@ -52,17 +52,17 @@ returns-in_err-stab-clause-done g c =
     let k = reads_on c.requires.ready.beside c.requires.reads a in
     let items = chain_items (seen g.D.Device.state c.args.rig.now) c.args.chain.now in
     adds_err _ _ _ _ _ _ c.from_residual.result _ c.from_residual.ensures.1
-    (stops_as (most_in c.args.asks c.args.chain.now.count) (records_in c.args.asks items) (omega arith)
+    (stops_as (most_in (g.Q.Question.asks c.args.question.now) c.args.chain.now.count) (records_in (g.Q.Question.asks c.args.question.now) items) (omega arith)
     (λ z. rw (reads_all c.requires.ready.beside.chain c.requires.reads z) (omega arith))
     (scans_stops _ c.args.chain.now.count a c.in_err-stab.ensures.done
     (omega (arith, c.loop-number-test.true, c.len-number-end.ensures))
-    (λ z x. records_next c.args.asks c.loop-number.number c.loop-number.stab a.read _ x a.len
-    a.number (k.1 z)) (records_longer c.args.asks)))
+    (λ z x. records_next (g.Q.Question.asks c.args.question.now) c.loop-number.number c.loop-number.stab a.read _ x a.len
+    a.number (k.1 z)) (records_longer (g.Q.Question.asks c.args.question.now))))
 
 pub returns-clause-done : goal.returns-clause-done
 returns-clause-done g c =
-    adds_as (most_in c.args.asks c.args.chain.now.count) _ (omega arith)
-    (λ z. ap (records_in c.args.asks) (reads_all c.requires.ready.beside.chain c.requires.reads z))
+    adds_as (most_in (g.Q.Question.asks c.args.question.now) c.args.chain.now.count) _ (omega arith)
+    (λ z. ap (records_in (g.Q.Question.asks c.args.question.now)) (reads_all c.requires.ready.beside.chain c.requires.reads z))
     (scans_all c.args.chain.now.count (omega (
       arith,
       c.loop-number-test.false,

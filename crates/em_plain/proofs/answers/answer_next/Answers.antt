@@ -12,11 +12,12 @@ returns-in_err-item-clause-done g c =
     (stops_by_look _ _ c.requires.sound b.writer.writer (reader_looks _ b.over e.goes e.costs)
     c.in_err-item.ensures.cause)
 
-pub answer_one-requires : goal.answer_one-requires
-answer_one-requires g c =
+pub answer-requires : goal.answer-requires
+answer-requires g c =
     let b = c.requires.reader in
     let e = c.next.ensures in
     record {
+      can = c.requires.can;
       ready = record {
         sound = e.goes.sound;
         beside = beside_added c.requires.beside
@@ -26,16 +27,16 @@ answer_one-requires g c =
       };
     }
 
-pub returns-in_err-answer_one-clause-done : goal.returns-in_err-answer_one-clause-done
-returns-in_err-answer_one-clause-done g c =
+pub returns-in_err-answer-clause-done : goal.returns-in_err-answer-clause-done
+returns-in_err-answer-clause-done g c =
     let b = c.requires.reader in
     let e = c.next.ensures in
     let a = rw c.in-Some.is at c.in_ok-item.ensures.reads in
     let l = reader_looks _ b.over e.goes e.costs in
-    steps_err _ _ _ _ _ _ _ _ _ _ c.from_residual-in_err-answer_one.result _
-    c.from_residual-in_err-answer_one.ensures.1
-    (step_stops _ b l a c.in_err-answer_one.ensures.done
-    (answer_looked c.args.asks c.args.number c.args.stab _ c.in-Some.item c.requires.beside l
+    steps_err _ _ _ _ _ _ _ _ _ _ c.from_residual-in_err-answer.result _
+    c.from_residual-in_err-answer.ensures.1
+    (step_stops _ b l a c.in_err-answer.ensures.done
+    (answer_looked (g.Q.Question.asks c.args.question.now) c.args.number c.args.stab _ c.in-Some.item c.requires.beside l
     c.to_command-command.ensures))
 
 pub returns-clause-done : goal.returns-clause-done
@@ -44,7 +45,7 @@ returns-clause-done g c =
     let e = c.next.ensures in
     let a = rw c.in-Some.is at c.in_ok-item.ensures.reads in
     let l = reader_looks _ b.over e.goes e.costs in
-    step_more b l a c.in_ok-answer_one.ensures.done
-    (answer_looked c.args.asks c.args.number c.args.stab _ c.in-Some.item c.requires.beside l
+    step_more b l a c.in_ok-answer.ensures.done
+    (answer_looked (g.Q.Question.asks c.args.question.now) c.args.number c.args.stab _ c.in-Some.item c.requires.beside l
     c.to_command-command.ensures)
     (c.stab_after.ensures ∙ ap (next_stab c.args.stab) c.to_command-command.ensures)

@@ -14,7 +14,7 @@ returns-in-Ok g c =
     let f = c.finish.ensures in
     record {
       done = written_to _ c.finish.result n.lends n.unmoved n.begins c.in-Ok.ensures.done
-          (λ z. ap (records_in c.args.asks) (items_lent c.requires.is n.lends z)) f.gives f.finishes
+          (λ z. ap (records_in (g.Q.Question.asks c.args.question.now)) (items_lent c.requires.is n.lends z)) f.gives f.finishes
           f.spends f.cause;
     }
 
@@ -24,5 +24,5 @@ returns-in-Err g c =
     let e = c.abandon.ensures in
     record {
       done = stops_written _ n.lends n.unmoved n.begins c.in-Err.ensures.done
-          (λ z. ap (records_in c.args.asks) (items_lent c.requires.is n.lends z)) e.gives e.unmoved;
+          (λ z. ap (records_in (g.Q.Question.asks c.args.question.now)) (items_lent c.requires.is n.lends z)) e.gives e.unmoved;
     }

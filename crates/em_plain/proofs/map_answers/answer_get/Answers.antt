@@ -1,4 +1,5 @@
 use Rattle.std.proofs.Common.{sym, take, arith}
+use Rattle.em_settle.specs.Add.{apply_of}
 use Rattle.em_space.specs.Seen.{seen}
 use Rattle.em_chain.specs.Chain.{chain_items}
 use Rattle.em_plain.specs.Asks.{get_answer}
@@ -23,8 +24,8 @@ returns-in_ok-value-in-Get-clause-done g c =
     (chain_items (seen g.D.Device.state c.args.rig.now) c.args.chain.now) in
     let v = c.in_ok-value-in-Get.ensures in
     let e = c.append.ensures in
-    adds_to_as _ 1 _ _ _ _ _ (get_answer c.args.number earlier c.args.command) c.append.result (omega arith)
-    (λ z. sym (get_answer-get c.args.number earlier c.args.command c.in-Get.key _ c.in-Get.is
+    adds_to_as _ 1 _ _ _ _ _ (get_answer (apply_of c.args.settle.now.kind) c.args.number earlier c.args.command) c.append.result (omega arith)
+    (λ z. sym (get_answer-get (apply_of c.args.settle.now.kind) c.args.number earlier c.args.command c.in-Get.key _ c.in-Get.is
     (v.value z)))
     (looked_adds _ _ _ _ _ _ _ c.append.result c.requires.ready.beside.writer.writer v.looks
     (adds_append _ c.append.result e.goes (rw c.to_answer.ensures at e.appends) e.costs e.spends
@@ -37,7 +38,7 @@ returns-in_default g c =
     let w = c.requires.ready.beside.writer.writer in
     record {
       done = adds_as 1 _ (omega arith)
-          (λ z. sym (get_answer-other c.args.number earlier c.args.command
+          (λ z. sym (get_answer-other (apply_of c.args.settle.now.kind) c.args.number earlier c.args.command
           (λ key e. c.in_default.not-Get key e))) (adds_none c.requires.ready.sound w);
       frame = w.frame;
     }

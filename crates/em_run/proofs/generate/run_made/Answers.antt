@@ -1,5 +1,5 @@
 use Rattle.em_space.specs.Seen.{seen}
-use Rattle.em_run.proofs.MadeRuns.{ended_made, made_cut, made_done, made_stops, shelf_made}
+use Rattle.em_run.proofs.MadeRuns.{ended_made, made_cut, made_done, made_stops, most_made, shelf_made}
 use Rattle.em_run.proofs.generate.run_made.Goals as goal
 
 -- the task wasn't done
@@ -18,7 +18,8 @@ returns-in_default g c =
       goes = run.ensures.goes;
       runs = made_stops g.W.Sink g.met.W.Sink.rule a.task a.start a.count s t c.new-shelf.result
           run.new.shelf c.new-tally.result run.new.out a.out.now run.result
-          (g.met.W.Sink.is_state a.out.now) c.in_default.not-Done r.no_usage r.no_memory e r.caused;
+          (g.met.W.Sink.is_state a.out.now) c.in_default.not-Done r.no_usage r.no_memory e r.caused
+          (most_made a.task a.start a.count s t c.new-shelf.result run.new.shelf made r.most);
     }
 
 -- the summary was printed
@@ -37,6 +38,7 @@ returns-in-Ok-clause-runs g c =
     made_done g.W.Sink g.met.W.Sink.rule a.task a.start a.count s t c.new-shelf.result run.new.shelf
     c.new-tally.result run.new.out a.out.now c.print_summary.new.out run.result c.in-Done.is e
     r.caused p.all p.cause.later (g.met.W.Sink.is_state a.out.now)
+    (most_made a.task a.start a.count s t c.new-shelf.result run.new.shelf made r.most)
 
 -- the output failed at it
 pub returns-in-Err-clause-runs : goal.returns-in-Err-clause-runs
@@ -54,3 +56,4 @@ returns-in-Err-clause-runs g c =
     made_cut g.W.Sink g.met.W.Sink.rule a.task a.start a.count s t c.new-shelf.result run.new.shelf
     c.new-tally.result run.new.out a.out.now c.print_summary.new.out run.result c.in-Done.is e
     r.caused p.part p.cause.later p.cause.failed (g.met.W.Sink.is_state a.out.now)
+    (most_made a.task a.start a.count s t c.new-shelf.result run.new.shelf made r.most)

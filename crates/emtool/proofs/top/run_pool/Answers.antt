@@ -2,14 +2,15 @@ use Rattle.std.proofs.Common.{ap, refl, rules}
 use Rattle.em_frames.specs.Pool.{PoolCounts}
 use Rattle.em_space.specs.Seen.{seen}
 use Rattle.em_ends.proofs.EndLaws.{unmoved_device, unmoved_memory}
-use Rattle.emtool.proofs.TopLaws.{job_run, leaves_no_memory, leaves_unbegun, opened_run}
+use Rattle.emtool.proofs.TopLaws.{job_run, leaves_no_memory, leaves_unbegun, opened_run, words_run}
 use Rattle.emtool.proofs.top.run_pool.Goals as goal
 
 pub returns-in-Ok-clause-runs : goal.returns-in-Ok-clause-runs
 returns-in-Ok-clause-runs g c =
     opened_run c.args.pool (seen g.D.Device.state c.in-Ok.rig)
-    (seen g.D.Device.state c.run_on-status.new.rig) c.in-Ok.ensures.opened
-    (ap (λ (p : PoolCounts). p.shape) c.requires.pool) (search rules) c.run_on-status.ensures.runs
+    (seen g.D.Device.state c.run_job-status.new.rig) c.in-Ok.ensures.opened
+    (ap (λ (p : PoolCounts). p.shape) c.requires.pool) (search rules)
+    (words_run c.args.words.now c.requires.job c.run_job-status.ensures.runs)
     (search rules)
 
 pub returns-in-Failed-clause-runs : goal.returns-in-Failed-clause-runs

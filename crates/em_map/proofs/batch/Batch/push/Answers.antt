@@ -1,5 +1,4 @@
 use Rattle.std.proofs.Common.{◌+◌, refl}
-use Rattle.em_record.specs.declared.record.Record.{Record}
 use Rattle.em_map.proofs.Batches.{counts_command, next_later, takes_command}
 use Rattle.em_map.proofs.batch.Batch.push.Goals as goal
 use Rattle.em_map.proofs.Rooms.{over_more, push_few, within_more}
@@ -16,7 +15,7 @@ returns-clause-takes g c = λ given ops. takes_command c.args.self.now
     (record { tree = c.push.new.self; calls = c.args.self.now.calls + 1; syncs = c.args.self.now.syncs })
     c.requires.is c.push.ensures.counts given
     (record { a = c.args.key; b = c.args.self.now.calls + 1; c = c.args.what; d = c.args.value })
-    c.requires.few refl refl ops refl c.push.result c.push.ensures.pushes
+    c.requires.few c.push.ensures.rule refl refl ops refl c.push.result c.push.ensures.pushes
 
 pub returns-clause-counts : goal.returns-clause-counts
 returns-clause-counts g c = counts_command c.args.self.now

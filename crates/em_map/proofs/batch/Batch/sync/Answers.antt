@@ -1,4 +1,4 @@
-use Rattle.std.proofs.Common.{◌+◌, IsTrue, refl, arith}
+use Rattle.std.proofs.Common.{◌+◌, ◌∙◌, IsTrue, refl, arith}
 use Rattle.em_space.specs.Seen.{seen}
 use Rattle.em_chain.proofs.Parts.{err_of}
 use Rattle.em_tree.specs.Calls.{FullIfUntrim}
@@ -47,7 +47,7 @@ returns-clause-syncs g c =
     (seen g.D.Device.state c.take_answers.new.rig) b
     (record { tree = c.take_answers.new.self; calls = b.calls + 1; syncs = b.syncs + 1 })
     c.settle_all.new.self.trunk c.requires.sound c.requires.is c.requires.few c.settle_all.ensures.counts
-    refl refl c.in_ok-settle_all.ensures.settles c.take_answers.result c.take_answers.ensures.hands
+    refl refl (c.take_answers.ensures.rule ∙ c.settle_all.ensures.rule) c.in_ok-settle_all.ensures.settles c.take_answers.result c.take_answers.ensures.hands
 
 pub returns-clause-counts : goal.returns-clause-counts
 returns-clause-counts g c =

@@ -6,8 +6,8 @@ pub returns-in_err-commands : goal.returns-in_err-commands
 returns-in_err-commands g c =
     let f = c.in_err-commands.ensures in
     record {
-      done = list_err c.args.asks c.from_residual.result _ c.from_residual.ensures.1
-          (list_unfinished c.args.asks c.args.self c.requires.sound f.gives f.spends f.cause);
+      done = list_err (g.Q.Question.asks c.args.question.now) c.from_residual.result _ c.from_residual.ensures.1
+          (list_unfinished (g.Q.Question.asks c.args.question.now) c.args.self c.requires.sound f.gives f.spends f.cause);
     }
 
 pub returns-in_err-answers : goal.returns-in_err-answers
@@ -15,8 +15,8 @@ returns-in_err-answers g c =
     let f = c.in_ok-commands.ensures in
     let k = c.in_err-answers.ensures.done in
     record {
-      done = list_err c.args.asks c.from_residual-in_err-answers.result _ c.from_residual-in_err-answers.ensures.1
-          (list_refused c.args.asks (ending c.requires.sound f.gives f.finishes f.spends k.stops.goes) k);
+      done = list_err (g.Q.Question.asks c.args.question.now) c.from_residual-in_err-answers.result _ c.from_residual-in_err-answers.ensures.1
+          (list_refused (g.Q.Question.asks c.args.question.now) (ending c.requires.sound f.gives f.finishes f.spends k.stops.goes) k);
     }
 
 pub discard-requires-clause-is : goal.discard-requires-clause-is
@@ -31,8 +31,8 @@ returns-in_err-discard g c =
     let k = c.in_ok-answers.ensures.done in
     let d = c.in_err-discard.ensures in
     record {
-      done = list_err c.args.asks c.from_residual-in_err-discard.result _ c.from_residual-in_err-discard.ensures.1
-          (list_kept c.args.asks (ending c.requires.sound f.gives f.finishes f.spends (written_goes k)) k
+      done = list_err (g.Q.Question.asks c.args.question.now) c.from_residual-in_err-discard.result _ c.from_residual-in_err-discard.ensures.1
+          (list_kept (g.Q.Question.asks c.args.question.now) (ending c.requires.sound f.gives f.finishes f.spends (written_goes k)) k
           c.discard.ensures.goes d.frees d.cause);
     }
 
@@ -41,6 +41,6 @@ returns g c =
     let f = c.in_ok-commands.ensures in
     let k = c.in_ok-answers.ensures.done in
     record {
-      done = list_answered c.args.asks c.in_ok-discard.field-0 (ending c.requires.sound f.gives f.finishes f.spends (written_goes k))
+      done = list_answered (g.Q.Question.asks c.args.question.now) c.in_ok-discard.field-0 (ending c.requires.sound f.gives f.finishes f.spends (written_goes k))
           k c.discard.ensures.goes c.in_ok-discard.ensures.frees;
     }

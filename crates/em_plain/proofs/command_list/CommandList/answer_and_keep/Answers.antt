@@ -14,9 +14,9 @@ returns-in_err-commands g c =
     let was = c.replace-whole.ensures.value in
     let f = c.finish.ensures in
     rw c.replace-whole.ensures.after (record {
-      done = keeps_err c.args.asks c.from_residual.result _ c.from_residual.ensures.1
-          (kept_stops c.requires.sound c.requires.is n.lends n.unmoved n.begins c.args.asks
-          (list_unfinished c.args.asks c.args.self.now n.lends.sound (rw was at f.gives)
+      done = keeps_err (g.Q.Question.asks c.args.question.now) c.from_residual.result _ c.from_residual.ensures.1
+          (kept_stops c.requires.sound c.requires.is n.lends n.unmoved n.begins (g.Q.Question.asks c.args.question.now)
+          (list_unfinished (g.Q.Question.asks c.args.question.now) c.args.self.now n.lends.sound (rw was at f.gives)
           (rw was at c.in_err-commands.ensures.spends) c.in_err-commands.ensures.cause));
     })
 
@@ -27,10 +27,10 @@ returns-in_err-answers g c =
     let f = c.in_ok-commands.ensures in
     let k = c.in_err-answers.ensures.done in
     rw c.replace-whole.ensures.after (record {
-      done = keeps_err c.args.asks c.from_residual-in_err-answers.result _
+      done = keeps_err (g.Q.Question.asks c.args.question.now) c.from_residual-in_err-answers.result _
           c.from_residual-in_err-answers.ensures.1
-          (kept_stops c.requires.sound c.requires.is n.lends n.unmoved n.begins c.args.asks
-          (list_refused c.args.asks (ending n.lends.sound (rw was at c.finish.ensures.gives)
+          (kept_stops c.requires.sound c.requires.is n.lends n.unmoved n.begins (g.Q.Question.asks c.args.question.now)
+          (list_refused (g.Q.Question.asks c.args.question.now) (ending n.lends.sound (rw was at c.finish.ensures.gives)
           (rw was at f.finishes) (rw was at f.spends) k.stops.goes) k));
     })
 
@@ -50,7 +50,7 @@ write_anew-requires-clause-begins g c =
     let f = c.in_ok-commands.ensures in
     let k = c.in_ok-answers.ensures.done in
     rw c.replace-whole.ensures.after
-    (begins_yet c.requires.sound c.requires.is n.lends n.unmoved n.begins c.args.asks
+    (begins_yet c.requires.sound c.requires.is n.lends n.unmoved n.begins (g.Q.Question.asks c.args.question.now)
     (ending n.lends.sound (rw was at c.finish.ensures.gives) (rw was at f.finishes)
     (rw was at f.spends) (written_goes k)) k)
 
@@ -60,7 +60,7 @@ write_anew-requires-clause-none_left g c =
     let was = c.replace-whole.ensures.value in
     let f = c.in_ok-commands.ensures in
     let k = c.in_ok-answers.ensures.done in
-    none_yet c.requires.sound c.requires.is n.lends n.unmoved n.begins c.args.asks
+    none_yet c.requires.sound c.requires.is n.lends n.unmoved n.begins (g.Q.Question.asks c.args.question.now)
     (ending n.lends.sound (rw was at c.finish.ensures.gives) (rw was at f.finishes)
     (rw was at f.spends) (written_goes k)) k
 
@@ -71,9 +71,9 @@ returns-in_err-write_anew g c =
     let f = c.in_ok-commands.ensures in
     let k = c.in_ok-answers.ensures.done in
     record {
-      done = keeps_err c.args.asks c.from_residual-in_err-write_anew.result _
+      done = keeps_err (g.Q.Question.asks c.args.question.now) c.from_residual-in_err-write_anew.result _
           c.from_residual-in_err-write_anew.ensures.1
-          (kept_unwritten c.requires.sound c.requires.is n.lends n.unmoved n.begins c.args.asks
+          (kept_unwritten c.requires.sound c.requires.is n.lends n.unmoved n.begins (g.Q.Question.asks c.args.question.now)
           (ending n.lends.sound (rw was at c.finish.ensures.gives) (rw was at f.finishes)
           (rw was at f.spends) (written_goes k)) k c.in_err-write_anew.ensures.done);
     }
@@ -85,7 +85,7 @@ returns g c =
     let f = c.in_ok-commands.ensures in
     let k = c.in_ok-answers.ensures.done in
     record {
-      done = kept_all c.requires.sound c.requires.is n.lends n.unmoved n.begins c.args.asks
+      done = kept_all c.requires.sound c.requires.is n.lends n.unmoved n.begins (g.Q.Question.asks c.args.question.now)
           (ending n.lends.sound (rw was at c.finish.ensures.gives) (rw was at f.finishes)
           (rw was at f.spends) (written_goes k)) k c.in_ok-write_anew.ensures.done;
     }

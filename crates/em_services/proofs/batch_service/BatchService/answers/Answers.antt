@@ -1,11 +1,11 @@
 use Rattle.em_space.specs.Seen.{seen}
-use Rattle.em_services.proofs.BatchAnswers.{answers_are, answers_gives, answers_items, answers_leaves, answers_moves, answers_full, answers_room_is, unfinished_full, unfinished_moves, unfinished_room}
+use Rattle.em_services.proofs.BatchAnswers.{answers_are, answers_gives, answers_items, answers_leaves, answers_moves, answers_owes, answers_full, answers_room_is, unfinished_full, unfinished_moves, unfinished_room}
 use Rattle.em_services.proofs.batch_service.BatchService.answers.Goals as goal
 
 pub order_answers-requires : goal.order_answers-requires
 order_answers-requires g c = record {
   are = answers_are (seen g.D.Device.state c.args.rig.now) (seen g.D.Device.state c.finish.new.rig)
-      c.args.self c.in-Ok.answers c.in-Ok.ensures.finishes c.requires.is c.requires.free;
+      c.args.self c.in-Ok.answers c.in-Ok.ensures.finishes c.requires.is.0 c.requires.free;
 }
 
 pub returns-in-Ok-clause-gives : goal.returns-in-Ok-clause-gives
@@ -30,36 +30,42 @@ pub returns-in-Ok-clause-moves : goal.returns-in-Ok-clause-moves
 returns-in-Ok-clause-moves g c =
     answers_moves (seen g.D.Device.state c.args.rig.now) (seen g.D.Device.state c.finish.new.rig)
     (seen g.D.Device.state c.order_answers.new.rig) c.args.self c.in-Ok.answers
-    c.in-Ok.ensures.finishes c.order_answers.result c.order_answers.ensures.orders c.requires.is c.requires.sound
+    c.in-Ok.ensures.finishes c.order_answers.result c.order_answers.ensures.orders c.requires.is.0 c.requires.sound
     c.in-Ok.ensures.costs
 
 pub returns-in-Ok-clause-room : goal.returns-in-Ok-clause-room
 returns-in-Ok-clause-room g c =
     answers_room_is (seen g.D.Device.state c.args.rig.now) (seen g.D.Device.state c.finish.new.rig)
     (seen g.D.Device.state c.order_answers.new.rig) c.args.self c.in-Ok.answers
-    c.in-Ok.ensures.finishes c.requires.is c.requires.sound c.order_answers.result
+    c.in-Ok.ensures.finishes c.requires.is.0 c.requires.sound c.order_answers.result
     c.order_answers.ensures.orders c.in-Ok.ensures.room
 
 pub returns-in-Ok-clause-full : goal.returns-in-Ok-clause-full
 returns-in-Ok-clause-full g c =
     answers_full (seen g.D.Device.state c.args.rig.now) (seen g.D.Device.state c.finish.new.rig)
     (seen g.D.Device.state c.order_answers.new.rig) c.args.self c.in-Ok.answers
-    c.in-Ok.ensures.finishes c.requires.is c.requires.sound c.order_answers.result
+    c.in-Ok.ensures.finishes c.requires.is.0 c.requires.sound c.order_answers.result
     c.order_answers.ensures.orders
 
 pub returns-in-Err-clause-room : goal.returns-in-Err-clause-room
 returns-in-Err-clause-room g c =
     unfinished_room (seen g.D.Device.state c.args.rig.now) (seen g.D.Device.state c.finish.new.rig)
-    c.args.self c.in-Err.fault c.in-Err.ensures.finishes c.requires.is c.requires.sound
+    c.args.self c.in-Err.fault c.in-Err.ensures.finishes c.requires.is.0 c.requires.sound
     c.in-Err.ensures.room
 
 pub returns-in-Err-clause-full : goal.returns-in-Err-clause-full
 returns-in-Err-clause-full g c =
     unfinished_full (seen g.D.Device.state c.args.rig.now) (seen g.D.Device.state c.finish.new.rig)
-    c.args.self c.in-Err.fault c.in-Err.ensures.finishes c.requires.is c.requires.sound
+    c.args.self c.in-Err.fault c.in-Err.ensures.finishes c.requires.is.0 c.requires.sound
     c.in-Err.ensures.over
 
 pub returns-in-Err-clause-moves : goal.returns-in-Err-clause-moves
 returns-in-Err-clause-moves g c =
     unfinished_moves (seen g.D.Device.state c.args.rig.now) (seen g.D.Device.state c.finish.new.rig)
     c.args.self c.in-Err.fault c.in-Err.ensures.finishes c.in-Err.ensures.costs c.requires.sound
+
+pub returns-in-Ok-clause-owes : goal.returns-in-Ok-clause-owes
+returns-in-Ok-clause-owes g c =
+    answers_owes (seen g.D.Device.state c.args.rig.now) (seen g.D.Device.state c.finish.new.rig)
+    (seen g.D.Device.state c.order_answers.new.rig) c.args.self c.in-Ok.answers
+    c.in-Ok.ensures.finishes c.order_answers.result c.order_answers.ensures.orders

@@ -1,0 +1,6 @@
+use Rattle.std.proofs.Common.{refl}
+use Rattle.em_model.specs.declared.command.Command.TheVariants as command
+use Rattle.em_map.proofs.batch.Batch.add.Goals as goal
+
+pub returns-clause-takes : goal.returns-clause-takes
+returns-clause-takes g c = c.push.ensures.takes (command.Add c.args.key c.args.value) refl
