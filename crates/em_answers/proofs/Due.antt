@@ -111,20 +111,21 @@ print_no_fault faults later b c Read P cause = absurd cause
 print_no_fault faults later b c Write P cause = tt
 print_no_fault faults later b c (Em fault) P cause = tt
 
-module _ (apply : Combiner) {IsState : List ℕ → Type 0} {took : List ℕ → List ℕ → List ℕ} (rule : IsRule IsState took)
+module _ {IsState : List ℕ → Type 0} {took : List ℕ → List ℕ → List ℕ} (rule : IsRule IsState took)
     {old : List ℕ} (ok : IsState old) where
   -- The rig gave up before anything was printed.
   pub unprinted : {T : Type 0} (text : List ℕ) (fault : EmFault) → Answers {T = T} took text old old (Err (Em fault))
   unprinted text fault = record { all = tt; fault = tt; part = part-of (sent-nothing rule ok text refl) }
 
-  pub prints_due : {S T : Type 0} {mid new : List ℕ} (k : FileKind) (text : List ℕ) (stabs : ℕ)
+  -- The answers that were left were printed, or that stopped.
+  pub prints_due : (apply : Combiner) {S T : Type 0} {mid new : List ℕ} (k : FileKind) (text : List ℕ) (stabs : ℕ)
       (items : List Record) (x : S) (faults later : ℕ) (b c : RigState) (result : Result T Stop)
       → k ≢ kind.Queue → first_fault k text ≡ None → stabs ≡ length (stab_answers (good_commands k text))
       → items ≡ records_for apply k (up_to_sync (good_commands k text)) (since_sync (good_commands k text))
       → Answers took (synced_text apply k (good_commands k text)) old mid (Ok x)
       → Prints took (records_text k stabs items) mid new result → IfErr result (PrintCause faults later b c)
       → Answers took (output_text apply k text) old new result
-  prints_due k text stabs items x faults later b c (Ok y) n none many are a p cause =
+  prints_due apply k text stabs items x faults later b c (Ok y) n none many are a p cause =
       let whole = whole_due apply k text stabs items n none many are in
       record {
         all = p.all ∙ ap (λ s. took s (records_text k stabs items)) a.all
@@ -133,7 +134,7 @@ module _ (apply : Combiner) {IsState : List ℕ → Type 0} {took : List ℕ →
         fault = tt;
         part = rw (← whole) (part-then rule ok a.all p.part);
       }
-  prints_due k text stabs items x faults later b c (Err stop) n none many are a p cause =
+  prints_due apply k text stabs items x faults later b c (Err stop) n none many are a p cause =
       let whole = whole_due apply k text stabs items n none many are in
       record {
         all = tt;

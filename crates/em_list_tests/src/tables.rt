@@ -210,7 +210,7 @@ fn each_list_of_a_group_gets_its_records(rt: HostRuntime) -> Result<(), Fail> {
     Ok(())
 }
 
-/// The worked examples, with the least and the greatest key and point, and a del of a key that has no value. The
+/// The worked examples, with the least and the greatest key and point, adds, and a del of a key that has no value. The
 /// commands have one block: 1 move stores it, 1 reads it for the answers and 1 more for each get or stab but one with no command
 /// before it, 1 stores the answers, and 1 reads each of both blocks before it is released.
 ///
@@ -219,6 +219,7 @@ fn each_list_of_a_group_gets_its_records(rt: HostRuntime) -> Result<(), Fail> {
 /// for each stab, and read by 2 when they are released; the pairs are stored by 3 and read by 3.
 const COMMANDS: &str = "\
 map 0|10|ok|0 2 8 3|5 10 1,5,5 11 1,5,5 0 2,5|2 1 10,4 1 11,6
+map 0|10|ok|0 2 8 3|1 9 1,1 2 3,1,1 0 2,1 2 3,1 3 3,1,2 4 3,2|3 1 11,7 1 5,9 1 4
 map 0|10|ok|0 2 7 3|0,0 7 1,18446744073709551615 8 1,9 0 2,18446744073709551615,0|1,5 1 8,6 1 7
 map 0|1|ok|0 1 3 2|1 2 1 0:127|
 stab 0|10|ok|0 0 0 2||

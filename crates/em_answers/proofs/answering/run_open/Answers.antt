@@ -22,7 +22,7 @@ returns-in-Err-clause-runs g c =
 
 pub returns-in-Stab-clause-runs : goal.returns-in-Stab-clause-runs
 returns-in-Stab-clause-runs g c =
-    rw c.in-Stab.is (stab_runs (λ x y. x) (apply_of c.args.combine) g.H.Shelf g.W.Sink
+    rw c.in-Stab.is (stab_runs _ (apply_of c.args.combine) g.H.Shelf g.W.Sink
     (seen g.D.Device.state c.args.rig.now) (seen g.D.Device.state c.run_service.new.rig) c.args.shelf.now c.args.out.now
     c.run_service.new.shelf c.run_service.new.out c.run_service.result c.requires.unused
     c.requires.none_moved c.run_service.ensures.runs)

@@ -49,7 +49,7 @@ returns-clause-answers g c = λ t d.
     let printed : Prints g.W.Sink.took (records_text kind answers.stabs (chain_items mid answers.records))
     (g.W.Sink.state c.read_answers.new.out) (g.W.Sink.state c.print_answers.new.out) c.print_answers.result =
     rw c.KIND.ensures at (p.prints (r.goes.touches.told ∙ d)) in
-    prints_due (g.S.Service.combiner_of c.args.rule) g.met.W.Sink.rule (g.met.W.Sink.is_state c.args.out.now) kind
+    prints_due g.met.W.Sink.rule (g.met.W.Sink.is_state c.args.out.now) (g.S.Service.combiner_of c.args.rule) kind
     (rest c.args.feed.now (g.H.Shelf.stand c.args.shelf.now)) answers.stabs (chain_items mid answers.records)
     answers (g.W.Sink.faults c.read_answers.new.out) (g.W.Sink.faults c.print_answers.new.out) mid
     (seen g.D.Device.state c.print_answers.new.rig) c.print_answers.result g.met.S.Service.no_queue

@@ -25,7 +25,7 @@ returns-in-Err-clause-stop g c =
 
 pub returns-in-Err-clause-synced : goal.returns-in-Err-clause-synced
 returns-in-Err-clause-synced g c = λ t d.
-    unprinted (g.S.Service.combiner_of c.args.rule) g.met.W.Sink.rule (g.met.W.Sink.is_state c.args.out.now)
+    unprinted g.met.W.Sink.rule (g.met.W.Sink.is_state c.args.out.now)
     (synced_text (g.S.Service.combiner_of c.args.rule) g.S.Service.KIND (good_commands g.S.Service.KIND
     (rest c.args.feed.now (g.H.Shelf.stand c.args.shelf.now)))) c.in-Err.fault
 
