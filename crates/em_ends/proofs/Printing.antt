@@ -2,7 +2,7 @@
 use Rattle.std.proofs.Common.{◌≡◌, ℕ, List, [], ◌∷◌, ◌++◌, sym, subst, ◌∙◌, append_assoc, ⊎_elim, Result, Ok, Err}
 use Rattle.std.specs.Prelude.{IsErr, OnOk}
 use Rattle.em_io.specs.Sink.{IsRule, Sent, SentPart}
-use Rattle.em_io.proofs.Sent.{all-sent, part-add, part-more, part-of, part-rest, sent-add, sent-all, sent-more, sent-rest}
+use Rattle.em_io.proofs.Sent.{part-add, part-more, part-of, part-rest, sent-add, sent-all, sent-more, sent-rest}
 use Rattle.em_ends.specs.Stop.{EndsAs, Prints}
 use Rattle.em_ends.specs.declared.stop.Stop.{Stop}
 use Rattle.em_record.specs.Count.{Rose}

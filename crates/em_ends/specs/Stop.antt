@@ -1,5 +1,5 @@
--- Why a run stopped: the first fault of the text, or a count of faults that rose, or the rig.
-use Rattle.std.specs.Prelude.{◌≡◌, ℕ, ◌-◌, List, Result, OnOk, ◌≤◌, ◌⊎◌, Bool, IsTrue, [], Some, None, Ok, Err}
+-- Why a run stopped: the first fault of the text, or a count of faults that rose, or the rig. And what is sent then.
+use Rattle.std.specs.Prelude.{◌≡◌, ℕ, ◌-◌, List, Result, OnOk, ◌≤◌, ◌⊎◌, Ok, Err}
 use Rattle.em_io.specs.Sink.{SentPart}
 use Rattle.em_space.specs.declared.fault.EmFault.{EmFault}
 use Rattle.em_space.specs.declared.fault.EmFault.TheVariants as em
@@ -7,9 +7,7 @@ use Rattle.em_ends.specs.declared.status.Status.{Status}
 use Rattle.em_ends.specs.declared.status.Status.TheVariants.{Malformed, ReadFault, WriteFault, DeviceFault, Full, Damaged}
 use Rattle.em_ends.specs.declared.stop.Stop.{Stop}
 use Rattle.em_ends.specs.declared.stop.Stop.TheVariants as stop
-use Rattle.em_space.specs.Rig.{IfFull, RigState, BlockCause, Cause}
--- Why a run stopped: the first fault of the text, or a count of faults that rose, or the rig. And what
--- is sent then.
+use Rattle.em_space.specs.Rig.{IfFull}
 use Rattle.em_record.specs.Count.{Rose}
 use Rattle.em_io.specs.declared.sink.Sink.{Ghosts as SinkGhosts}
 use Rattle.aig_edges.specs.declared.stop.StepStop.{StepStop}

@@ -42,14 +42,6 @@ syncs_err (Ok c) e h a = absurd h
 syncs_err {F} {s} {t} {m} {n} (Err f) e h a =
     subst (λ (g : EmFault). Syncs s t m n (Err g)) (sym h) a
 
--- a map stays one with a command more
-pub still_map : {T F : Type 0} (s t : RigState) (m : ScanMap F) (l : CommandList) (c : Command) (k : ℕ)
-    (result : Result T EmFault) → IsScanMap s m → Noted s t m.list l c result → k ≡ m.answered
-    → OnOk result (IsScanMap t (record m { list = l; answered = k }))
-still_map s t m l c k (Ok y) i h e =
-    record { list = h.notes.is; answered = omega (arith, e, h.notes.len, i.answered) }
-still_map s t m l c k (Err f) i h e = tt
-
 -- A call gave up.
 stopped : {F : Type 0} {s t : RigState} {m n : ScanMap F} {e : EmFault} → Goes (blocks_of s m) s t → MapHasFrame t n
     → StaysWithin (held m.list) (plain_room s.pool.shape (list_len m.list + 1)) s t

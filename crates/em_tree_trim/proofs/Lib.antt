@@ -1,22 +1,22 @@
-mod Stays
-mod Looks
-mod RowLists
-mod JoinKeys
-mod JoinSteps
-mod RowsUp
-mod RangesUp
-mod Climbs
-mod LeafForests
-mod FirstKeys
-mod Sizes
-mod Runs
-mod LeafListings
-mod Parted
-mod ListedEntries
-mod NextJoined
-mod NextTaken
-mod LeavesStay
-mod JoinMoves
-mod JoinsOver
-mod Finished
-mod Trimmed
+pub mod Stays
+pub mod Looks
+pub mod RowLists
+pub mod JoinKeys
+pub mod JoinSteps
+pub mod RowsUp
+pub mod RangesUp
+pub mod Climbs
+pub mod LeafForests
+pub mod FirstKeys
+pub mod Sizes
+pub mod Runs
+pub mod LeafListings
+pub mod Parted
+pub mod ListedEntries
+pub mod NextJoined
+pub mod NextTaken
+pub mod LeavesStay
+pub mod JoinMoves
+pub mod JoinsOver
+pub mod Finished
+pub mod Trimmed
