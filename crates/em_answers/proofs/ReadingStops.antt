@@ -27,7 +27,7 @@ use Rattle.em_lines.specs.declared.text.FileKind.{FileKind}
 use Rattle.em_answers.proofs.Listing.{alone_unused, filled_call, no_counts, size_within}
 
 -- A cause stays one after a call that moved nothing.
-cause_unmoved : (s u v : RigState) (fault : EmFault) → Touches [] u v → Unmoved u v
+pub cause_unmoved : (s u v : RigState) (fault : EmFault) → Touches [] u v → Unmoved u v
     → Cause s u fault → Cause s v fault
 cause_unmoved s u v em.DeviceFault touches still cause = omega (arith, cause, touches.faults)
 cause_unmoved s u v (em.Full used) touches still cause = (

@@ -7,3 +7,4 @@ mod read;
 mod serving;
 
 pub use answering::{run_open, run_queue, run_service};
+pub use print::add_pair;

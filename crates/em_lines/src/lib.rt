@@ -10,6 +10,7 @@ mod operand;
 mod text;
 mod word;
 
+pub use byte::{next_byte, take_byte, take_bytes};
 pub use line::take_line;
 pub use numeral::number;
 pub use text::{FileKind, LineStop, TextKind};

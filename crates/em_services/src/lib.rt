@@ -8,4 +8,5 @@ mod scan_service;
 mod service;
 mod stab_service;
 
+pub use ordering::put_in_order;
 pub use service::Service;
