@@ -38,7 +38,7 @@ use Rattle.aig_edges.specs.Sorts.{sorting_moves}
 use Rattle.aig_edges.specs.declared.copying.Copied.{Copied}
 use Rattle.aig_edges.proofs.Besides.{stops_by}
 use Rattle.aig_edges.proofs.CopySteps.{copies_count, still_copied}
-use Rattle.aig_edges.proofs.Finishes.{Part, PartStops, StillWritten, finish_part, finish_stops, part_as, part_first, part_second, part_stops_after, part_stops_second, part_stops_still, part_stops_wider, part_then}
+use Rattle.aig_edges.proofs.Finishes.{Part, PartStops, StillWritten, finish_part, finish_stops, part_as, part_second, part_stops_after, part_stops_second, part_stops_still, part_stops_wider, part_then}
 use Rattle.aig_edges.proofs.Opened.{has_out, unmoved_then}
 use Rattle.aig_edges.proofs.Pushed.{unloaded_by}
 

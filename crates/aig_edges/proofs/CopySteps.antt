@@ -1,21 +1,20 @@
 -- Records that are read and written, one after another.
-use Rattle.std.proofs.Common.{◌≡◌, ℕ, ◌+◌, ◌*◌, ◌<◌, ◌≤◌, ◌^◌, min, List, [], ◌∷◌, ◌++◌, length, map, IsTrue, Result, Ok, Err, OnOk, IfErr, ap, ap₂, refl, sym, ◌∙◌, subst, arith}
+use Rattle.std.proofs.Common.{◌≡◌, ℕ, ◌+◌, ◌*◌, ◌<◌, ◌≤◌, ◌^◌, min, List, [], ◌∷◌, ◌++◌, length, Result, Ok, Err, OnOk, IfErr, ap, ap₂, refl, sym, ◌∙◌, subst, arith}
 use Rattle.em_record.specs.declared.record.Record.{Record}
-use Rattle.em_space.specs.Ledger.{Costs, Halts, Spends, Stops}
+use Rattle.em_space.specs.Ledger.{Costs, Halts, Spends}
 use Rattle.em_space.specs.Rig.{RigState, Sound, Goes, Cause, BlockCause}
 use Rattle.em_space.specs.declared.fault.EmFault.{EmFault}
 use Rattle.em_space.proofs.Runs.{stops_wider}
 use Rattle.em_chain.specs.Chain.{payload_in}
 use Rattle.em_chain.specs.Counts.{ceiling}
 use Rattle.em_chain.specs.Reader.{reader_blocks}
-use Rattle.em_chain.specs.Reads.{Reads}
-use Rattle.em_chain.specs.Session.{Pairs, one_more, pair_account, pair_blocks, taking_account, writer_account}
+use Rattle.em_chain.specs.Session.{Pairs, one_more, taking_account, writer_account}
 use Rattle.em_chain.specs.Writer.{filled, writer_blocks}
 use Rattle.em_chain.specs.Writes.{Appends}
 use Rattle.em_chain.specs.declared.reader.Reader.{Reader}
 use Rattle.em_chain.specs.declared.writer.Writer.{Writer}
 use Rattle.em_chain.proofs.Counts.{writer_blocks_are}
-use Rattle.em_chain.proofs.Pairs.{more_same, pairs_appends, pairs_is, pairs_next, pairs_none, pairs_stop_append, pairs_stop_next, pairs_stops, pairs_then, pairs_wider}
+use Rattle.em_chain.proofs.Pairs.{more_same, pairs_appends, pairs_is, pairs_none, pairs_stop_append, pairs_stop_next, pairs_stops, pairs_then, pairs_wider}
 use Rattle.em_chain.proofs.Sessions.{ceiling_rises, more_low}
 use Rattle.aig_edges.specs.Copies.{AreCopied, CopiesNext, CopiesOn, StopsWritingAnew, copied_from, copied_item}
 use Rattle.aig_edges.specs.declared.copying.Copied.{Copied}

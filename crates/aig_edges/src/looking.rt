@@ -3,7 +3,7 @@
 ghost use Rattle.std.specs.Prelude.{◌≡◌, ◌<◌, None, false};
 ghost use Rattle.em_space.specs.Rig.{Sound};
 ghost use Rattle.em_space.specs.Seen.{seen};
-ghost use Rattle.em_chain.specs.Chain.{IsChain, chain_items};
+ghost use Rattle.em_chain.specs.Chain.{IsChain};
 ghost use Rattle.em_chain.specs.Reader.{IsReader, ReaderHasFrame, owed, reader_items, rest_of};
 ghost use Rattle.aig_edges.specs.Looks.{LooksAll, LooksNext};
 ghost use Rattle.aig_edges.specs.Repeats.{TellsTwice, first_repeat, is_variable};

@@ -1,6 +1,6 @@
 -- Bits that are read and written, one after another.
 use mir.Val.{bool_byte}
-use Rattle.std.proofs.Common.{◌≡◌, ℕ, suc, ◌+◌, ◌-◌, ◌*◌, ◌<◌, ◌≤◌, inl, inr, min, Bool, true, false, List, [], ◌∷◌, ◌++◌, length, map, refl, sym, ap, ◌∙◌, subst, arith, append_assoc, IsTrue, Result, Ok, Err, OnOk}
+use Rattle.std.proofs.Common.{◌≡◌, ℕ, suc, ◌+◌, ◌-◌, ◌*◌, ◌<◌, ◌≤◌, inl, inr, min, Bool, true, false, List, [], ◌∷◌, ◌++◌, length, map, refl, sym, ap, ◌∙◌, subst, arith, IsTrue, Result, Ok, Err, OnOk}
 use Rattle.std.proofs.lemmas.List.{append-nil, length-append, length-map, map-append}
 use Rattle.em_record.specs.declared.record.Record.{Record}
 use Rattle.em_space.specs.Ledger.{Halts, Spends, Stops}
@@ -18,7 +18,7 @@ use Rattle.em_chain.proofs.Keeps.{payload_kept}
 use Rattle.em_chain.proofs.Pairs.{blocks_least}
 use Rattle.em_chain.proofs.Sessions.{ceiling_rises, more_low, wrote_none, wrote_one, wrote_then}
 use Rattle.em_chain.proofs.Withins.{within_grows}
-use Rattle.aig_defs.specs.Items.{Reading, Reads, Fails, Item, and_then}
+use Rattle.aig_defs.specs.Items.{Reading, Reads, Item, and_then}
 use Rattle.aig_defs.specs.Stimulus.{stimulus_bit, stimulus_end, stimulus_line}
 use Rattle.aig_text.specs.Draft.{IsPackedWriter}
 use Rattle.aig_text.specs.Reads.{Advances, ReadCause, ReadsItem, StopsAs}

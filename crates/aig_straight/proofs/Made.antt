@@ -1,19 +1,18 @@
 -- The lists of a graph: gates and sources are released, and the edges are written anew.
-use Rattle.std.proofs.Common.{◌≡◌, ℕ, ◌+◌, ◌*◌, ◌^◌, ◌<◌, ◌≤◌, List, [], ◌∷◌, ◌++◌, map, IsTrue, Result, Ok, Err, refl, ap, ap₂, sym, ◌∙◌, subst, arith}
+use Rattle.std.proofs.Common.{◌≡◌, ℕ, ◌+◌, ◌*◌, ◌^◌, ◌<◌, ◌≤◌, List, [], ◌∷◌, ◌++◌, map, IsTrue, Result, Ok, Err, refl, ap, ap₂, sym, ◌∙◌, arith}
 use Rattle.std.proofs.lemmas.List.{append-nil}
-use Rattle.std.specs.List.{enumerate_from}
 use Rattle.em_record.specs.declared.record.Record.{Record}
-use Rattle.em_space.specs.Held.{Apart, Holds}
-use Rattle.em_space.specs.Ledger.{Account, both, Halts, Runs, Spends, Stops}
-use Rattle.em_space.specs.Rig.{RigState, Sound, Goes, BlockCause}
+use Rattle.em_space.specs.Held.{Holds}
+use Rattle.em_space.specs.Ledger.{Account, both, Runs, Spends, Stops}
+use Rattle.em_space.specs.Rig.{RigState, Goes, BlockCause}
 use Rattle.em_space.specs.declared.fault.EmFault.{EmFault}
-use Rattle.em_space.proofs.Ledgers.{full_by, full_never}
+use Rattle.em_space.proofs.Ledgers.{full_never}
 use Rattle.em_space.proofs.Lists.{apart_left, apart_right, apart_sym, distinct_apart}
 use Rattle.em_space.proofs.Paying.{pays_kept, pays_more}
 use Rattle.em_space.proofs.Runs.{runs_as, runs_first, runs_of, runs_second, runs_then, runs_wider, stops_after, stops_first, stops_second, stops_wider}
 use Rattle.em_space.proofs.Steps.{block_cause}
 use Rattle.em_space.proofs.Within.{within_none}
-use Rattle.em_chain.specs.Chain.{ChainStays, IsChain, chain_blocks, chain_items, payload_in}
+use Rattle.em_chain.specs.Chain.{ChainStays, chain_blocks, chain_items, payload_in}
 use Rattle.em_chain.specs.Counts.{ceiling}
 use Rattle.em_chain.specs.Row.{Frees}
 use Rattle.em_chain.specs.declared.chain.Chain.{Chain}
@@ -23,7 +22,7 @@ use Rattle.aig_defs.specs.declared.circuit.Header.{Header}
 use Rattle.aig_defs.specs.VariableRanks.{ranked_edge}
 use Rattle.aig_edges.specs.Accounts.{stored_account}
 use Rattle.aig_edges.specs.Copies.{CanWriteAnew, WritesAnew, copied_from}
-use Rattle.aig_edges.specs.Graph.{IsGraph, edge_count, graph_lists, graph_size, ranked_room}
+use Rattle.aig_edges.specs.Graph.{IsGraph, graph_lists, graph_size, ranked_room}
 use Rattle.aig_edges.specs.Sorts.{sorting_moves}
 use Rattle.aig_edges.specs.declared.copying.Copied.TheVariants.{Ranked}
 use Rattle.aig_edges.specs.declared.graph.Graph.{Graph}

@@ -1,6 +1,6 @@
 //! The bits of a step's columns become the messages of a queue, in their order.
 
-ghost use Rattle.std.specs.Prelude.{◌≡◌, ◌<◌, ◌≤◌, ◌*◌, ◌∷◌, [], Bool, length, IsTrue, OnOk};
+ghost use Rattle.std.specs.Prelude.{◌≡◌, ◌<◌, ◌≤◌, ◌*◌, ◌∷◌, [], length, IsTrue, OnOk};
 ghost use Rattle.em_record.specs.Order.{Lacks};
 ghost use Rattle.em_space.specs.Seen.{seen};
 ghost use Rattle.aig_edges.specs.Pushes.{CanPushItems, PushesEach};

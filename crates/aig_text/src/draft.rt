@@ -11,7 +11,7 @@
 //! definitions climb and gates are above their operands is known at each moment. Left to the
 //! writers: how a list lies in its blocks.
 
-ghost use Rattle.std.specs.Prelude.{◌≡◌, ◌<◌, ◌&&◌, [], ◌∷◌, ◌+◌, min, IfOk, IfErr};
+ghost use Rattle.std.specs.Prelude.{◌≡◌, ◌<◌, ◌&&◌, [], ◌∷◌, ◌+◌, IfOk, IfErr};
 ghost use Rattle.em_space.specs.Rig.{Sound, DeviceCause};
 ghost use Rattle.em_space.specs.Seen.{seen};
 ghost use Rattle.em_chain.specs.Effects.{Completes, OnlyMoves, Unmoved};

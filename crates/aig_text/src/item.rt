@@ -1,5 +1,5 @@
 // The items that lines are made of: a byte, a separator, a number.
-ghost use Rattle.std.specs.Prelude.{◌≡◌, ◌+◌, ◌^◌, ◌<◌, ◌≤◌, ◌∷◌, length, drop, IfOk, IfErr, OnOk, OnSome};
+ghost use Rattle.std.specs.Prelude.{◌≡◌, ◌+◌, ◌^◌, ◌<◌, ◌≤◌, ◌∷◌, length, IfOk, IfErr, OnOk, OnSome};
 ghost use Rattle.aig_defs.specs.Items.{look, space, line_end, last_end, goes_on, number, number_fault};
 ghost use Rattle.aig_text.specs.Source.{CanRead, source};
 ghost use Rattle.aig_text.specs.Reads.{ReadsItem};

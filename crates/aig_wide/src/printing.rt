@@ -1,6 +1,6 @@
 //! The words of a group's steps leave the queue in their order, and are printed as lines.
 
-ghost use Rattle.std.specs.Prelude.{◌≡◌, ◌<◌, ◌≤◌, ◌+◌, ◌-◌, ◌*◌, ◌^◌, ◌++◌, min, take, OnOk};
+ghost use Rattle.std.specs.Prelude.{◌≡◌, ◌<◌, ◌≤◌, ◌+◌, ◌-◌, ◌*◌, ◌^◌, ◌++◌, take, OnOk};
 ghost use Rattle.em_io.specs.Sink.{Sent, SentPart};
 ghost use Rattle.em_record.specs.Count.{HasCause};
 ghost use Rattle.em_space.specs.Seen.{seen};

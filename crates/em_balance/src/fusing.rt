@@ -7,15 +7,15 @@
 //! Kept here: low keys, levels and links; on each way out all frames are back. Left to the tree: that
 //! nothing waits in the entries over both, and that what both lead to is a level of one tree.
 
-ghost use Rattle.std.specs.Prelude.{◌≡◌, ◌+◌, ◌*◌, ◌<◌, ◌≤◌, ◌⊎◌, [], ◌∷◌, length, IsTrue, IfErr, IfOk};
+ghost use Rattle.std.specs.Prelude.{◌≡◌, ◌+◌, ◌*◌, ◌<◌, ◌≤◌, ◌⊎◌, [], ◌∷◌, length, IsTrue};
 ghost use Rattle.em_record.specs.Shape.{fan_of};
 ghost use Rattle.em_frames.specs.Device.{block_at};
 ghost use Rattle.em_space.specs.Held.{Holds};
-ghost use Rattle.em_space.specs.Rig.{BlockCause, InUse, Sound};
+ghost use Rattle.em_space.specs.Rig.{InUse, Sound};
 ghost use Rattle.em_space.specs.Seen.{seen};
 ghost use Rattle.em_chain.specs.Effects.{Completes};
 ghost use Rattle.em_node.specs.Node.{IsNodeBlock};
-ghost use Rattle.em_balance.specs.Fusing.{CanFusePair, FusesOrShares, FusesPair, IsOverPair, PutsFused, PutsShared, SharesPair};
+ghost use Rattle.em_balance.specs.Fusing.{CanFusePair, FusesOrShares, IsOverPair, PutsFused, PutsShared};
 ghost use Rattle.em_balance.specs.Loaded.{LoadsTested};
 
 use crate::sharing::fuse_frames;

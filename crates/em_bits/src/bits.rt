@@ -5,7 +5,7 @@
 //!
 //! Left to the caller: that the row has enough records.
 
-ghost use Rattle.std.specs.Prelude.{◌<◌, ◌*◌, ◌≡◌, Bool, length};
+ghost use Rattle.std.specs.Prelude.{◌<◌, ◌*◌, ◌≡◌, length};
 ghost use Rattle.em_bits.specs.Bits.{AndsIn, Clears, Fills, FillsUpTo, has_bit};
 
 use crate::word::{holds, without};

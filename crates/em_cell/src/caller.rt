@@ -1,5 +1,5 @@
-ghost use Rattle.std.specs.Prelude.{◌≡◌, ◌<◌, ◌≤◌, ◌+◌, max, [], OnOk, OnErr, IfOk, IfErr, IsTrue, IsOk};
-ghost use Rattle.em_record.specs.Count.{Rose, next_count};
+ghost use Rattle.std.specs.Prelude.{◌≡◌, ◌<◌, ◌≤◌, ◌+◌, max, [], OnOk, IfOk, IfErr, IsTrue, IsOk};
+ghost use Rattle.em_record.specs.Count.{Rose};
 ghost use Rattle.em_space.specs.Rig.{Sound, Goes, Cause, BlockCause, Owes};
 ghost use Rattle.em_space.specs.Seen.{seen};
 ghost use Rattle.em_cell.specs.Calls.{MakesCell, TakesBlock};

@@ -2,7 +2,7 @@ ghost use Rattle.std.specs.Prelude.{◌≡◌, ◌<◌, ◌≤◌, ◌+◌, leng
 ghost use Rattle.em_record.specs.Count.{Rose};
 ghost use Rattle.em_frames.specs.Device.{block_at};
 ghost use Rattle.em_space.specs.Free.{header};
-ghost use Rattle.em_space.specs.Rig.{Sound, InUse, Goes, BlockCause, DeviceCause, IfDamaged, Owes, SameBlocks, MovesToRelease};
+ghost use Rattle.em_space.specs.Rig.{Sound, InUse, Goes, DeviceCause, Owes, SameBlocks, MovesToRelease};
 ghost use Rattle.em_space.specs.Held.{Holds};
 ghost use Rattle.em_space.specs.Seen.{seen};
 ghost use Rattle.em_cell.specs.Calls.{MovesOne, MakesCell, TakesBlock, NeedsBlock, Ends};

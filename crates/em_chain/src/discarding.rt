@@ -1,7 +1,7 @@
-ghost use Rattle.std.specs.Prelude.{◌≡◌, ◌<◌, ◌≤◌, ◌+◌, ◌*◌, [], OnOk, IfOk, IfErr, IsTrue};
+ghost use Rattle.std.specs.Prelude.{◌≡◌, ◌<◌, ◌≤◌, ◌+◌, ◌*◌, [], IfOk, IfErr, IsTrue};
 ghost use Rattle.em_frames.specs.Device.{block_at};
 ghost use Rattle.em_space.specs.Free.{header};
-ghost use Rattle.em_space.specs.Rig.{RigState, Sound, InUse, Goes, BlockCause};
+ghost use Rattle.em_space.specs.Rig.{Sound, InUse, Goes, BlockCause};
 ghost use Rattle.em_space.specs.Seen.{seen};
 ghost use Rattle.em_chain.specs.Chain.{IsChain, chain_blocks};
 ghost use Rattle.em_chain.specs.Effects.{OnlyMoves, Completes};

@@ -1,6 +1,6 @@
 ghost use Rattle.std.specs.Prelude.{◌≡◌, ◌<◌, ◌≤◌, ◌+◌, ◌*◌, ◌++◌, min, length, [], ◌∷◌, OnOk, IfOk, IfErr, IsTrue};
 ghost use Rattle.em_space.specs.Held.{Apart};
-ghost use Rattle.em_space.specs.Rig.{RigState, Sound, Goes, BlockCause};
+ghost use Rattle.em_space.specs.Rig.{Sound, Goes, BlockCause};
 ghost use Rattle.em_space.specs.Seen.{seen};
 ghost use Rattle.em_chain.specs.Chain.{IsChain, chain_blocks};
 ghost use Rattle.em_chain.specs.Effects.{OnlyMoves, Completes};

@@ -1,6 +1,6 @@
 ghost use Rattle.std.specs.Prelude.{◌≡◌, ◌<◌, IfOk, IfErr, IsTrue};
 ghost use Rattle.std.specs.List.Sorted.{IsSorted};
-ghost use Rattle.em_space.specs.Rig.{RigState, Sound, Goes, Cause};
+ghost use Rattle.em_space.specs.Rig.{Sound, Goes, Cause};
 ghost use Rattle.em_space.specs.Seen.{seen};
 ghost use Rattle.em_chain.specs.Chain.{IsChain, chain_blocks, chain_items};
 ghost use Rattle.em_chain.specs.Effects.{Completes, OnFull};

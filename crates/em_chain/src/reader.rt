@@ -8,7 +8,7 @@
 
 ghost use Rattle.std.specs.Prelude.{◌≡◌, ◌<◌, ◌+◌, get_or, [], ◌∷◌, OnOk, IfOk, IfErr, IfSome, IsTrue, Ok, None, true, false};
 ghost use Rattle.em_frames.specs.Device.{zero_record};
-ghost use Rattle.em_space.specs.Rig.{RigState, Sound, InUse, Goes, BlockCause};
+ghost use Rattle.em_space.specs.Rig.{Sound, InUse, Goes, BlockCause};
 ghost use Rattle.em_space.specs.Ledger.{Costs};
 ghost use Rattle.em_space.specs.Seen.{seen};
 ghost use Rattle.em_chain.specs.Chain.{IsChain, ChainStays};
@@ -38,7 +38,6 @@ pub struct Reader {
 }
 
 impl Reader {
-    ghost use Rattle.em_space.specs.Free.{header};
     ghost use Rattle.em_chain.specs.Reader.{IsReader, ReaderHasFrame, NeedsLoad, IsReady, IsAtLast, rest_of, reader_blocks};
     ghost use Rattle.em_chain.specs.Session.{taking_account};
     ghost use Rattle.em_chain.specs.Reads.{Opens, Reads, AtEnd, ReadCosts, Fetches, Peeks};

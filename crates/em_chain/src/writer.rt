@@ -8,7 +8,7 @@
 //! stay as they were stored.
 
 ghost use Rattle.std.specs.Prelude.{◌≡◌, ◌↔◌, ◌<◌, ◌≤◌, ◌+◌, ◌*◌, ◌^◌, min, length, set, [], OnOk, OnErr, IfOk, IfErr, Err};
-ghost use Rattle.em_space.specs.Rig.{RigState, Sound, Goes, Cause, BlockCause, DeviceCause};
+ghost use Rattle.em_space.specs.Rig.{Sound, Goes, Cause, BlockCause, DeviceCause};
 ghost use Rattle.em_space.specs.Ledger.{Costs};
 ghost use Rattle.em_space.specs.Seen.{seen};
 ghost use Rattle.em_chain.specs.Chain.{IsChain, payload_in};
@@ -36,7 +36,7 @@ pub struct Writer {
 
 impl Writer {
     ghost use Rattle.em_chain.specs.Writer.{IsWriter, WriterHasFrame, NeedsBlock, CanGrow, writer_blocks};
-    ghost use Rattle.em_chain.specs.Session.{writer_account, chain_account, one_more, FinishSpends, ResumeSpends};
+    ghost use Rattle.em_chain.specs.Session.{writer_account, one_more, FinishSpends, ResumeSpends};
     ghost use Rattle.em_chain.specs.View.{stored_part};
     ghost use Rattle.em_chain.specs.Writes.{Begins, Appends, AppendCosts, Finishes, FinishCosts, Resumes};
 

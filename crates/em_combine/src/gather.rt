@@ -6,7 +6,7 @@
 //! ```
 //!
 //! Kept here: the operations of each key stand in the order of their numbers (`CameInTurn`).
-ghost use Rattle.std.specs.Prelude.{◌≡◌, ℕ, ◌<◌, ◌≤◌, [], ◌∷◌, ◌++◌, length};
+ghost use Rattle.std.specs.Prelude.{◌≡◌, ◌<◌, ◌≤◌, [], ◌∷◌, ◌++◌, length};
 ghost use Rattle.em_settle.specs.Add.{apply_of};
 ghost use Rattle.em_combine.specs.Joining.{CameInTurn, IsAfter, JoinsLoad};
 

@@ -5,7 +5,7 @@
 //! records:  | joined | the last: its run may go on | any records | not read yet |
 //!           0         kept                                        at
 //! ```
-ghost use Rattle.std.specs.Prelude.{◌≡◌, ℕ, ◌+◌, ◌<◌, ◌≤◌, length, take, drop};
+ghost use Rattle.std.specs.Prelude.{◌≡◌, ◌+◌, ◌<◌, ◌≤◌, length, take};
 ghost use Rattle.em_settle.specs.Add.{apply_of};
 ghost use Rattle.em_combine.specs.Joining.{are_joined as joins, join_two as two_joined, joined};
 ghost use Rattle.em_combine.specs.Front.{JoinsNext};

@@ -1,5 +1,5 @@
 //! A load that is gathered and joined, over any combiner.
-ghost use Rattle.std.specs.Prelude.{◌≡◌, ◌<◌, ◌≤◌, ◌+◌, [], length};
+ghost use Rattle.std.specs.Prelude.{◌≡◌, ◌<◌, ◌≤◌, ◌+◌};
 ghost use Rattle.em_combine.specs.Joining.{others, runs};
 
 use em_combine::Gather;

@@ -2,7 +2,6 @@
 //!
 //! Over such a device a call asks nothing of the blocks, so that any node may be written by hand.
 ghost use Rattle.std.specs.Prelude.{◌≡◌, false, [], IfOk};
-ghost use Rattle.em_frames.specs.Device.{DeviceState};
 
 use em_frames::{BeginFault, Device, MemDevice};
 use em_record::{Failed, NoMemory, Record};

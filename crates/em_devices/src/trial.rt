@@ -1,6 +1,5 @@
 //! A rig of the smallest shape, for the length of a test.
 ghost use Rattle.std.specs.Prelude.{◌≡◌, ◌<◌, ◌≤◌, ◌^◌, IfOk};
-ghost use Rattle.em_frames.specs.Device.{DeviceState};
 ghost use Rattle.em_frames.specs.Pool.{IsWhole, fresh_pool};
 ghost use Rattle.em_space.specs.Rig.{Opens};
 ghost use Rattle.em_space.specs.Seen.{seen};

@@ -1,6 +1,5 @@
 //! A device that tells nothing of what it holds, and holds nothing that is written.
 ghost use Rattle.std.specs.Prelude.{◌≡◌, false, []};
-ghost use Rattle.em_frames.specs.Device.{DeviceState};
 
 use em_frames::{BeginFault, Device};
 use em_record::{Failed, Record};

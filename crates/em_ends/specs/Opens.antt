@@ -1,5 +1,5 @@
 -- What a run does to the shelf.
-use Rattle.std.specs.Prelude.{IsNone, IsSome, IfSome, is_none, ℕ, List, [], Option, Some, None, Ok, unwrap_or, ◌≡◌, Bool, true, IsTrue, OnSome, ◌-◌}
+use Rattle.std.specs.Prelude.{IsNone, IsSome, IfSome, is_none, ℕ, List, [], Option, Some, None, unwrap_or, ◌≡◌, Bool, true, IsTrue, OnSome, ◌-◌}
 use Rattle.em_io.specs.Shelf.{Stand, SlotState, Leaves}
 use Rattle.em_io.specs.declared.shelf.Slot.{Slot}
 use Rattle.em_io.specs.declared.shelf.Slot.TheVariants.{First, Second}

@@ -34,7 +34,7 @@ use Rattle.em_eval.specs.EvalMoves.{circuit_moves, making_moves, rounds_moves}
 use Rattle.em_eval.specs.EvalSize.{circuit_read, eval_room, given_of, passes_read}
 use Rattle.em_ends.specs.Opens.{IsAllRead, ReadsFirst}
 use Rattle.em_ready.specs.Ready.{IsReady}
-use Rattle.em_ends.specs.Stop.{Faults, IfStopsFull, OnFault, fault_counts, OnDue, UnlessWrite}
+use Rattle.em_ends.specs.Stop.{Faults, IfStopsFull, fault_counts, OnDue, UnlessWrite}
 use Rattle.em_ends.specs.declared.status.Malform.TheVariants.{Text, Aig}
 use Rattle.em_ends.specs.declared.stop.Stop.{Stop}
 use Rattle.em_ends.specs.declared.stop.Stop.TheVariants.{Fault, Read, Write, Em}

@@ -1,7 +1,7 @@
 ghost use Rattle.std.specs.Prelude.{◌≡◌, ◌<◌, ◌≤◌, ◌+◌, ◌-◌, ◌*◌, true, false, length, IfOk, vec_len, vec_capacity};
 ghost use Rattle.std.specs.List.{All};
-ghost use Rattle.em_record.specs.Shape.{IsShape, fan_of, wide_of};
-ghost use Rattle.em_frames.specs.Pool.{singles_of, load_of, places_in, out_of, fresh_pool, lent, given, lent_area, given_area, lent_rack, given_rack, IsWhole};
+ghost use Rattle.em_record.specs.Shape.{wide_of};
+ghost use Rattle.em_frames.specs.Pool.{singles_of, load_of, places_in, fresh_pool, lent, given, lent_area, given_area, lent_rack, given_rack, IsWhole};
 ghost use Rattle.em_frames.specs.Rack.{places_of, empty_rack};
 
 use crate::area::Area;

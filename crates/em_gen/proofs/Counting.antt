@@ -1,6 +1,6 @@
 -- A tally that counts byte by byte.
-use Rattle.std.proofs.Common.{◌≡◌, ℕ, ◌+◌, ◌<◌, List, [], ◌∷◌, ◌++◌, length, get_or, take, refl, sym, ap, ◌∙◌}
-use Rattle.std.proofs.lemmas.List.{append-nil, take_more}
+use Rattle.std.proofs.Common.{◌≡◌, ℕ, ◌+◌, ◌<◌, List, [], ◌∷◌, ◌++◌, length, get_or, take, sym, ap, ◌∙◌}
+use Rattle.std.proofs.lemmas.List.{take_more}
 use Rattle.em_gen.specs.Tally.{tallied}
 use Rattle.em_gen.specs.TallyLaws.{tally_twice}
 

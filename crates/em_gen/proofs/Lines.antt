@@ -1,10 +1,9 @@
 -- Lines as they are made and taken.
-use Rattle.std.proofs.Common.{◌≡◌, ℕ, zero, suc, ◌+◌, ◌-◌, ◌%◌, ◌<◌, ◌≤◌, min, List, [], ◌∷◌, ◌++◌, length, take, drop, refl, sym, ap, ◌∙◌, subst, arith, ⊎_elim, add-one, length-drop}
+use Rattle.std.proofs.Common.{◌≡◌, ℕ, zero, suc, ◌+◌, ◌-◌, ◌%◌, ◌<◌, ◌≤◌, min, List, [], ◌∷◌, ◌++◌, length, take, drop, refl, sym, ap, ◌∙◌, arith, ⊎_elim, add-one, length-drop}
 use Rattle.std.proofs.lemmas.Bool.{cases_lt}
 use Rattle.std.proofs.lemmas.List.{take-append-drop, drop_all, drop-drop, take-append-le, length-take}
 use Rattle.em_gen.specs.Draws.{after_draws, drawn, next_state}
-use Rattle.em_gen.specs.Texts.{after_line, bits_of, line_at, lines_from, stimulus_line}
-use Rattle.em_gen.specs.Shelf.{left_of}
+use Rattle.em_gen.specs.Texts.{bits_of, line_at, lines_from, stimulus_line}
 use Rattle.em_gen.specs.Steps.{IsRefilled, MakesLine}
 use Rattle.em_gen.specs.declared.kind.GenKind.{GenKind}
 use Rattle.em_gen.specs.declared.made.Made.{Made}

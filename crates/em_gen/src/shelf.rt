@@ -3,7 +3,6 @@ ghost use Rattle.std.specs.Prelude.{◌≡◌, ◌^◌, ◌<◌, ◌≤◌, ◌|
 ghost use Rattle.em_io.specs.Shelf.{Leaves, StaysOpen, TakesOff, unopened};
 ghost use Rattle.em_record.specs.Count.{HasCause};
 ghost use Rattle.em_gen.specs.Shelf.{stand_of};
-ghost use Rattle.em_gen.specs.Texts.{made_text};
 
 use crate::kind::GenKind;
 use crate::made::{Made, nothing_left, read_on, whole};

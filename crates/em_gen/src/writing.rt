@@ -1,7 +1,7 @@
 //! The lines of made texts: docs/FORMATS.md, "Made texts".
-ghost use Rattle.std.specs.Prelude.{◌≡◌, ◌+◌, ◌-◌, ◌*◌, ◌%◌, ◌^◌, ◌<◌, ◌≤◌, ◌++◌, ◌∷◌, [], codes, decimal, length};
-ghost use Rattle.em_gen.specs.Draws.{after_draws, after_wide, drawn, next_state, wide_drawn};
-ghost use Rattle.em_gen.specs.Texts.{after_circuit_line, circuit_line, bits_of, gate_line, header_line, literals, map_line, one_number, queue_line, stab_line, stimulus_line, two_numbers};
+ghost use Rattle.std.specs.Prelude.{◌≡◌, ◌+◌, ◌-◌, ◌*◌, ◌%◌, ◌^◌, ◌<◌, ◌≤◌, ◌++◌, ◌∷◌, [], length};
+ghost use Rattle.em_gen.specs.Draws.{after_draws, after_wide, drawn, next_state};
+ghost use Rattle.em_gen.specs.Texts.{after_circuit_line, circuit_line, gate_line, header_line, map_line, one_number, queue_line, stab_line, stimulus_line, two_numbers};
 ghost use Rattle.em_gen.specs.Texts.{command_at};
 
 use crate::draws::{draw, wide_draw};

@@ -6,7 +6,7 @@
 //!
 //! Kept here: the heap's records (`items`) and the slice's length (`long`). Nothing is said of the records
 //! after the heap.
-ghost use Rattle.std.specs.Prelude.{◌≡◌, ℕ, ◌<◌, ◌≤◌, ◌∷◌, drop, length};
+ghost use Rattle.std.specs.Prelude.{◌≡◌, ◌<◌, ◌≤◌, ◌∷◌, drop, length};
 ghost use Rattle.em_heap.specs.Heap.{IsHeap, HeapPushes, HeapPops, heap_items};
 
 use crate::sift::{sift_down, sift_up};

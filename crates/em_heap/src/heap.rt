@@ -8,7 +8,7 @@
 //! A pop takes the lesser of the heap's first record and the run's, so that what a refill brought is taken
 //! with no work on the heap. Kept here: heap and run are what they are (`IsStock`). Left to others: what
 //! stands between them. After `upper_half` these are the records that it took out, in order.
-ghost use Rattle.std.specs.Prelude.{◌≡◌, ℕ, ◌+◌, ◌-◌, ◌/◌, ◌<◌, ◌≤◌, [], ◌++◌, length, take, drop, slice_get, IfNone, IfSome, option_to_list};
+ghost use Rattle.std.specs.Prelude.{◌≡◌, ◌+◌, ◌-◌, ◌/◌, ◌<◌, ◌≤◌, [], ◌++◌, length, take, drop, slice_get, IfNone, IfSome, option_to_list};
 ghost use Rattle.std.specs.Borrow.{sem};
 ghost use Rattle.em_record.specs.Order.{with_record, IsAscending};
 

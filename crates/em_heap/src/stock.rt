@@ -5,7 +5,7 @@
 //! ```
 //!
 //! Kept here: what both have (`items`), and the slice's length (`long`).
-ghost use Rattle.std.specs.Prelude.{◌≡◌, ℕ, ◌+◌, ◌<◌, ◌≤◌, ◌∷◌, ◌++◌, IsTrue, IsFalse, drop, length, take};
+ghost use Rattle.std.specs.Prelude.{◌≡◌, ◌+◌, ◌<◌, ◌≤◌, ◌∷◌, ◌++◌, IsTrue, IsFalse, drop, length, take};
 ghost use Rattle.em_heap.specs.Stock.{IsStock, LeadsRun, LeadsTop, RunPops, StockHalves, StockPops, StockPushes, between, run_of, stock_items};
 
 use crate::front;

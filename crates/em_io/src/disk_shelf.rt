@@ -1,4 +1,4 @@
-ghost use Rattle.std.specs.Prelude.{◌≡◌, ◌<◌, ◌≤◌, [], true, false, length, is_ok, is_err, is_some, IfOk, if◌then◌else◌};
+ghost use Rattle.std.specs.Prelude.{◌≡◌, ◌<◌, ◌≤◌, true, false, length, is_ok, is_err, is_some, IfOk, if◌then◌else◌};
 ghost use Rattle.em_io.specs.DiskShelf.{stand_of};
 ghost use Rattle.em_io.specs.Shelf.{Leaves, StaysOpen, unopened};
 ghost use Rattle.em_record.specs.Count.{HasCause, next_count};

@@ -1,5 +1,5 @@
 // The texts of a shelf in memory, and where its slots stand in them.
-ghost use Rattle.std.specs.Prelude.{◌≡◌, ◌<◌, ◌≤◌, ◌+◌, ◌-◌, ◌++◌, ◌&&◌, [], true, not, min, length, take, drop, is_none, is_some, MatchOption, None, Some};
+ghost use Rattle.std.specs.Prelude.{◌≡◌, ◌<◌, ◌≤◌, ◌+◌, ◌-◌, ◌++◌, ◌&&◌, [], true, not, min, length, take, is_none, is_some, MatchOption, None, Some};
 ghost use Rattle.em_io.specs.MemShelf.{text_under};
 ghost use Rattle.em_io.specs.MemTexts.{bytes_at, behind};
 

@@ -6,7 +6,6 @@ use Rattle.em_space.specs.Queue.{Ends, LacksBlocks, QueueCounts}
 use Rattle.em_space.specs.Rig.{IfFull, RigState, Sound}
 use Rattle.em_space.specs.declared.fault.EmFault.{EmFault}
 use Rattle.em_space.specs.declared.fault.EmFault.TheVariants.{DeviceFault, Full, Damaged}
-use Rattle.em_chain.specs.Counts.{ceiling}
 use Rattle.em_chain.proofs.Sessions.{ceiling_rises}
 use Rattle.em_plain.specs.ScanQueue.{IsScanQueue, counts_of, one_block}
 use Rattle.em_plain.specs.declared.scan_queue.ScanQueue.{ScanQueue}

@@ -10,7 +10,6 @@
 //! within the limits of chains. Which links lead where is left to the tree. The first low key is
 //! kept in order too, though `find` doesn't read it.
 ghost use Rattle.std.specs.Prelude.{◌≡◌, ◌+◌, ◌-◌, ◌*◌, ◌/◌, ◌<◌, ◌≤◌, length, get_or, [], set, insert, remove, take, drop, ◌++◌};
-ghost use Rattle.em_record.specs.Order.{is_below};
 ghost use Rattle.em_node.specs.Node.{Is, IsNode, entries_of, level_of, no_entry, IsLimited, LowsRise, place_of};
 
 use crate::entry::Entry;

@@ -1,7 +1,7 @@
 //! The answers to a list of commands. A reader goes through the list once, and a writer beside it
 //! writes the answers. For each command that asks, a second reader goes through the commands
 //! before it.
-ghost use Rattle.std.specs.Prelude.{◌≡◌, ◌+◌, ◌<◌, ◌^◌, take};
+ghost use Rattle.std.specs.Prelude.{◌≡◌, ◌+◌, ◌<◌, ◌^◌};
 ghost use Rattle.em_space.specs.Rig.{Sound};
 ghost use Rattle.em_space.specs.Seen.{seen};
 ghost use Rattle.em_chain.specs.Chain.{IsChain, chain_items};

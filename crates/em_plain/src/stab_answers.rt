@@ -9,7 +9,7 @@ ghost use Rattle.em_plain.specs.Adds.{AddsTo, IsAdding, ReadsBeside, StepsTo};
 ghost use Rattle.em_plain.specs.Asks.{interval_next, pair_for};
 ghost use Rattle.em_plain.specs.Ready.{ReadyBeside};
 ghost use Rattle.em_model.specs.StabAnswers.{pair_record};
-ghost use Rattle.em_plain.specs.StabPairs.{holder_pairs, next_interval, pair_with, pairs_of};
+ghost use Rattle.em_plain.specs.StabPairs.{holder_pairs, next_interval, pair_with};
 
 use crate::command_record::to_command;
 use crate::question::Question;

@@ -1,5 +1,5 @@
 -- The end of a queue: what it leaves, by its result.
-use Rattle.std.specs.Prelude.{Err, IfErr, IsErrAnd, IsTrue, None, Ok, OnErr, OnOk, Result, Some, length, ◌+◌, ◌≡◌, ◌≤◌}
+use Rattle.std.specs.Prelude.{Err, IfErr, IsErrAnd, IsTrue, Ok, OnErr, OnOk, Result, Some, length, ◌+◌, ◌≡◌, ◌≤◌}
 use Rattle.std.proofs.Common.{arith, sym, subst, ◌∙◌}
 use Rattle.em_settle.specs.Bag.{bag_key_of, bag_step_of}
 use Rattle.em_space.specs.Queue.{Ended, Ends, LacksBlocks, Pays}

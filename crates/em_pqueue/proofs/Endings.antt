@@ -1,5 +1,5 @@
 -- A queue is ended: its area goes back, its tree is finished, and the empty list of answers is discarded.
-use Rattle.std.specs.Prelude.{IsTrue, List, None, Result, Some, ℕ, [], length, ◌+◌, ◌-◌, ◌<◌, ◌≡◌, ◌≤◌}
+use Rattle.std.specs.Prelude.{IsTrue, List, Result, Some, ℕ, [], length, ◌+◌, ◌-◌, ◌<◌, ◌≡◌, ◌≤◌}
 use Rattle.std.specs.List.Sorted.{IsPermutation}
 use Rattle.std.proofs.Common.{arith, sym, ap, subst, ◌∙◌}
 use Rattle.std.proofs.lemmas.List.Sorted.{length_permutation}

@@ -17,7 +17,7 @@ use Rattle.em_tree_cost.specs.ExtQueue.{no_calls}
 use Rattle.em_tree_cost.proofs.ExtQueue.{queue_new}
 use Rattle.em_tree_model.specs.Tree.{waiting_in}
 use Rattle.em_tree.specs.Calls.{IsNewTrunk}
-use Rattle.em_trunk.specs.Trunk.{TrunkHasFrames, given_by, model_of, trunk_blocks}
+use Rattle.em_trunk.specs.Trunk.{TrunkHasFrames, model_of, trunk_blocks}
 use Rattle.em_trunk.specs.Trunk as trunks
 use Rattle.em_trunk.proofs.Stays.{TrunkStays, trunk_stays}
 use Rattle.em_pqueue.specs.Calls.{IsNewQueue}

@@ -1,5 +1,5 @@
 -- The most blocks that a queue held are counted after a part of a call.
-use Rattle.std.specs.Prelude.{◌≡◌, ⊤, ◌⊎◌, ℕ, ◌+◌, ◌-◌, ◌<◌, ◌≤◌, max, length, IsTrue}
+use Rattle.std.specs.Prelude.{◌≡◌, ◌⊎◌, ℕ, ◌+◌, ◌-◌, ◌<◌, ◌≤◌, max, IsTrue}
 use Rattle.std.proofs.Common.{arith, subst, sym, ⊎_elim}
 use Rattle.em_space.specs.Rig.{RigState}
 use Rattle.em_tree_cost.specs.Shares.{tree_room}

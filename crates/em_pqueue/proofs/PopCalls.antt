@@ -7,7 +7,7 @@ use Rattle.em_space.specs.Queue.{LacksBlocks, Pays, Served, Serves}
 use Rattle.em_space.specs.Rig.{Cause, IfFull, RigState}
 use Rattle.em_space.specs.declared.fault.EmFault.{EmFault}
 use Rattle.em_tree_cost.specs.ExtQueue.{after_call}
-use Rattle.em_pqueue.specs.ExtQueue.{ExtQueueHasFrames, HoldsFrames, IsExtQueue, WantsRefill, any_blocks, counts_of, queue_blocks, queue_items}
+use Rattle.em_pqueue.specs.ExtQueue.{HoldsFrames, IsExtQueue, WantsRefill, any_blocks, counts_of, queue_blocks, queue_items}
 use Rattle.em_pqueue.specs.QueueLaws as laws
 use Rattle.em_pqueue.specs.Steps.{Miscounts, MovesItems, Noted, Recounts, Stops, TakesItem, counted_call}
 use Rattle.em_pqueue.specs.declared.queue.ExtQueue.{ExtQueue}

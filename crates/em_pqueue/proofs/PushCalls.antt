@@ -1,5 +1,5 @@
 -- A push: what it leaves, by its result.
-use Rattle.std.specs.Prelude.{Err, IfErr, IsErrAnd, IsTrue, None, Ok, OnErr, OnOk, Result, Some, ℕ, false, if◌then◌else◌, length, max, true, ◌+◌, ◌<◌, ◌==◌, ◌^◌, ◌≡◌, ◌≤◌}
+use Rattle.std.specs.Prelude.{Err, IfErr, IsErrAnd, IsTrue, Ok, OnErr, OnOk, Result, Some, ℕ, false, if◌then◌else◌, length, max, true, ◌+◌, ◌<◌, ◌==◌, ◌^◌, ◌≡◌, ◌≤◌}
 use Rattle.std.proofs.Common.{arith, sym, ap, subst, ◌∙◌, refl, ⊎_elim}
 use Rattle.std.proofs.lemmas.Bool.{cases_Bool, cond-false, eqb-true}
 use Rattle.em_record.specs.Order.{Lacks, with_record}
@@ -8,7 +8,7 @@ use Rattle.em_space.specs.Held.{Within}
 use Rattle.em_space.specs.Queue.{LacksBlocks, Pays, Served, Serves}
 use Rattle.em_space.specs.Rig.{Cause, IfFull, RigState}
 use Rattle.em_space.specs.declared.fault.EmFault.{EmFault}
-use Rattle.em_pqueue.specs.ExtQueue.{ExtQueueHasFrames, GivesDown, HoldsFrames, IsExtQueue, any_blocks, counts_of, queue_blocks, queue_items}
+use Rattle.em_pqueue.specs.ExtQueue.{GivesDown, HoldsFrames, IsExtQueue, any_blocks, counts_of, queue_blocks, queue_items}
 use Rattle.em_pqueue.specs.QueueLaws as laws
 use Rattle.em_pqueue.specs.Steps.{Miscounts, Noted, PutsItem, Recounts, RecountsTo, Stops, counted_call}
 use Rattle.em_pqueue.specs.declared.queue.ExtQueue.{ExtQueue}

@@ -1,6 +1,6 @@
 -- The room of a queue: that of its tree, of one part of a call and of several.
 use Rattle.std.specs.Prelude.{◌≡◌, ℕ, ◌+◌, ◌<◌, ◌≤◌, List, [], length, IsTrue}
-use Rattle.std.proofs.Common.{arith, ap, subst, length-drop}
+use Rattle.std.proofs.Common.{arith, ap, length-drop}
 use Rattle.em_record.specs.Shape.{IsShape, ShapeNumbers, payload_of}
 use Rattle.em_chain.specs.Counts.{ceiling}
 use Rattle.em_chain.specs.List.{items_in}
@@ -15,7 +15,6 @@ use Rattle.em_trunk.specs.Room.{FullOverRoom, WithinRoom}
 use Rattle.em_trunk.specs.Trunk.{given_by, trunk_blocks}
 use Rattle.em_trunk.specs.declared.trunk.Trunk.{Trunk}
 use Rattle.em_trunk.proofs.Rooms.{answers_blocks}
-use Rattle.em_tree_walk.specs.Paid.{LosesNone}
 use Rattle.em_pqueue.specs.ExtQueue.{IsBagTree}
 use Rattle.em_pqueue.specs.Room.{QueueHolds, QueueOver}
 use Rattle.em_tree.proofs.RoomCalls.{rest_room}

@@ -1,5 +1,5 @@
 -- What a push and a pop leave of a queue, of its rig and of its numbers.
-use Rattle.std.specs.Prelude.{Err, IfErr, IsErrAnd, IsTrue, List, None, Ok, Result, Some, ℕ, if◌then◌else◌, length, max, ◌+◌, ◌<◌, ◌==◌, ◌^◌, ◌≡◌, ◌≤◌}
+use Rattle.std.specs.Prelude.{Err, IfErr, IsErrAnd, IsTrue, List, Ok, Result, Some, ℕ, if◌then◌else◌, length, max, ◌+◌, ◌<◌, ◌==◌, ◌^◌, ◌≡◌, ◌≤◌}
 use Rattle.std.proofs.Common.{arith, sym, ap, subst, ◌∙◌, refl, ⊎_elim}
 use Rattle.em_frames.specs.Pool.{load_of}
 use Rattle.em_space.specs.Held.{Within}

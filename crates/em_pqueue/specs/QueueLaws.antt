@@ -15,7 +15,7 @@ use Rattle.em_tree_cost.proofs.Books.{books_share}
 use Rattle.em_tree_cost.proofs.ExtQueue.{queue_within}
 use Rattle.em_tree_cost.proofs.Rising.{queue_share_rises, tree_room_rises}
 use Rattle.em_tree_model.specs.Tree.{Tree}
-use Rattle.em_trunk.specs.Trunk.{TrunkHasFrames, given_by, model_of}
+use Rattle.em_trunk.specs.Trunk.{TrunkHasFrames}
 use Rattle.em_trunk.specs.Trunk as trunks
 use Rattle.em_trunk.proofs.Stays.{TrunkReads, TrunkStays, trunk_stays}
 use Rattle.em_pqueue.specs.Ascending.{rising_ascends}

@@ -329,7 +329,7 @@ impl ExtQueue {
 }
 
 impl Queue for ExtQueue {
-    ghost use Rattle.std.specs.Prelude.{◌++◌, Some, None, IfNone, length, option_to_list};
+    ghost use Rattle.std.specs.Prelude.{◌++◌, Some, IfNone, length, option_to_list};
     ghost use Rattle.em_space.specs.Held.{Within};
     ghost use Rattle.em_space.specs.Queue.{Ended, Ends, LacksBlocks, Pays, Served, Serves};
     ghost use Rattle.em_space.specs.Rig.{Cause, IfFull};

@@ -1,5 +1,5 @@
 -- A queue that was made, and one that was given up: what a run knows of it, whichever it is.
-use Rattle.std.specs.Prelude.{◌≡◌, ◌≤◌, ◌+◌, [], None, ◌<◌, max}
+use Rattle.std.specs.Prelude.{◌≡◌, ◌≤◌, ◌+◌, [], ◌<◌, max}
 use Rattle.em_space.specs.Ledger.{Session}
 use Rattle.em_space.specs.Queue.{IsNew, Pays, Shares}
 use Rattle.em_space.specs.Rig.{Cause, Goes, RigState, IfFull}

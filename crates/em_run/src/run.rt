@@ -7,7 +7,6 @@ ghost use Rattle.em_run.specs.Tasks.{names_of, RunsTask};
 ghost use Rattle.em_run.specs.Due.{names_on};
 ghost use Rattle.em_words.specs.Job.{IsOrigin};
 ghost use Rattle.em_ready.specs.Ready.{IsReady, IsUnused};
-ghost use Rattle.em_answers.specs.FileRun.{Runs};
 ghost use Rattle.em_run.specs.Runs.{RunsOn};
 
 use crate::generate::run_made;

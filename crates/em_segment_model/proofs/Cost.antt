@@ -1,7 +1,7 @@
 -- The moves of the recursion, times P, the payload of a block. A node has X points in bx blocks and Y pieces in
 -- by; its z strips have `out` blocks, and its t lists lb blocks; e is what its pieces weigh, and F the pairs that
 -- it writes.
-use Rattle.std.proofs.Common.{◌≡◌, ℕ, ◌+◌, ◌*◌, ◌<◌, ◌≤◌, ap, ◌∙◌, arith}
+use Rattle.std.proofs.Common.{◌≡◌, ℕ, ◌+◌, ◌*◌, ◌<◌, ◌≤◌, ◌∙◌, arith}
 use Rattle.std.proofs.Math.Nat.{mul-le-mul_left, mul-le-mul_right, le_of_mul-le-mul_right}
 use Rattle.em_record.specs.Cost.{blocks_of, lev}
 use Rattle.em_record.specs.Shape.{ShapeNumbers, IsShape, payload_of}

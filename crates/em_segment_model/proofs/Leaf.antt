@@ -1,5 +1,5 @@
 -- A leaf: a load of points in order of their values, against one piece after another.
-use Rattle.std.proofs.Common.{◌≡◌, ℕ, ◌+◌, ◌<◌, ◌≤◌, Bool, true, false, cond, List, [], ◌∷◌, ◌++◌, length, take, get_or, map, refl, sym, ap, ◌∙◌, arith}
+use Rattle.std.proofs.Common.{◌≡◌, ℕ, ◌+◌, ◌<◌, ◌≤◌, Bool, true, false, cond, List, [], ◌∷◌, ◌++◌, length, take, get_or, map, refl, ap, ◌∙◌, arith}
 use Rattle.std.proofs.lemmas.Bool.Decides.{nat_tests}
 use Rattle.std.proofs.lemmas.List.{append-nil, map-append}
 use Rattle.std.proofs.lemmas.List.Elements.{filter-append, filter_more}
@@ -8,7 +8,6 @@ use Rattle.std.specs.List.{flat_map, sum_by}
 use Rattle.em_record.specs.declared.record.Record.{Record}
 use Rattle.em_record.specs.Order.{AtLeast, IsAscending}
 use Rattle.em_record.proofs.OrderLaws.{ascends_apart}
-use Rattle.em_model.specs.Stab.{NumberedInterval}
 use Rattle.em_model.specs.StabAnswers.{pair_record}
 use Rattle.em_segment_model.specs.Alike.{Alike}
 use Rattle.em_segment_model.specs.Loads.{is_answered, leaf_list, leaf_pairs}

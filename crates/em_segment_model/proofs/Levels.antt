@@ -11,7 +11,7 @@ use Rattle.em_record.proofs.Levels.{next-less}
 use Rattle.em_tree_cost.specs.Sizes.{IsCeil}
 use Rattle.em_tree_cost.proofs.Ceilings.{blocks_ceil, ceil_is, ceil_most}
 use Rattle.em_tree_cost.proofs.Levels.{fan_wide, lev_few, lev_next}
-use Rattle.em_segment_model.specs.Sizes.{IsRoot, Sized, fan_root, strip_levels, strip_levels_within}
+use Rattle.em_segment_model.specs.Sizes.{Sized, fan_root, strip_levels, strip_levels_within}
 use Rattle.em_segment_model.proofs.Roots.{shape_sized}
 
 -- the points that an area holds

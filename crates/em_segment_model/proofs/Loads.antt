@@ -1,13 +1,13 @@
 -- A load of points that stand latest first, against the list of a multislab. All pieces span the points' strip,
 -- so that only numbers are compared, and reading stops at the first piece that no point was asked after.
-use Rattle.std.proofs.Common.{◌≡◌, ℕ, zero, suc, ◌+◌, ◌-◌, ◌^◌, ◌<◌, ◌≤◌, Bool, true, false, cond, List, [], ◌∷◌, ◌++◌, length, take, get_or, map, refl, sym, ap, ◌∙◌, arith, ⊎_elim, length-append, true≢false}
+use Rattle.std.proofs.Common.{◌≡◌, ℕ, ◌+◌, ◌-◌, ◌^◌, ◌<◌, ◌≤◌, Bool, true, false, cond, List, [], ◌∷◌, ◌++◌, length, take, get_or, map, refl, sym, ap, ◌∙◌, arith, ⊎_elim, length-append}
 use Rattle.std.proofs.lemmas.Bool.{cases_Bool}
 use Rattle.std.proofs.lemmas.Bool.Decides.{nat_tests}
-use Rattle.std.proofs.lemmas.List.{append-nil, length-map, map-append, take-append-drop}
+use Rattle.std.proofs.lemmas.List.{append-nil, map-append}
 use Rattle.std.proofs.lemmas.List.Elements.{filter-append, filter_more}
 use Rattle.std.proofs.lemmas.List.Sums.{sum_by-cons}
-use Rattle.std.specs.Prelude.{◌&&◌, if◌then◌else◌, nat_lt, nat_le, filter}
-use Rattle.std.specs.List.{flat_map, sum_by}
+use Rattle.std.specs.Prelude.{◌&&◌, if◌then◌else◌, nat_lt, filter}
+use Rattle.std.specs.List.{sum_by}
 use Rattle.em_record.specs.declared.record.Record.{Record}
 use Rattle.em_record.specs.Order.{AtLeast, IsAscending, in_order}
 use Rattle.em_record.proofs.OrderLaws.{ascends_apart}
@@ -21,7 +21,7 @@ use Rattle.em_segment_model.specs.Points.{asked_in, interval_in}
 use Rattle.em_segment_model.specs.Reports.{later_pairs}
 use Rattle.em_segment_model.proofs.Cuts.{word_least}
 use Rattle.em_segment_model.proofs.Order.{order-alike}
-use Rattle.em_segment_model.proofs.Sums.{filter-map, if_so, sum-filter, sum-flat, sum-map, sum-same, sums-turned}
+use Rattle.em_segment_model.proofs.Sums.{if_so, sum-filter, sum-flat, sum-map, sum-same, sums-turned}
 
 not_less : (n b : ℕ) → b ≤ n → nat_lt n b ≡ false
 not_less n b h = grind (arith, nat_tests)

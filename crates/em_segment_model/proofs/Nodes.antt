@@ -1,6 +1,6 @@
 -- A node and its children: each pair is reported once, and the children's pieces weigh no more than the
 -- node's.
-use Rattle.std.proofs.Common.{◌≡◌, ℕ, suc, ◌+◌, ◌*◌, ◌≤◌, Bool, true, false, cond, List, [], ◌∷◌, ◌++◌, length, map, refl, sym, ap, subst, ◌∙◌, arith, max}
+use Rattle.std.proofs.Common.{◌≡◌, ℕ, suc, ◌+◌, ◌*◌, ◌≤◌, Bool, true, false, cond, List, [], ◌∷◌, ◌++◌, length, map, refl, sym, ap, subst, ◌∙◌, arith}
 use Rattle.std.proofs.Math.Nat.{le-max_left, le-max_right, max-le}
 use Rattle.std.proofs.lemmas.List.{length-map}
 use Rattle.std.proofs.lemmas.List.Concat.{flat_map-append}
@@ -26,7 +26,7 @@ use Rattle.em_segment_model.proofs.Fills.{slabs_hold}
 use Rattle.em_segment_model.proofs.Once.{spans-holds, strip_parts}
 use Rattle.em_segment_model.proofs.Reports.{strip_reported}
 use Rattle.em_segment_model.proofs.Slabs.{listed_spans, spans_at}
-use Rattle.em_segment_model.proofs.Sums.{filter-map, if_so, sum-map}
+use Rattle.em_segment_model.proofs.Sums.{filter-map, if_so}
 
 -- all points of some strips
 abbrev points_of : List Part → List Asked

@@ -9,7 +9,7 @@ use Rattle.em_tree_cost.proofs.Ceilings.{blocks_ceil}
 use Rattle.em_tree_cost.proofs.Levels.{frames_wide, size_is}
 use Rattle.em_tree_cost.proofs.Rising.{div_ceil_rises, floors_rise}
 use Rattle.em_segment_model.specs.Bounds.{holds}
-use Rattle.em_segment_model.specs.Sizes.{IsRoot, Sized, fan_root}
+use Rattle.em_segment_model.specs.Sizes.{IsRoot, fan_root}
 use Rattle.em_segment_model.proofs.Cost.{ListBlocks, StripBlocks}
 use Rattle.em_segment_model.proofs.Roots.{fan_root_is, root_sized}
 

@@ -1,5 +1,5 @@
 -- The square root of the fan-out: how many strips a node has.
-use Rattle.std.proofs.Common.{◌≡◌, ℕ, zero, suc, ◌+◌, ◌*◌, ◌<◌, ◌≤◌, refl, sym, ap, ◌∙◌, arith, inl, inr}
+use Rattle.std.proofs.Common.{◌≡◌, ℕ, zero, suc, ◌+◌, ◌*◌, ◌<◌, ◌≤◌, sym, ◌∙◌, arith, inl, inr}
 use Rattle.std.proofs.Math.Nat.{mul-le-mul, mul-le-mul_left, mul-le-mul_right}
 use Rattle.std.proofs.lemmas.Bool.{cond-false, cond-true, cases_lt, le-leb, lt-leb}
 use Rattle.em_record.specs.Shape.{ShapeNumbers, IsShape, fan_of, payload_of, wide_of}

@@ -1,14 +1,13 @@
 -- Worked rows, which the definitions compute. All were worked out by hand.
-use Rattle.std.proofs.Common.{◌≡◌, ◌+◌, ◌*◌, ◌^◌, ◌-◌, ℕ, Bool, true, false, List, [], ◌∷◌, ◌++◌, map, refl}
+use Rattle.std.proofs.Common.{◌≡◌, ◌+◌, ◌*◌, ◌^◌, ◌-◌, ℕ, true, false, List, [], ◌∷◌, ◌++◌, map, refl}
 use Rattle.em_record.specs.declared.record.Record.{Record}
 use Rattle.em_record.specs.Shape.{ShapeNumbers}
 use Rattle.em_model.specs.declared.command.Command.TheVariants.{Get, Interval, Stab}
-use Rattle.em_model.specs.Stab.{NumberedInterval}
 use Rattle.em_model.specs.StabAnswers.{pair_record}
 use Rattle.em_segment_model.specs.Bounds.{holds, pays}
 use Rattle.em_segment_model.specs.Commands.{asked_from}
 use Rattle.em_segment_model.specs.Loads.{before_of, front_of, late_pairs, late_record, leaf_pairs}
-use Rattle.em_segment_model.specs.Pieces.{Asked, ends, goes_down, meets, spans}
+use Rattle.em_segment_model.specs.Pieces.{ends, goes_down, meets, spans}
 use Rattle.em_segment_model.specs.Places.{got_at, place_of, places_of}
 use Rattle.em_segment_model.specs.Points.{asked_record, pairs_below, pairs_due}
 use Rattle.em_segment_model.specs.Reports.{reported_here, slab_lists}

@@ -1,5 +1,5 @@
 -- The members of a node's group: first one for each strip, then one for each multislab.
-use Rattle.std.specs.Prelude.{ℕ, zero, suc, ◌+◌, ◌-◌, ◌==◌, Bool, List, [], ◌∷◌, ◌++◌, if◌then◌else◌, length, map}
+use Rattle.std.specs.Prelude.{ℕ, zero, suc, ◌+◌, ◌-◌, ◌==◌, List, [], ◌∷◌, ◌++◌, if◌then◌else◌, length, map}
 use Rattle.em_record.specs.declared.record.Record.{Record}
 use Rattle.em_segment_model.specs.Points.{interval_in}
 use Rattle.em_segment_model.specs.Slabs.{Slab, slab_of}

@@ -1,5 +1,5 @@
 -- Points and intervals as records, and back.
-use Rattle.std.specs.Prelude.{ℕ, List, [], ◌∷◌, ◌++◌, map}
+use Rattle.std.specs.Prelude.{List, [], ◌∷◌, ◌++◌, map}
 use Rattle.em_record.specs.declared.record.Record.{Record}
 use Rattle.em_model.specs.Stab.{NumberedInterval}
 use Rattle.em_segment_model.specs.Pieces.{Asked, all_pairs}

@@ -1,5 +1,5 @@
 -- Adds that were worked out by hand, from the table in README.md: at both ends of the range, and where nothing is stored.
-use Rattle.std.specs.Prelude.{◌≡◌, ℕ, ◌-◌, ◌^◌, Option, Some, None}
+use Rattle.std.specs.Prelude.{◌≡◌, ℕ, ◌-◌, ◌^◌, Some, None}
 use Rattle.std.proofs.Common.{refl}
 use Rattle.em_record.specs.declared.record.Record.{Record}
 use Rattle.em_settle.specs.Add.{add_step_of, apply_of}

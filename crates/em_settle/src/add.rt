@@ -9,7 +9,7 @@
 //! Numbers are at least 1, so that a stored record is below all operations of its key.
 
 ghost use Rattle.std.specs.Prelude.{◌≡◌, ℕ, ◌<◌, ◌^◌};
-ghost use Rattle.em_settle.specs.Add.{added, apply_of, IsAssociative};
+ghost use Rattle.em_settle.specs.Add.{apply_of, IsAssociative};
 
 use crate::combine::Combine;
 use crate::map::{answer, stored_record};

@@ -8,7 +8,7 @@
 //! Kept here: what one operation does, and the laws that let it wait. Left to the tree: where operations
 //! wait, and that those of a key keep their order.
 
-ghost use Rattle.std.specs.Prelude.{◌≡◌, Bool, true, false, Option, Some, None, IfSome};
+ghost use Rattle.std.specs.Prelude.{◌≡◌, true, false, Option, Some, IfSome};
 ghost use Rattle.em_record.specs.Order.{is_below};
 ghost use Rattle.em_record.specs.declared.record.Record as records;
 ghost use Rattle.em_settle.specs.declared.step.Step as steps;

@@ -1,9 +1,9 @@
 ghost use Rattle.std.specs.Prelude.{◌≡◌, ◌↔◌, ◌<◌, ◌≤◌, ◌+◌, ◌-◌, ◌^◌, length, set, max, [], ◌∷◌, ◌++◌, OnOk, OnErr, IfOk, IfErr, IsTrue, IsOk, Err, true, false};
 ghost use Rattle.em_record.specs.Count.{Rose, next_count};
-ghost use Rattle.em_frames.specs.Device.{block_at, ChangesOnly};
+ghost use Rattle.em_frames.specs.Device.{block_at};
 ghost use Rattle.em_frames.specs.Pool.{singles_of, load_of, places_in, lent, given, lent_area, given_area, lent_rack, given_rack, IsWhole, SameFrames};
 ghost use Rattle.em_frames.specs.Rack.{empty_rack};
-ghost use Rattle.em_space.specs.Rig.{RigState, Sound, InUse, Touches, Goes, Cause, BlockCause, DeviceCause, IfDamaged, Owes, Opens, Refuses, Allocates, NoneNew, Releases, SameBlocks, MovesToAlloc, MovesToRelease, Transfers};
+ghost use Rattle.em_space.specs.Rig.{Sound, InUse, Touches, Goes, Cause, BlockCause, DeviceCause, IfDamaged, Owes, Opens, Refuses, Allocates, NoneNew, Releases, SameBlocks, MovesToAlloc, MovesToRelease, Transfers};
 ghost use Rattle.em_space.specs.Free.{header};
 ghost use Rattle.em_space.specs.Inner.{IsFreeHeader, Reads, WritesLink};
 

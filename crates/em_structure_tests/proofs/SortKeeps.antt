@@ -18,7 +18,7 @@ use Rattle.em_pqueue.specs.ExtQueue.{HoldsFrames, IsExtQueue, counts_of, queue_b
 use Rattle.em_pqueue.specs.QueueLaws as laws
 use Rattle.em_pqueue.specs.contracts.queue.ExtQueueQueue.TheImpl.{ghosts}
 use Rattle.em_pqueue.specs.declared.queue.ExtQueue.{ExtQueue}
-use Rattle.em_structure_tests.specs.Ready.{HasAll, KeepsQueue, ReadyQueue, queue_size}
+use Rattle.em_structure_tests.specs.Ready.{HasAll, KeepsQueue, ReadyQueue}
 use Rattle.em_structure_tests.proofs.Kept.{never}
 use Rattle.em_structure_tests.proofs.QueueKeeps.{shares_frames}
 

@@ -1,6 +1,5 @@
 //! A run: a structure over a new rig gets calls, from a new one to its end.
 ghost use Rattle.std.specs.Prelude.{◌≡◌, ◌<◌, ◌≤◌, ◌^◌, IfOk};
-ghost use Rattle.em_frames.specs.Device.{DeviceState};
 ghost use Rattle.em_frames.specs.Pool.{fresh_pool};
 ghost use Rattle.em_space.specs.Rig.{Opens};
 ghost use Rattle.em_space.specs.Seen.{seen};

@@ -3,7 +3,6 @@ ghost use Rattle.std.specs.Prelude.{◌+◌, ◌*◌, ◌≤◌, ◌^◌, length
 ghost use Rattle.em_record.specs.Shape.{fan_of};
 ghost use Rattle.em_chain.specs.Chain.{IsChain};
 ghost use Rattle.em_space.specs.Seen.{seen};
-ghost use Rattle.em_segment.specs.Stabs.{IsStab};
 ghost use Rattle.em_structure_tests.specs.Ready.{EndsStab, HasAll, KeepsRig, KeepsStab, ReadyStab};
 
 use crate::reading::{is_long, read_all};

@@ -1,14 +1,13 @@
 -- The room of a tree over its calls.
 use Rattle.std.proofs.Common.{◌≡◌, ℕ, ◌+◌, ◌*◌, ◌^◌, ◌<◌, ◌≤◌, List, length, refl, sym, ap, ◌∙◌, subst, arith, IsTrue, Result, Ok, Err, IsErrAnd, inl, inr}
 use Rattle.std.specs.Prelude.{IfErr, Option, max}
-use Rattle.em_record.specs.Shape.{ShapeNumbers, payload_of}
+use Rattle.em_record.specs.Shape.{ShapeNumbers}
 use Rattle.em_record.specs.declared.record.Record.{Record}
-use Rattle.em_space.specs.Rig.{IfFull, RigState, Sound}
+use Rattle.em_space.specs.Rig.{RigState, Sound}
 use Rattle.em_space.specs.declared.fault.EmFault.{EmFault}
 use Rattle.em_space.proofs.Ledgers.{full_by}
-use Rattle.em_chain.specs.Counts.{ceiling}
 use Rattle.em_settle.specs.declared.step.Step.{Step}
-use Rattle.em_tree_cost.specs.Books.{KeepsBooks, TreeCounts, count_push}
+use Rattle.em_tree_cost.specs.Books.{KeepsBooks, TreeCounts}
 use Rattle.em_tree_cost.specs.Counters.{Sums}
 use Rattle.em_tree_cost.specs.Outline.{waiting_of}
 use Rattle.em_tree_cost.specs.Shares.{tree_room}
@@ -21,7 +20,7 @@ use Rattle.em_tree.specs.Pushing.{Appended, PushesTo}
 use Rattle.em_trunk.specs.Room.{FullOverRoom, HasCounters, KeepsIn, MayHold, StopsIn, WithinRoom, most_held}
 use Rattle.em_tree.specs.Settling.{SettledAll}
 use Rattle.em_tree.specs.Trimmed.{SettlesTrim}
-use Rattle.em_trunk.specs.Trunk.{IsTrunk, counts_of, sums_in, trunk_blocks}
+use Rattle.em_trunk.specs.Trunk.{IsTrunk, sums_in, trunk_blocks}
 use Rattle.em_trunk.specs.declared.trunk.Trunk.{Trunk}
 use Rattle.em_tree_visits.specs.declared.visiting.Taken.{Taken}
 use Rattle.em_tree.proofs.PushBegins.{append_books, begun_runs}

@@ -33,7 +33,7 @@ pub struct Tree<S: Settle> {
 }
 
 impl<S: Settle> Tree<S> {
-    ghost use Rattle.std.specs.Prelude.{Result, Ok, Err, IfOk, IfErr};
+    ghost use Rattle.std.specs.Prelude.{Ok, Err, IfOk, IfErr};
     ghost use Rattle.em_tree.specs.Calls.{CountsCall, FinishCosts, FinishesTrunk, FullIfUntrim, IsLow, IsNewTrunk, PushesOp, SettlesTrunk, StopsNewTrunk};
     ghost use Rattle.em_space.specs.Rig.{IfFull};
     ghost use Rattle.em_tree.specs.Finishing.{FullIfUsed};

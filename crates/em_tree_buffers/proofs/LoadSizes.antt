@@ -1,6 +1,6 @@
 -- How many blocks more are in use while a leaf is loaded, and how many answers its operations give.
 use Rattle.std.proofs.Common.{◌≡◌, ℕ, ◌+◌, ◌-◌, ◌*◌, ◌<◌, ◌≤◌, List, [], ◌∷◌, ◌++◌, length, ap, subst, arith, length-append, Option, Some, None}
-use Rattle.std.specs.Prelude.{min, option_to_list}
+use Rattle.std.specs.Prelude.{option_to_list}
 use Rattle.std.specs.List.Sorted.{IsPermutation}
 use Rattle.em_record.specs.Shape.{IsShape, fan_of, payload_of, wide_of}
 use Rattle.em_record.specs.declared.record.Record.{Record}

@@ -1,5 +1,5 @@
 -- The most blocks in use while a leaf is loaded.
-use Rattle.std.proofs.Common.{◌≡◌, ℕ, ◌+◌, ◌-◌, ◌*◌, ◌<◌, ◌≤◌, min, ap, ◌∙◌, arith, subst, IsTrue, List, get_or, length, Option, Some}
+use Rattle.std.proofs.Common.{◌≡◌, ℕ, ◌+◌, ◌-◌, ◌*◌, ◌<◌, ◌≤◌, min, ap, ◌∙◌, arith, IsTrue, List, get_or, length, Option, Some}
 use Rattle.em_record.specs.Shape.{ShapeNumbers, payload_of}
 use Rattle.em_record.specs.declared.record.Record.{Record}
 use Rattle.em_frames.specs.Pool.{load_of}
@@ -21,7 +21,7 @@ use Rattle.em_tree_walk.specs.Reads.{ReadsOnly, ReadsPassing}
 use Rattle.em_tree_walk.specs.Stands.{IsNodeOf}
 use Rattle.em_tree_load.specs.LeafLoads.{CanLoadLeaf, load_peak, taken_of, waiting_over}
 use Rattle.em_tree_load.specs.LeafSettles.{load_count}
-use Rattle.em_tree_load.specs.LoadRoom.{TakesSplit, split_room}
+use Rattle.em_tree_load.specs.LoadRoom.{TakesSplit}
 use Rattle.em_tree_load.specs.NodeLoads.{LoadedHere}
 use Rattle.em_tree_load.specs.Peaks.{Peaks}
 use Rattle.em_tree_walk.specs.SplitPaths.{StopsUpTo, TakesUpTo}

@@ -1,5 +1,5 @@
 -- How many blocks more are in use at a moment of a load.
-use Rattle.std.proofs.Common.{◌≡◌, ℕ, ◌+◌, ◌-◌, ◌≤◌, arith, Option}
+use Rattle.std.proofs.Common.{◌≡◌, ℕ, ◌+◌, ◌-◌, ◌≤◌, arith}
 use Rattle.em_space.specs.Ledger.{Halts, Spends}
 use Rattle.em_space.specs.Rig.{RigState, SameBlocks}
 use Rattle.em_space.specs.declared.fault.EmFault.{EmFault}

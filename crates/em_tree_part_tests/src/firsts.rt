@@ -4,7 +4,6 @@
 //!     level 1    block 6: 0 ..            block 7: 700 .. | 900 ..
 //!     leaves     block 1: 5, 7, 9         block 3: 700    block 5: 900
 ghost use Rattle.std.specs.Prelude.{◌≡◌, ◌+◌, ◌<◌, ◌≤◌, length, IfOk};
-ghost use Rattle.em_frames.specs.Pool.{load_of};
 ghost use Rattle.em_space.specs.Seen.{seen};
 ghost use Rattle.em_tree_part_tests.specs.Ready.{IsReady, IsSmall, Keeps};
 

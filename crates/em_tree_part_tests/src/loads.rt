@@ -2,10 +2,7 @@
 //!
 //!     node   from 0 on the first leaf, from 5000 on the other one, which has one record
 ghost use Rattle.std.specs.Prelude.{◌≡◌, ◌<◌, ◌≤◌, IfOk};
-ghost use Rattle.em_frames.specs.Pool.{GivenFrames};
-ghost use Rattle.em_space.specs.Rig.{Sound};
 ghost use Rattle.em_space.specs.Seen.{seen};
-ghost use Rattle.em_chain.specs.Writer.{IsWriter};
 ghost use Rattle.em_tree_part_tests.specs.Ready.{IsReady, Keeps};
 
 use crate::blocks::{begins_with, record, store_leaf, store_node};

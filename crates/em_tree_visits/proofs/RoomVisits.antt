@@ -1,5 +1,5 @@
 -- The blocks of a tree while records are taken out of it.
-use Rattle.std.proofs.Common.{◌≡◌, ℕ, ◌+◌, ◌-◌, ◌*◌, ◌≤◌, List, length, refl, arith, IsTrue, Option}
+use Rattle.std.proofs.Common.{◌≡◌, ℕ, ◌+◌, ◌-◌, ◌*◌, ◌≤◌, List, refl, arith, IsTrue, Option}
 use Rattle.em_record.specs.Shape.{ShapeNumbers}
 use Rattle.em_record.specs.declared.record.Record.{Record}
 use Rattle.em_space.specs.Rig.{RigState}

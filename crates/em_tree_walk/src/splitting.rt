@@ -7,7 +7,7 @@
 //! no block but those of the tree is changed. Left to the tree: that nothing waits over the nodes
 //! above level 1 on the path, and that their low keys are in their ranges.
 
-ghost use Rattle.std.specs.Prelude.{◌≡◌, ◌<◌, ◌≤◌, length, IsTrue};
+ghost use Rattle.std.specs.Prelude.{◌≡◌, ◌<◌, ◌≤◌, length};
 ghost use Rattle.em_space.specs.Rig.{InUse, Sound};
 ghost use Rattle.em_space.specs.Seen.{seen};
 ghost use Rattle.em_node.specs.Node.{IsNode, entries_of};

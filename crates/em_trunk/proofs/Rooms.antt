@@ -1,5 +1,5 @@
 -- The blocks of a tree at each moment of a call: of one step, and of several.
-use Rattle.std.proofs.Common.{◌≡◌, ℕ, zero, suc, ◌+◌, ◌-◌, ◌*◌, ◌^◌, ◌<◌, ◌≤◌, ◌++◌, length, refl, sym, ap, ◌∙◌, subst, arith, length-append, IsTrue}
+use Rattle.std.proofs.Common.{◌≡◌, ℕ, suc, ◌+◌, ◌-◌, ◌*◌, ◌^◌, ◌<◌, ◌≤◌, ◌++◌, length, refl, sym, ap, ◌∙◌, subst, arith, length-append, IsTrue}
 use Rattle.std.proofs.Math.Nat.{mul-le-mul_left, mul-le-mul_right}
 use Rattle.std.specs.Prelude.{Option}
 use Rattle.em_record.specs.Cost.{blocks_of, lev}
@@ -16,11 +16,10 @@ use Rattle.em_leaf.proofs.Numbers.{ceiling_add}
 use Rattle.em_settle.specs.declared.step.Step.{Step}
 use Rattle.em_tree_blocks.specs.Reading.{entries_at, tree_at, tree_blocks}
 use Rattle.em_tree_blocks.proofs.Entries.{tree_level}
-use Rattle.em_tree_cost.specs.Books.{InCall, KeepsBooks, TreeCounts, count_moves}
+use Rattle.em_tree_cost.specs.Books.{InCall, TreeCounts, count_moves}
 use Rattle.em_tree_cost.specs.Counters.{Counters, Sums}
 use Rattle.em_tree_cost.specs.Outline.{IsLevel, inner_of, leaves_of, node_of}
 use Rattle.em_tree_cost.specs.Shares.{levels_of, tree_room}
-use Rattle.em_tree_cost.specs.Sizes.{IsCeil}
 use Rattle.em_tree_cost.proofs.Ceilings.{blocks_ceil, ceil_mono, ceil_most, ceiling_is}
 use Rattle.em_tree_cost.proofs.Heights.{root_levels}
 use Rattle.em_tree_cost.proofs.Held.{held_whole}
@@ -32,7 +31,7 @@ use Rattle.em_tree_outline.specs.Outline.{outline_of}
 use Rattle.em_tree_outline.proofs.Outlines.{outline_level}
 use Rattle.em_trunk.specs.Events.{Charges}
 use Rattle.em_trunk.specs.Room.{HasCounters, KeepsIn, MayHold, StopsIn, most_held}
-use Rattle.em_trunk.specs.Trunk.{IsRunning, root_of, sums_in, trunk_blocks}
+use Rattle.em_trunk.specs.Trunk.{IsRunning, root_of, trunk_blocks}
 use Rattle.em_trunk.specs.Works.{Works}
 use Rattle.em_trunk.specs.declared.trunk.Trunk.{Trunk}
 use Rattle.em_trunk.proofs.HeldBlocks.{row_node}

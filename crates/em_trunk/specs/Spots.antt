@@ -4,7 +4,6 @@ use Rattle.em_record.specs.declared.record.Record.{Record}
 use Rattle.em_space.specs.Rig.{RigState}
 use Rattle.em_chain.specs.Chain.{chain_items}
 use Rattle.em_tree_model.specs.Ranges.{least_record}
-use Rattle.em_tree_model.specs.Tree.Tree.{end, entry}
 use Rattle.em_tree_blocks.specs.Effects.{IsEntryAt, entry_on}
 use Rattle.em_tree_blocks.specs.Node.{buffer_of}
 use Rattle.em_tree_blocks.specs.Paths.{node_on, place_on}

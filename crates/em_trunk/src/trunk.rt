@@ -1,6 +1,6 @@
 //! What a tree keeps in memory, but for its settling rule.
 
-ghost use Rattle.std.specs.Prelude.{◌≡◌, ℕ, ◌-◌, ◌+◌, ◌<◌, ◌≤◌, ◌^◌, ◌/◌};
+ghost use Rattle.std.specs.Prelude.{◌≡◌, ◌-◌, ◌+◌, ◌<◌, ◌≤◌, ◌^◌, ◌/◌};
 ghost use Rattle.em_record.specs.Shape.{IsShape};
 ghost use Rattle.em_space.specs.Rig.{Sound};
 ghost use Rattle.em_space.specs.Seen.{seen};

@@ -1,5 +1,5 @@
 ghost use Rattle.std.specs.Prelude.{◌≡◌, ◌<◌, IfErr, IsOk};
-ghost use Rattle.em_space.specs.Rig.{RigState, Sound, BlockCause};
+ghost use Rattle.em_space.specs.Rig.{Sound, BlockCause};
 ghost use Rattle.em_space.specs.Seen.{seen};
 ghost use Rattle.em_chain.specs.Reader.{ReaderHasFrame};
 ghost use Rattle.em_weave.specs.Peek.{IsPeek, ReadsAheadTo, peek_count};

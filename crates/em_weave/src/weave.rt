@@ -8,7 +8,7 @@
 
 ghost use Rattle.std.specs.Prelude.{◌≡◌, ◌<◌, ◌+◌, ◌++◌, IfErr, IfOk, IsOk, IsTrue, Ok, None, [], option_to_list};
 ghost use Rattle.em_space.specs.Held.{Apart};
-ghost use Rattle.em_space.specs.Rig.{RigState, Sound, Goes, BlockCause};
+ghost use Rattle.em_space.specs.Rig.{Sound, Goes, BlockCause};
 ghost use Rattle.em_space.specs.Seen.{seen};
 ghost use Rattle.em_chain.specs.Chain.{IsChain, chain_blocks};
 ghost use Rattle.em_chain.specs.Effects.{Unmoved, Completes};

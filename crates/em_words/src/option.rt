@@ -1,7 +1,7 @@
 // The option words of a command. Words are numbered from 0, so the first option word is word 1.
 ghost use Rattle.std.specs.List.{list_any};
 ghost use Rattle.std.specs.Prelude.{◌≡◌, ◌+◌, ◌==◌, [], bytes_eq, not, position, string_bytes};
-ghost use Rattle.std.specs.Result.{result_err, result_ok};
+ghost use Rattle.std.specs.Result.{result_err};
 ghost use Rattle.em_words.specs.Job.{texts_of};
 ghost use Rattle.em_words.specs.Options.{has_name, has_option, has_value, is_option, combine_of, combine_with, flag_names, own_names, name_of, number_in, number_or, knows, option_fault, option_words, options_refusal, word_of};
 

@@ -1,4 +1,3 @@
-use Rattle.em_space.specs.Seen.{seen}
 use Rattle.aig_tests.proofs.Making.{gives_back}
 use Rattle.aig_tests.proofs.groups.evaluate_groups.Goals as goal
 

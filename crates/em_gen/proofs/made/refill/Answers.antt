@@ -1,4 +1,4 @@
-use Rattle.std.proofs.Common.{arith, rules}
+use Rattle.std.proofs.Common.{rules}
 use Rattle.em_gen.proofs.Lines.{refilled}
 use Rattle.em_gen.proofs.made.refill.Goals as goal
 

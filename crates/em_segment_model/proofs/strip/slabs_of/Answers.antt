@@ -1,4 +1,4 @@
-use Rattle.std.proofs.Common.{◌≡◌, ◌+◌, ◌-◌, ◌*◌, length, ap, ◌∙◌, arith, length-append}
+use Rattle.std.proofs.Common.{◌≡◌, ◌+◌, ◌-◌, ◌*◌, length, ap, ◌∙◌, length-append}
 use Rattle.em_segment_model.specs.Slabs.{slabs_at, slabs_from}
 use Rattle.em_segment_model.proofs.Places.{slabs_at-length, slabs_more, slabs_room}
 use Rattle.em_segment_model.proofs.strip.slabs_of.Goals as goal
