@@ -22,7 +22,7 @@ use Rattle.em_answers.proofs.Moves.{runs_by_cost}
 use Rattle.em_model.specs.Map.{Combiner}
 
 -- the moves of a map's run are within its transfer cost,
-map_few : (shape : ShapeNumbers) → IsShape shape → (n : ℕ)
+pub map_few : (shape : ShapeNumbers) → IsShape shape → (n : ℕ)
     → map_share shape n + ceiling n (payload_of shape) ≤ cost shape n
 map_few shape is n =
     let q = blocks_of shape n in
@@ -50,7 +50,7 @@ map_runs apply h w s t shelf out shelf_after out_after end unused none r =
     (let moves = sound.moves_is in omega (arith, moves, none))
 
 -- the moves of a stab file's run are within its transfer cost,
-stab_few : (shape : ShapeNumbers) → IsShape shape → (n : ℕ)
+pub stab_few : (shape : ShapeNumbers) → IsShape shape → (n : ℕ)
     → stab_share shape n + ceiling n (payload_of shape) ≤ cost shape n
 stab_few shape is n =
     let other = ceiling_share shape n n (omega arith) (let low = is.block_low in omega (arith, low)) in

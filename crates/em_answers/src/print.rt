@@ -235,7 +235,12 @@ pub fn print_answers<D: Device, W: Sink>(
 }
 
 /// Adds a key and a value to the line, with a space between.
-pub fn add_pair<W: Sink>(printer: &mut Printer, out: &mut W, key: u64, value: u64) -> Result<(), Failed>
+pub fn add_pair<W: Sink>(
+    printer: &mut Printer,
+    out: &mut W,
+    key: u64,
+    value: u64,
+) -> Result<(), Failed>
     ensures sent { OnOk result (Sent W.took (W.state out.old)
         (printer.old ++ (decimal key ++ 32 ∷ decimal value)) (W.state out.new) printer.new) }
     ensures part { SentPart W.took (W.state out.old)
