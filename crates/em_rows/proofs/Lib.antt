@@ -1,0 +1,11 @@
+mod CopyLaws
+mod LineLaws
+pub mod PairSorts
+mod RowGiving
+pub mod RowLaws
+mod RowMoves
+mod RowRows
+mod SpellLaws
+mod TakeLaws
+mod TwoTexts
+mod WriteLaws

@@ -1,0 +1,44 @@
+use Rattle.std.proofs.Common.{◌≡◌, ℕ, ◌+◌, ◌-◌, ◌*◌, ◌≤◌, ◌^◌, ◌++◌, List, length, IsTrue}
+use Rattle.em_io.specs.Feed.{rest}
+use Rattle.em_model.specs.declared.command.Command.{Command}
+use Rattle.em_space.specs.Held.{Within}
+use Rattle.em_space.specs.Queue.{CanServe}
+use Rattle.em_space.specs.Rig.{Goes}
+use Rattle.em_space.specs.Seen.{seen}
+use Rattle.em_lines.specs.Reads.{Reads}
+use Rattle.em_rows.specs.Moves.{MovesFrom}
+use Rattle.em_rows.proofs.RowLaws.{RowsGiven}
+use Rattle.em_rows.proofs.giving.give_rows.Given as goal
+
+abbrev pub invariant-loop-next : goal.invariant-loop-next
+invariant-loop-next g l =
+    let first = seen g.D.Device.state l.fn.rig in
+    let now = seen g.D.Device.state l.rig in
+    let text = rest l.fn.feed (g.H.Shelf.stand l.fn.shelf) in
+    let left = rest l.feed (g.H.Shelf.stand l.shelf) in
+    let had = g.S.Service.counts l.fn.service in
+    let counts = g.S.Service.counts l.service in
+    let held = g.S.Service.blocks l.fn.service first in
+    record {
+      goes : Goes held first now;
+      free : CanServe now.pool;
+      joins : g.S.Service.combiner l.service ≡ g.S.Service.combiner l.fn.service;
+      is : g.S.Service.IsService l.service now;
+      within : Within first held (g.S.Service.blocks l.service now);
+      given : List Command;
+      has : (before cs : List Command) → g.S.Service.Has l.fn.service first before cs
+          → g.S.Service.Has l.service now before (cs ++ given);
+      number : l.number ≡ length given + 1;
+      counted : counts.n ≡ had.n + length given;
+      few : l.number ≤ 2 ^ 39 + 1;
+      place : l.feed.place ≤ 43 * length given;
+      reads : Reads g.H.Shelf.tells l.fn.feed (g.H.Shelf.stand l.fn.shelf)
+          l.feed (g.H.Shelf.stand l.shelf);
+      later : g.H.Shelf.faults l.fn.shelf ≤ g.H.Shelf.faults l.shelf;
+      rows : IsTrue g.H.Shelf.tells → RowsGiven l.fn.kind l.number text left given;
+      since : (start : ℕ) → MovesFrom g.S.Service.allowance start had first
+          → MovesFrom g.S.Service.allowance start counts now;
+    }
+
+abbrev pub decreases-loop-next : goal.decreases-loop-next
+decreases-loop-next g l = 2 ^ 39 + 1 - l.number

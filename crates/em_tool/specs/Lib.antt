@@ -1,0 +1,4 @@
+pub mod Failure
+pub mod Messages
+pub mod Names
+pub mod Words

@@ -1,0 +1,4 @@
+pub mod Costs
+pub mod Listed
+pub mod Rows
+pub mod Sorted
