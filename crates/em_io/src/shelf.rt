@@ -7,9 +7,9 @@ use em_record::Failed;
 /// One of the two texts that a run can read.
 #[derive(Clone, Copy, Debug, PartialEq, Eq, Drop)]
 pub enum Slot {
-    /// The command file, or the circuit.
+    /// The command file, the circuit, or the first of two files of numbers.
     First,
-    /// The stimulus of a circuit.
+    /// The stimulus of a circuit, or the second file of numbers.
     Second,
 }
 

@@ -30,7 +30,8 @@ pub enum TextKind {
     EmptyLine,
     /// The low end of an interval is above its high end.
     LowAboveHigh,
-    /// The line stands past the 2^40th.
+    /// The line stands past the last one that a file may have: the 2^40th of a command file, the 2^39th of a text of
+    /// numbers.
     TooLong,
 }
 

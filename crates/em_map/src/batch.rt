@@ -38,9 +38,11 @@ const ADD: u64 = 3;
 /// an operation in a buffer tree. Calls are numbered from 1. How an add joins its value to that of its key is a
 /// closure, which the tree's rules keep.
 ///
-/// It holds two frames and can't be dropped. After a fault only `abandon` may be called. Over a device that
-/// tells, its blocks after n commands, inside a call too, are within 12 · (q(n) + 1) + m · (2 + lev(q(n)))
-/// and those of the answers that it had given before.
+/// It holds two frames and can't be dropped. After a fault only `abandon` may be called.
+///
+/// After n commands, over a device that tells, its blocks, inside a call too, are within
+/// 12 · (q(n) + 1) + m · (2 + lev(q(n))) and those of the answers that it had given before. For blocks of B records and
+/// m frames q(n) is n/B, rounded up, and lev(q) says how often q is divided by m/4, rounded up, until at most 1 is left.
 pub struct Batch<F: Fn(u64, u64) -> u64 + Drop> {
     tree: Tree<AddSettle<F>>,
     /// Commands so far.

@@ -28,9 +28,13 @@ use em_tree::Tree;
 /// The most blocks that a queue may count: more than any device has.
 const MOST_BLOCKS: u64 = 1 << 41;
 
-/// A priority queue over a buffer tree. It holds an area and two frames. Over a device that tells, its moves are
-/// within 240 · (q(n) + 1) · (1 + lev(q(k))), and its blocks, inside a call too, within
-/// 12 · (q(k) + 1) + m · (2 + lev(q(k))).
+/// A priority queue: a heap in memory, and a buffer tree on the device for the items that the heap has no room for. It
+/// holds an area and two frames.
+///
+/// For n calls, of which at most k come between two moments at which it has no item, over a device that tells: its
+/// moves are within 240 · (q(n) + 1) · (1 + lev(q(k))), and its blocks, inside a call too, within
+/// 12 · (q(k) + 1) + m · (2 + lev(q(k))). For blocks of B records and m frames q(n) is n/B, rounded up, and lev(q) says
+/// how often q is divided by m/4, rounded up, until at most 1 is left.
 pub struct ExtQueue {
     tree: Tree<BagSettle>,
     heap: Heap,

@@ -25,8 +25,8 @@ pub fn lev(shape: &Shape, x: u64) -> u64
     levels
 }
 
-/// The number `cost` of a run of size `n`. The moves of a run are held to it, and the room that the
-/// top call asks is `cost` and 4m more blocks.
+/// The transfer cost of a run of size `n`: 2048 · (q + 1) · (1 + lev(q)), for the q blocks that `n` records fill. The
+/// moves of a run are held to it.
 pub fn cost(shape: &Shape, n: u64) -> u128
     ensures { result ≡ cost shape.now n }
 {
