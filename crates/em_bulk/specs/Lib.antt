@@ -1,0 +1,5 @@
+pub mod Pairs
+pub mod Taken
+pub mod Full
+pub mod Ended
+pub mod Building
