@@ -1,0 +1,96 @@
+//! Trees that a builder makes of pairs with keys 0, 3, 6 and so on, over a device that tells.
+ghost use Rattle.std.specs.Prelude.{◌≡◌, ◌+◌, ◌<◌, ◌≤◌, ◌^◌};
+ghost use Rattle.em_frames.specs.Pool.{SameFrames};
+ghost use Rattle.em_space.specs.Rig.{Sound};
+ghost use Rattle.em_space.specs.Seen.{seen};
+ghost use Rattle.em_tree_part_tests.specs.Builders.{GetsPairs, HasPairs};
+
+use em_bulk::{Builder, Built};
+use em_devices::{Cost, ended, opened};
+use em_frames::{Device, MemDevice};
+use em_space::{EmFault, Rig};
+use std::alloc::Global;
+use std::test::Fail;
+
+/// Pushes the pair with this number.
+fn push_next<D: Device>(
+    rig: &mut Rig<'_, D>,
+    builder: &mut Builder,
+    number: u64,
+) -> Result<(), EmFault>
+    requires has { HasPairs (seen D.state rig.old) builder.old number }
+    requires few { number < 2 ^ 40 }
+    ensures { GetsPairs (seen D.state rig.old) (seen D.state rig.new) builder.new (number + 1) result }
+{
+    builder.push(rig, 3 * number, number)
+}
+
+/// Pushes so many pairs.
+fn push_all<D: Device>(
+    rig: &mut Rig<'_, D>,
+    builder: &mut Builder,
+    pairs: u64,
+) -> Result<(), EmFault>
+    requires has { HasPairs (seen D.state rig.old) builder.old 0 }
+    requires few { pairs ≤ 2 ^ 40 }
+    ensures { GetsPairs (seen D.state rig.old) (seen D.state rig.new) builder.new pairs result }
+{
+    for number in 0..pairs {
+        push_next(rig, builder, number)?;
+    }
+    Ok(())
+}
+
+/// Makes a tree of so many pairs.
+fn build<D: Device>(rig: &mut Rig<'_, D>, pairs: u64) -> Result<Built, EmFault>
+    requires sound { Sound (seen D.state rig.old) }
+    requires free { 8 ≤ (seen D.state rig.old).pool.free }
+    requires few { pairs ≤ 2 ^ 40 }
+    ensures sound { Sound (seen D.state rig.new) }
+    ensures frames { SameFrames (seen D.state rig.old).pool (seen D.state rig.new).pool }
+{
+    let mut builder = Builder::new(rig);
+    match push_all(rig, &mut builder, pairs) {
+        Ok(()) => builder.finish(rig),
+        Err(fault) => {
+            builder.abandon(rig);
+            Err(fault)
+        }
+    }
+}
+
+/// The level of a tree of so many pairs, how many it has, and what it cost.
+fn run(alloc: Global, pairs: u64) -> Result<(u64, u64, Cost), Fail>
+    requires { pairs ≤ 2 ^ 40 }
+{
+    let mut device = MemDevice::new(alloc, &[])?;
+    let mut rig = opened(alloc, 4000, &mut device)?;
+    let built = build(&mut rig, pairs);
+    let cost = ended(rig);
+    match built {
+        Ok(built) => Ok((built.root.level, built.count, cost)),
+        Err(fault) => Err(fault.into()),
+    }
+}
+
+#[test]
+fn builds_one_leaf(rt: HostRuntime) -> Result<(), Fail> {
+    assert_eq!(rt; run(rt.alloc(), 0)?, (1, 0, (2, 2, 2, 2)));
+    assert_eq!(rt; run(rt.alloc(), 1)?, (1, 1, (3, 3, 5, 3)));
+    Ok(())
+}
+
+/// 2048 records and 1023 are one leaf of 25 blocks.
+#[test]
+fn joins_a_short_leaf(rt: HostRuntime) -> Result<(), Fail> {
+    assert_eq!(rt; run(rt.alloc(), 3071)?, (1, 3071, (27, 27, 83, 5)));
+    Ok(())
+}
+
+/// 2048 records and 1024 are two leaves, of 17 blocks and 9. Nine of 2048 are 153 blocks, and 1568 are 13.
+#[test]
+fn builds_leaves(rt: HostRuntime) -> Result<(), Fail> {
+    assert_eq!(rt; run(rt.alloc(), 3072)?, (1, 3072, (29, 29, 31, 3)));
+    assert_eq!(rt; run(rt.alloc(), 20000)?, (1, 20000, (177, 177, 179, 3)));
+    Ok(())
+}
