@@ -27,11 +27,12 @@ use Rattle.em_ends.specs.declared.stop.Stop.TheVariants.{Fault, Read, Write, Em}
 use Rattle.em_ends.proofs.EndLaws.{KeepsMoves, done_whole, ended_due, ended_stop}
 use Rattle.em_answers.specs.FileDue.{output_text, status_for}
 use Rattle.em_answers.specs.FileRun.{RunsWithin}
-use Rattle.em_answers.specs.Limits.{Limits, asked_by, sized}
+use Rattle.em_answers.specs.Limits.{Limits, asked_by, queue_limits, sized, taken_size}
 use Rattle.em_answers.specs.Reading.{IsFilled, KeepsAllowance, KeepsRoom, ReadsAll, StopCause, StopsReading}
 use Rattle.em_answers.specs.Serve.{Answers}
 use Rattle.em_answers.proofs.ServiceMoves.{run_moves}
 use Rattle.em_model.specs.Map.{Combiner}
+use Rattle.em_model.specs.declared.command.Command.{Command}
 
 -- nothing is left where a feed has nothing more to give
 left_none : (ahead left : List ℕ) → ahead ++ left ≡ [] → left ≡ []
@@ -48,16 +49,16 @@ first_read {tells} {a} {b} f g e r ready end = record {
 }
 
 -- The cause of a stop over a command file is one of the run.
-pub file_cause : (apply : Combiner) (limits : Limits) (tells : Bool) (k : FileKind) (text : List ℕ)
+pub file_cause : (apply : Combiner) (size : ShapeNumbers → (text left : List ℕ) → ℕ) (limits : Limits) (tells : Bool) (k : FileKind) (text : List ℕ)
     (faults later : Faults) (a c : RigState) (stop : Stop)
     → StopCause tells k text faults later a c stop
-    → RunCause tells (asked_by apply limits k text) faults later a c stop
-file_cause apply limits tells k text faults later a c (Fault (Text fault) line) cause =
+    → RunCause tells (asked_by apply size limits k text) faults later a c stop
+file_cause apply size limits tells k text faults later a c (Fault (Text fault) line) cause =
     λ t d. ap status_for (cause t)
-file_cause apply limits tells k text faults later a c (Fault (Aig fault) place) cause = absurd cause
-file_cause apply limits tells k text faults later a c Read cause = cause
-file_cause apply limits tells k text faults later a c Write cause = cause
-file_cause apply limits tells k text faults later a c (Em fault) cause = cause
+file_cause apply size limits tells k text faults later a c (Fault (Aig fault) place) cause = absurd cause
+file_cause apply size limits tells k text faults later a c Read cause = cause
+file_cause apply size limits tells k text faults later a c Write cause = cause
+file_cause apply size limits tells k text faults later a c (Em fault) cause = cause
 
 -- the blocks that are enough, by the size or by how far each slot was read
 fills_room : (room : Option (ShapeNumbers → ℕ → ℕ)) (k : FileKind) (text : List ℕ)
@@ -69,11 +70,11 @@ fills_room : (room : Option (ShapeNumbers → ℕ → ℕ)) (k : FileKind) (text
 fills_room None k text slots c used h t d = tt
 fills_room (Some f) k text slots c used h t d = h t d
 
-fills_file : (apply : Combiner) (limits : Limits) (tells : Bool) (k : FileKind) (text : List ℕ)
+fills_file : (apply : Combiner) (size : ShapeNumbers → (text left : List ℕ) → ℕ) (limits : Limits) (tells : Bool) (k : FileKind) (text : List ℕ)
     (slots : Slot → SlotState) (c : RigState) (used : ℕ)
     → IsFilled limits tells k text (slots First).left c used
-    → FillsRun tells (asked_by apply limits k text) slots c used
-fills_file apply limits tells k text slots c used f = record {
+    → FillsRun tells (asked_by apply size limits k text) slots c used
+fills_file apply size limits tells k text slots c used f = record {
   paid = ⊎_elim
       (λ (h : 2 ^ 64 - 1 ≤ c.moves). inl h)
       (λ (h : used ≤ c.moves + 2 * c.pool.shape.frames). inr (omega (arith, h)))
@@ -82,22 +83,22 @@ fills_file apply limits tells k text slots c used f = record {
 }
 
 -- So is what a full device says.
-pub file_fills : (apply : Combiner) (limits : Limits) (tells : Bool) (k : FileKind) (text : List ℕ)
+pub file_fills : (apply : Combiner) (size : ShapeNumbers → (text left : List ℕ) → ℕ) (limits : Limits) (tells : Bool) (k : FileKind) (text : List ℕ)
     (slots : Slot → SlotState) (c : RigState) (stop : Stop)
     → IfStopsFull stop (IsFilled limits tells k text (slots First).left c)
-    → IfStopsFull stop (FillsRun tells (asked_by apply limits k text) slots c)
-file_fills apply limits tells k text slots c (Fault fault place) f = tt
-file_fills apply limits tells k text slots c Read f = tt
-file_fills apply limits tells k text slots c Write f = tt
-file_fills apply limits tells k text slots c (Em em.DeviceFault) f = tt
-file_fills apply limits tells k text slots c (Em (em.Damaged block)) f = tt
-file_fills apply limits tells k text slots c (Em (em.Full used)) f =
-    fills_file apply limits tells k text slots c used f
+    → IfStopsFull stop (FillsRun tells (asked_by apply size limits k text) slots c)
+file_fills apply size limits tells k text slots c (Fault fault place) f = tt
+file_fills apply size limits tells k text slots c Read f = tt
+file_fills apply size limits tells k text slots c Write f = tt
+file_fills apply size limits tells k text slots c (Em em.DeviceFault) f = tt
+file_fills apply size limits tells k text slots c (Em (em.Damaged block)) f = tt
+file_fills apply size limits tells k text slots c (Em (em.Full used)) f =
+    fills_file apply size limits tells k text slots c used f
 
 -- What a call says that answers a command file from what a feed gives: how far it read, what it printed, and why it
 -- stopped.
-pub record AnswersFile (apply : Combiner) {H W : Type 0} (h : ShelfGhosts H) (w : SinkGhosts W) (limits : Limits) (k : FileKind)
-    (held : List ℕ) (shelf : H) (out : W) (feed_after : Fed) (shelf_after : H) (out_after : W) (s t : RigState)
+pub record AnswersFile (apply : Combiner) (size : ShapeNumbers → List Command → ℕ) {H W : Type 0} (h : ShelfGhosts H)
+    (w : SinkGhosts W) (limits : Limits) (k : FileKind) (held : List ℕ) (shelf : H) (out : W) (feed_after : Fed) (shelf_after : H) (out_after : W) (s t : RigState)
     (result : Result (Unit {0}) Stop) (feed : Fed) : Type 0 where
   pub sound : Sound t
   pub touches : Touches held s t
@@ -109,7 +110,7 @@ pub record AnswersFile (apply : Combiner) {H W : Type 0} (h : ShelfGhosts H) (w 
   pub answers : IsTrue h.tells → IsTrue s.device.told → Answers w.took (output_text apply k (rest feed (h.stand shelf)))
       (w.state out) (w.state out_after) result
   pub stop : IfErr result (StopsReading h w limits k feed shelf shelf_after out out_after s t)
-  pub moves : IsTrue h.tells → KeepsAllowance limits.moves k (rest feed (h.stand shelf))
+  pub moves : IsTrue h.tells → KeepsAllowance limits.moves size k (rest feed (h.stand shelf))
       ((h.stand shelf_after).slot feed.slot).left s t
   pub most : KeepsRoom limits.room h.tells k (rest feed (h.stand shelf))
       ((h.stand shelf_after).slot feed.slot).left t
@@ -173,7 +174,8 @@ module _ (tells : Bool) (k : FileKind) (text : List ℕ) (faults later : Faults)
   stopped_device (Em (em.Full used)) cause e = cc
   stopped_device (Em (em.Damaged block)) cause e = cc
 
-module _ (apply : Combiner) {H W : Type 0} (h : ShelfGhosts H) (w : SinkGhosts W) (limits : Limits) (k : FileKind) (held : List ℕ)
+module _ (apply : Combiner) (size : ShapeNumbers → List Command → ℕ) {H W : Type 0} (h : ShelfGhosts H) (w : SinkGhosts W)
+    (limits : Limits) (k : FileKind) (held : List ℕ)
     (shelf : H) (out : W) (feed_after : Fed) (shelf_after : H) (out_after : W) (s t : RigState)
     (ready : ((h.stand shelf).slot First).ready ≡ true) where
   -- a feed of the first slot that took nothing yet
@@ -182,7 +184,7 @@ module _ (apply : Combiner) {H W : Type 0} (h : ShelfGhosts H) (w : SinkGhosts W
 
   abbrev Said : Result (Unit {0}) Stop → Type 0
   Said result =
-      AnswersFile apply h w limits k held shelf out feed_after shelf_after out_after s t result first_feed
+      AnswersFile apply size h w limits k held shelf out feed_after shelf_after out_after s t result first_feed
 
   abbrev text : List ℕ
   text = ((h.stand shelf).slot First).left
@@ -196,15 +198,15 @@ module _ (apply : Combiner) {H W : Type 0} (h : ShelfGhosts H) (w : SinkGhosts W
     device = a.touches.faults;
   }
 
-  kept : (result : Result (Unit {0}) Stop) → Said result → KeepsMoves h.tells (asked_by apply limits k text)
+  kept : (result : Result (Unit {0}) Stop) → Said result → KeepsMoves h.tells (asked_by apply (taken_size size k) limits k text)
       s.pool.shape (outside h w s.device shelf out) (outside h w t.device shelf_after out_after)
   kept result a =
-      run_moves limits.moves h.tells k text (h.stand shelf_after).slot s t a.sound.moves_is a.moves
+      run_moves limits.moves size h.tells k text (h.stand shelf_after).slot s t a.sound.moves_is a.moves
 
   done : (u : Unit {0}) → Said (Ok u)
-      → RunsWithin apply h w limits k s t shelf out shelf_after out_after Done
+      → RunsWithin apply (taken_size size k) h w limits k s t shelf out shelf_after out_after Done
   done u a = record {
-    ended = ended_due (asked_by apply limits k text) Done done_whole (λ z d. sym (ap status_for (a.whole z).fault))
+    ended = ended_due (asked_by apply (taken_size size k) limits k text) Done done_whole (λ z d. sym (ap status_for (a.whole z).fault))
         (λ z d. (a.answers z d).all) (λ z d. (a.answers z d).part) (kept (Ok u) a);
     caused = record { goes_on = went_on (Ok u) a; read = λ e. cc; write = λ e. cc; device = λ e. cc };
     most = a.most;
@@ -215,15 +217,15 @@ module _ (apply : Combiner) {H W : Type 0} (h : ShelfGhosts H) (w : SinkGhosts W
   }
 
   stopped : (stop : Stop) → Said (Err stop)
-      → RunsWithin apply h w limits k s t shelf out shelf_after out_after (stop_status stop)
+      → RunsWithin apply (taken_size size k) h w limits k s t shelf out shelf_after out_after (stop_status stop)
   stopped stop a =
       let faults = fault_counts (h.faults shelf) (w.faults out) in
       let later = fault_counts (h.faults shelf_after) (w.faults out_after) in
       record {
-        ended = ended_stop h.tells (asked_by apply limits k text) (outside h w s.device shelf out)
+        ended = ended_stop h.tells (asked_by apply (taken_size size k) limits k text) (outside h w s.device shelf out)
             (outside h w t.device shelf_after out_after) s t a.touches a.sound refl refl (kept (Err stop) a) stop
-            faults later (file_cause apply limits h.tells k text faults later s t stop a.stop.cause)
-            (file_fills apply limits h.tells k text (h.stand shelf_after).slot t stop a.stop.full)
+            faults later (file_cause apply (taken_size size k) limits h.tells k text faults later s t stop a.stop.cause)
+            (file_fills apply (taken_size size k) limits h.tells k text (h.stand shelf_after).slot t stop a.stop.full)
             (record { fault = λ z d. (a.answers z d).fault; part = λ z d. (a.answers z d).part });
         caused = record {
           goes_on = went_on (Err stop) a;
@@ -239,14 +241,30 @@ module _ (apply : Combiner) {H W : Type 0} (h : ShelfGhosts H) (w : SinkGhosts W
       }
 
   by_first : (result : Result (Unit {0}) Stop) → Said result
-      → RunsWithin apply h w limits k s t shelf out shelf_after out_after (answered_status result)
+      → RunsWithin apply (taken_size size k) h w limits k s t shelf out shelf_after out_after (answered_status result)
   by_first (Ok u) a = done u a
   by_first (Err stop) a = stopped stop a
 
   -- It began at the start of the first slot: this is its run.
   pub runs_answered : (feed : Fed) (result : Result (Unit {0}) Stop)
       → feed ≡ record { slot = First; ahead = []; place = 0 }
-      → AnswersFile apply h w limits k held shelf out feed_after shelf_after out_after s t result feed
-      → RunsWithin apply h w limits k s t shelf out shelf_after out_after (answered_status result)
+      → AnswersFile apply size h w limits k held shelf out feed_after shelf_after out_after s t result feed
+      → RunsWithin apply (taken_size size k) h w limits k s t shelf out shelf_after out_after (answered_status result)
   runs_answered feed result e a = by_first result
-      (subst (AnswersFile apply h w limits k held shelf out feed_after shelf_after out_after s t result) e a)
+      (subst (AnswersFile apply size h w limits k held shelf out feed_after shelf_after out_after s t result) e a)
+
+-- A run whose moves have no limit is one by any size.
+pub runs_sized : (apply : Combiner) (size other : ShapeNumbers → (text left : List ℕ) → ℕ) {H W : Type 0}
+    {h : ShelfGhosts H} {w : SinkGhosts W} {room : Option (ShapeNumbers → ℕ → ℕ)} {k : FileKind} {s t : RigState}
+    {shelf : H} {out : W} {shelf_after : H} {out_after : W} {end : Status}
+    → RunsWithin apply size h w (queue_limits room) k s t shelf out shelf_after out_after end
+    → RunsWithin apply other h w (queue_limits room) k s t shelf out shelf_after out_after end
+runs_sized apply size other r = record {
+  ended = r.ended;
+  caused = r.caused;
+  most = r.most;
+  reads = r.reads;
+  all_read = r.all_read;
+  no_usage = r.no_usage;
+  no_memory = r.no_memory;
+}

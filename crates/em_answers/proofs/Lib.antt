@@ -15,6 +15,7 @@ pub mod Running
 pub mod Served
 pub mod ServiceMoves
 pub mod ServiceRuns
+pub mod Sizes
 pub mod Stepping
 pub mod Synced
 pub mod Waiting

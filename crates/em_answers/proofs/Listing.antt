@@ -1,19 +1,17 @@
 -- A file whose commands are given to a service, one after another.
 use Rattle.std.proofs.Common.{◌≡◌, ℕ, suc, ◌+◌, ◌*◌, ◌-◌, ◌≤◌, ◌^◌, ◌⊎◌, List, [], ◌∷◌, length, take, refl, ap, sym, ◌∙◌, arith, Bool, IsTrue, Option, Some, None, IfSome, inl, inr, ⊎_elim, ◌<◌}
-use Rattle.em_record.specs.Shape.{IsShape, ShapeNumbers, fan_of}
+use Rattle.std.proofs.Math.Nat.{mul-le-mul_left}
+use Rattle.em_record.specs.Shape.{IsShape, ShapeNumbers}
 use Rattle.em_model.specs.Stab.{NumberedInterval, stab_answer_of, stab_answers, stab_answers_from, stab_step}
 use Rattle.em_model.specs.declared.command.Command.{Command}
 use Rattle.em_model.specs.declared.command.Command.TheVariants.{Put, Add, Del, Get, Sync, Push, Pop, Interval, Stab}
-use Rattle.em_frames.specs.Pool.{GivenFrames, LentFrames, PoolCounts, SameFrames}
-use Rattle.em_space.specs.Held.{Within}
 use Rattle.em_space.specs.Queue.{Pays}
-use Rattle.em_space.specs.Rig.{RigState, Cause, Goes, Touches}
+use Rattle.em_space.specs.Rig.{RigState, Cause, Touches}
 use Rattle.em_space.specs.declared.fault.EmFault.{EmFault}
 use Rattle.em_space.specs.declared.fault.EmFault.TheVariants as em
-use Rattle.em_space.proofs.Within.{touches_within, within_none, within_then}
 use Rattle.em_lines.specs.CommandLine.{good_commands}
-use Rattle.em_services.specs.Service.{CanAnswer, CanSync, GivesFrames, MakesService, RisesBySize, ServiceCounts, TakesCommand, WithinAllowance, WithinRoom, size_of, FullOverRoom}
-use Rattle.em_ready.specs.Ready.{IsReady, IsUnused}
+use Rattle.em_services.specs.Service.{MakesService, RisesBySize, ServiceCounts, TakesCommand, WithinAllowance, WithinRoom, size_of, FullOverRoom}
+use Rattle.em_ready.specs.Ready.{IsUnused}
 use Rattle.em_lines.specs.RunSize.{commands_taken, pairs_reported, run_size}
 use Rattle.em_answers.specs.Reading.{IsFilled, StandsAlone, service_limits}
 use Rattle.em_ends.specs.Stop.{IfStopsFull}
@@ -60,49 +58,6 @@ stabs_next (Interval low high) cs =
     let e = stabs_same (stab_step [] (Interval low high)) [] cs in omega (arith, e)
 stabs_next (Stab point) cs = omega arith
 
--- The frames of a call are free beside those of a service,
-pub serves_beside : (frames : ℕ) (p q : PoolCounts) → IsReady p → LentFrames frames p q
-    → frames ≤ 4 → CanSync q
-serves_beside frames p q r l few =
-    let f = ap (λ (x : ShapeNumbers). fan_of x) l.shape in
-    record {
-      singles = omega (arith, r.singles, l.free, few, f);
-      areas = omega (arith, r.areas, l.free_areas);
-      rack = l.rack ∙ r.rack;
-    }
-
--- also after calls that lent none.
-pub answers_beside : (frames : ℕ) (p q r : PoolCounts) → IsReady p → LentFrames frames p q
-    → frames ≤ 4 → SameFrames q r → CanAnswer r
-answers_beside frames p q r ready l few s =
-    let e = ap (λ (x : ShapeNumbers). fan_of x) l.shape in
-    let f = ap (λ (x : ShapeNumbers). fan_of x) s.shape in
-    record {
-      singles = omega (arith, ready.singles, l.free, s.free, few, e, f);
-      areas = omega (arith, ready.areas, l.free_areas, s.free_areas);
-      rack = s.rack ∙ l.rack ∙ ready.rack;
-    }
-
-pub syncs_same : (p q : PoolCounts) → CanSync p → SameFrames p q → CanSync q
-syncs_same p q c s =
-    let f = ap (λ (x : ShapeNumbers). fan_of x) s.shape in
-    record {
-      singles = omega (arith, c.singles, s.free, f);
-      areas = omega (arith, c.areas, s.free_areas);
-      rack = s.rack ∙ c.rack;
-    }
-
--- The frames that were lent came back.
-pub frames_back : (frames : ℕ) (a b c d : PoolCounts) → LentFrames frames a b → SameFrames b c
-    → GivenFrames frames c d → SameFrames a d
-frames_back frames a b c d l s g = record {
-  shape = g.shape ∙ s.shape ∙ l.shape;
-  free = omega (arith, l.free, s.free, g.free);
-  rack = g.rack ∙ s.rack ∙ l.rack;
-  free_areas = g.free_areas ∙ s.free_areas ∙ l.free_areas;
-  peak = omega (arith, l.peak, s.peak, g.peak);
-}
-
 -- A service was made over a rig of which no block is or was in use: it is alone there.
 made_used : (room : Option (ShapeNumbers → ℕ → ℕ)) (s t : RigState) (held : List ℕ)
     → s.used ≡ 0 → IfSome room (λ f. t.used ≡ s.used + length held)
@@ -126,17 +81,17 @@ made_moved None s t c none shape spent = tt
 made_moved (Some f) s t c none shape spent = rw shape (omega (arith, none, spent))
 
 made_within : (allowance : Option (ShapeNumbers → ℕ → ℕ)) (s t : RigState) (c : ServiceCounts)
-    → s.moves ≡ 0 → t.pool.shape ≡ s.pool.shape → c.n ≡ 0 → c.syncs ≡ 0
+    → s.moves ≡ 0 → t.pool.shape ≡ s.pool.shape → c.syncs ≡ 0
     → WithinAllowance allowance 0 0 (λ shape. 0) s t
-    → IsTrue s.device.told → IfSome allowance (λ f. t.moves ≤ (c.syncs + 1) * f t.pool.shape c.n)
-made_within None s t c none shape n syncs w told = tt
-made_within (Some f) s t c none shape n syncs w told =
-    let moves = w told in rw (shape, n, syncs) (omega (arith, none, moves))
+    → IsTrue s.device.told → IfSome allowance (λ f. t.moves ≤ (c.syncs + 1) * f t.pool.shape 0)
+made_within None s t c none shape syncs w told = tt
+made_within (Some f) s t c none shape syncs w told =
+    let moves = w told in rw (shape, syncs) (omega (arith, none, moves))
 
 pub alone_made : (allowance room : Option (ShapeNumbers → ℕ → ℕ)) (frames : ℕ) (held : List ℕ)
     (c : ServiceCounts) (s t : RigState) → IsUnused s → s.moves ≡ 0
     → MakesService allowance room frames held c s t → WithinRoom room 0 [] s t
-    → WithinAllowance allowance 0 0 (λ shape. 0) s t → StandsAlone allowance room held c t
+    → WithinAllowance allowance 0 0 (λ shape. 0) s t → StandsAlone allowance room 0 held c t
 alone_made allowance room frames held c s t u none m w a = record {
   paid = ⊎_elim
       (λ (h : 2 ^ 64 - 1 ≤ t.moves). inl h)
@@ -147,7 +102,7 @@ alone_made allowance room frames held c s t u none m w a = record {
   most = λ told. made_most room s t c u m.touches.shape m.n w (sym m.touches.told ∙ told);
   moved = λ told. made_moved allowance s t c none m.touches.shape m.spent;
   within = λ told.
-      made_within allowance s t c none m.touches.shape m.n m.syncs a (sym m.touches.told ∙ told);
+      made_within allowance s t c none m.touches.shape m.syncs a (sym m.touches.told ∙ told);
 }
 
 -- before a service is made, none of its blocks is in use
@@ -175,13 +130,33 @@ unused_within None s e = tt
 unused_within (Some f) s e = omega (arith, e)
 
 pub alone_unused : (allowance room : Option (ShapeNumbers → ℕ → ℕ)) (s : RigState) → IsUnused s
-    → s.moves ≡ 0 → StandsAlone allowance room [] no_counts s
+    → s.moves ≡ 0 → StandsAlone allowance room 0 [] no_counts s
 alone_unused allowance room s u none = record {
   paid = inr (omega (arith, u.used));
   used = λ told. unused_used room s u.used;
   most = λ told. unused_most room s u.none_ever;
   moved = λ told. unused_moved allowance s 0 none;
   within = λ told. unused_within allowance s none;
+}
+
+-- It is alone by any size, if no command was taken.
+size_larger : (allowance : Option (ShapeNumbers → ℕ → ℕ)) (n : ℕ) (c : ServiceCounts) (s : RigState)
+    → IfSome allowance RisesBySize → IsShape s.pool.shape
+    → IfSome allowance (λ f. s.moves ≤ (c.syncs + 1) * f s.pool.shape 0)
+    → IfSome allowance (λ f. s.moves ≤ (c.syncs + 1) * f s.pool.shape n)
+size_larger None n c s rises is h = tt
+size_larger (Some f) n c s rises is h =
+    let all = mul-le-mul_left (c.syncs + 1) (rises s.pool.shape 0 n is (omega arith)) in omega (arith, h, all)
+
+pub alone_larger : (allowance room : Option (ShapeNumbers → ℕ → ℕ)) (n : ℕ) (held : List ℕ) (c : ServiceCounts)
+    (s : RigState) → IfSome allowance RisesBySize → IsShape s.pool.shape → StandsAlone allowance room 0 held c s
+    → StandsAlone allowance room n held c s
+alone_larger allowance room n held c s rises is a = record {
+  paid = a.paid;
+  used = a.used;
+  most = a.most;
+  moved = a.moved;
+  within = λ told. size_larger allowance n c s rises is (a.within told);
 }
 
 -- One command more was taken.
@@ -217,21 +192,21 @@ next_moved (Some f) one s t c d shape told syncs before now tells =
     let last = now (λ p. sym told ∙ tells (omega (arith, syncs, p))) in
     rw shape (omega (arith, first, last))
 
-next_within : (allowance : Option (ShapeNumbers → ℕ → ℕ)) (s t : RigState) (c d : ServiceCounts)
+next_within : (allowance : Option (ShapeNumbers → ℕ → ℕ)) (size : ℕ) (s t : RigState) (c d : ServiceCounts)
     (one : ℕ) → IfSome allowance (λ f. s.moves ≤ c.spent s.pool.shape) → t.pool.shape ≡ s.pool.shape
-    → d.n ≡ c.n + 1 → IfSome allowance (λ f. d.syncs ≡ c.syncs + one)
-    → WithinAllowance allowance (c.n + 1) (c.syncs + one) c.spent s t → IsTrue s.device.told
-    → IfSome allowance (λ f. t.moves ≤ (d.syncs + 1) * f t.pool.shape d.n)
-next_within None s t c d one before shape n syncs w told = tt
-next_within (Some f) s t c d one before shape n syncs w told =
-    let moves = w told in rw (shape, n, syncs) (omega (arith, before, moves))
+    → IfSome allowance (λ f. d.syncs ≡ c.syncs + one)
+    → WithinAllowance allowance size (c.syncs + one) c.spent s t → IsTrue s.device.told
+    → IfSome allowance (λ f. t.moves ≤ (d.syncs + 1) * f t.pool.shape size)
+next_within None size s t c d one before shape syncs w told = tt
+next_within (Some f) size s t c d one before shape syncs w told =
+    let moves = w told in rw (shape, syncs) (omega (arith, before, moves))
 
-pub alone_next : (allowance room : Option (ShapeNumbers → ℕ → ℕ)) (one : ℕ) (held now : List ℕ)
+pub alone_next : (allowance room : Option (ShapeNumbers → ℕ → ℕ)) {few : ℕ} (one size : ℕ) (held now : List ℕ)
     (c d : ServiceCounts) (s t : RigState) → IfSome room RisesBySize → IsShape s.pool.shape
-    → StandsAlone allowance room held c s → Touches held s t
+    → StandsAlone allowance room few held c s → Touches held s t
     → TakesCommand allowance room one held now c d s t → WithinRoom room (c.n + 1) held s t
-    → WithinAllowance allowance (c.n + 1) (c.syncs + one) c.spent s t → StandsAlone allowance room now d t
-alone_next allowance room one held now c d s t rises is a touches k w m = record {
+    → WithinAllowance allowance size (c.syncs + one) c.spent s t → StandsAlone allowance room size now d t
+alone_next allowance room one size held now c d s t rises is a touches k w m = record {
   paid = ⊎_elim
       (λ (h : 2 ^ 64 - 1 ≤ s.moves). inl (let later = touches.moves in omega (arith, h, later)))
       (λ (h : s.used ≤ s.moves + c.unstored).
@@ -249,7 +224,7 @@ alone_next allowance room one held now c d s t rises is a touches k w m = record
   moved = next_moved allowance one s t c d touches.shape touches.told k.syncs a.moved k.spent;
   within = λ told.
       let z = sym touches.told ∙ told in
-      next_within allowance s t c d one (a.moved (λ p. z)) touches.shape k.n k.syncs m z;
+      next_within allowance size s t c d one (a.moved (λ p. z)) touches.shape k.syncs m z;
 }
 
 -- The blocks of a full device are at most the moves and two for each frame.
@@ -289,10 +264,10 @@ filled_room (Some f) run size used held s rises is told alone sized =
     omega (arith, over, alone, more)
 
 -- What a full device says of a call on a service that is alone.
-pub filled_call : (allowance room : Option (ShapeNumbers → ℕ → ℕ)) (size : ℕ) (tells : Bool)
+pub filled_call : (allowance room : Option (ShapeNumbers → ℕ → ℕ)) {few : ℕ} (size : ℕ) (tells : Bool)
     (kind : FileKind) (text left : List ℕ) (held : List ℕ) (c : ServiceCounts) (s u : RigState)
     (fault : EmFault) → IfSome room RisesBySize → IsShape s.pool.shape → Touches held s u
-    → StandsAlone allowance room held c s → Pays c.unstored (2 * s.pool.shape.frames) s u
+    → StandsAlone allowance room few held c s → Pays c.unstored (2 * s.pool.shape.frames) s u
     → Cause s u fault
     → (IsTrue tells → IsSized room (run_size kind text left) size held s fault)
     → IfStopsFull (Em fault) (IsFilled (service_limits allowance room) tells kind text left u)
@@ -322,21 +297,3 @@ size_within kind.Stab text left taken =
     let pairs = pairs_counted good in
     let reported = ap pairs_reported all in
     omega (arith, taken, pairs, reported)
-
--- The frames of a service came back after its calls: as many are free as before it was made.
-pub ended_service : (frames : ℕ) (held now : List ℕ) (s t u v : RigState) → Touches [] s t
-    → LentFrames frames s.pool t.pool → Within s [] held → Goes held t u → Within t held now
-    → GivesFrames frames now u v → Goes [] s v
-ended_service frames held now s t u v made lent fresh calls within gives = record {
-  sound = gives.sound;
-  touches = touches_within s u v [] now (touches_within s t u [] held made fresh calls.touches)
-      (within_then s t [] held now made fresh within) gives.touches;
-  frames = frames_back frames s.pool t.pool u.pool v.pool lent calls.frames gives.frames_are;
-}
-
--- The same if it was given up.
-pub left_service : (frames : ℕ) (held : List ℕ) (s t u v : RigState) → Touches [] s t
-    → LentFrames frames s.pool t.pool → Within s [] held → Goes held t u
-    → GivesFrames frames [] u v → Goes [] s v
-left_service frames held s t u v made lent fresh calls gives =
-    ended_service frames held [] s t u v made lent fresh calls (within_none t held [] (λ z. refl)) gives

@@ -21,13 +21,13 @@ use Rattle.em_pqueue.specs.ExtQueue.{counts_of as ext_counts}
 use Rattle.em_pqueue.specs.contracts.queue.ExtQueueQueue.TheImpl.{ghosts as ext}
 use Rattle.em_pqueue.specs.declared.queue.ExtQueue.{ExtQueue}
 use Rattle.std.proofs.Math.Nat.{mul-le-mul_left}
-use Rattle.em_answers.specs.Limits.{Limits, asked_by, by_cost, queue_limits, syncs_in}
+use Rattle.em_answers.specs.Limits.{Limits, asked_by, asked_of_file, queue_limits, syncs_in}
 use Rattle.em_answers.specs.FileDue.{output_text}
 use Rattle.em_ready.specs.Queues.{FailsToMake}
 use Rattle.em_answers.specs.Serve.{GivesUp, WithinCalls, IsAlone}
 use Rattle.em_ends.specs.Ended.{Ended, Outside, outside}
 use Rattle.em_ready.specs.Ready.{IsReady, IsUnused}
-use Rattle.em_answers.specs.FileRun.{RunsWithin}
+use Rattle.em_answers.specs.FileRun.{Runs, RunsWithin}
 use Rattle.em_ends.specs.Stop.{em_status, IfStopsFull, fault_counts}
 use Rattle.em_lines.specs.RunSize.{commands_taken, run_size}
 use Rattle.em_ends.specs.RunStop.{FillsRun}
@@ -63,19 +63,23 @@ held_to moves most = record { moves = Some moves; room = Some most }
 
 -- A run within numbers that are at most the transfer cost and the room is within these, on a device that
 -- moved none before.
-pub ended_by_cost : {took : List ℕ → List ℕ → List ℕ} (apply : Combiner) (tells : Bool) (kind : FileKind)
+pub ended_by_cost : {took : List ℕ → List ℕ → List ℕ} (apply : Combiner)
+    (size : ShapeNumbers → (text left : List ℕ) → ℕ) (tells : Bool) (kind : FileKind)
     (text : List ℕ) (f most : ShapeNumbers → ℕ → ℕ) (shape : ShapeNumbers)
     (blocks : ℕ) (old new : Outside) (s : Status)
-    → Ended tells took (asked_by apply (held_to f most) kind text) shape blocks old new s
+    → Ended tells took (asked_by apply size (held_to f most) kind text) shape blocks old new s
+    → ((left : List ℕ) → size shape text left ≡ run_size kind text left)
     → ((n : ℕ) → f shape n ≤ cost shape n) → ((n : ℕ) → most shape n ≤ room shape n)
     → old.device.moves ≡ 0
-    → Ended tells took (asked_by apply by_cost kind text) shape blocks old new s
-ended_by_cost apply tells kind text f most shape blocks old new s e few small none =
-    let n = run_size kind text (new.stand.slot First).left in
-    let y = syncs_in kind text (new.stand.slot First).left in
+    → Ended tells took (asked_of_file apply kind text) shape blocks old new s
+ended_by_cost apply size tells kind text f most shape blocks old new s e same few small none =
+    let left = (new.stand.slot First).left in
+    let n = run_size kind text left in
+    let y = syncs_in kind text left in
     let within : (y + 1) * f shape n ≤ (y + 1) * cost shape n = mul-le-mul_left (y + 1) (few n) in
     let kept : IsTrue tells → IsTrue old.device.told → new.device.moves ≤ (y + 1) * cost shape n =
-    λ t d. let m : new.device.moves ≤ old.device.moves + (y + 1) * f shape n = e.moves t d in
+    λ t d. let m : new.device.moves ≤ old.device.moves + (y + 1) * f shape n =
+    subst (λ (k : ℕ). new.device.moves ≤ old.device.moves + (y + 1) * f shape k) (same left) (e.moves t d) in
     omega (arith, m, within, none) in
     record {
       answers = e.answers;
@@ -90,18 +94,20 @@ ended_by_cost apply tells kind text f most shape blocks old new s e few small no
 
 module _ (apply : Combiner) {H W : Type 0} {h : ShelfGhosts H} {w : SinkGhosts W} where
   -- So is the run of a command file.
-  pub runs_by_cost : (kind : FileKind) (f most : ShapeNumbers → ℕ → ℕ) (s t : RigState)
+  pub runs_by_cost : (size : ShapeNumbers → (text left : List ℕ) → ℕ) (kind : FileKind)
+      (f most : ShapeNumbers → ℕ → ℕ) (s t : RigState)
       (shelf : H) (out : W) (shelf_after : H) (out_after : W) (end : Status)
-      → RunsWithin apply h w (held_to f most) kind s t shelf out shelf_after out_after end
+      → RunsWithin apply size h w (held_to f most) kind s t shelf out shelf_after out_after end
+      → ((text left : List ℕ) → size s.pool.shape text left ≡ run_size kind text left)
       → ((n : ℕ) → f s.pool.shape n ≤ cost s.pool.shape n)
       → ((n : ℕ) → most s.pool.shape n ≤ room s.pool.shape n)
       → ((n : ℕ) → most t.pool.shape n ≤ room t.pool.shape n)
       → s.device.moves ≡ 0
-      → RunsWithin apply h w by_cost kind s t shelf out shelf_after out_after end
-  runs_by_cost kind f most s t shelf out shelf_after out_after end r few small last none = record {
-    ended = ended_by_cost apply h.tells kind ((h.stand shelf).slot First).left f most s.pool.shape s.blocks
-        (outside h w s.device shelf out) (outside h w t.device shelf_after out_after) end r.ended few
-        small none;
+      → Runs apply h w kind s t shelf out shelf_after out_after end
+  runs_by_cost size kind f most s t shelf out shelf_after out_after end r same few small last none = record {
+    ended = ended_by_cost apply size h.tells kind ((h.stand shelf).slot First).left f most s.pool.shape s.blocks
+        (outside h w s.device shelf out) (outside h w t.device shelf_after out_after) end r.ended
+        (same ((h.stand shelf).slot First).left) few small none;
     caused = r.caused;
     most = λ z d.
         let within = r.most z d in
@@ -118,11 +124,11 @@ module _ (apply : Combiner) {H W : Type 0} {h : ShelfGhosts H} {w : SinkGhosts W
   -- moves were counted from the first on.
   pub runs_before : (kind : FileKind) (f most : ShapeNumbers → ℕ → ℕ) (r s t : RigState)
       (shelf : H) (out : W) (shelf_after : H) (out_after : W) (end : Status) → Touches [] r s
-      → RunsWithin apply h w (queue_limits (Some most)) kind s t shelf out shelf_after out_after end
+      → RunsWithin apply (λ shape. run_size kind) h w (queue_limits (Some most)) kind s t shelf out shelf_after out_after end
       → (IsTrue h.tells → IsTrue s.device.told
       → t.device.moves ≤ f s.pool.shape (run_size kind ((h.stand shelf).slot First).left
       ((h.stand shelf_after).slot First).left))
-      → RunsWithin apply h w (held_to f most) kind r t shelf out shelf_after out_after end
+      → RunsWithin apply (λ shape. run_size kind) h w (held_to f most) kind r t shelf out shelf_after out_after end
   runs_before kind f most r s t shelf out shelf_after out_after end a x m = record {
     ended = record {
       answers = λ z d. x.ended.answers z (a.told ∙ d);
@@ -178,7 +184,7 @@ cost_some shape n =
 -- what a device says that is full before a queue was made
 new_fills : (apply : Combiner) (tells : Bool) (text : List ℕ) (old : Outside) (s t : RigState) (fault : EmFault)
     → FailsToMake s t fault → IsShape s.pool.shape → t.pool.shape ≡ s.pool.shape → s.used ≡ 0 → s.moves ≡ 0
-    → IfStopsFull (Em fault) (FillsRun tells (asked_by apply by_cost Queue text) old.stand.slot t)
+    → IfStopsFull (Em fault) (FillsRun tells (asked_of_file apply Queue text) old.stand.slot t)
 new_fills apply tells text old s t em.DeviceFault f is same used none = tt
 new_fills apply tells text old s t (em.Damaged block) f is same used none = tt
 new_fills apply tells text old s t (em.Full n) f is same used none =
@@ -204,9 +210,9 @@ pub ended_unmade : (apply : Combiner) {IsState : List ℕ → Type 0} {took : Li
     (s t : RigState) (fault : EmFault) → IsState old.output → new.output ≡ old.output
     → old.device ≡ s.device → new.device ≡ t.device → Sound s → FailsToMake s t fault
     → s.used ≡ 0 → s.moves ≡ 0
-    → Ended tells took (asked_by apply by_cost Queue text) s.pool.shape s.blocks old new (em_status fault)
+    → Ended tells took (asked_of_file apply Queue text) s.pool.shape s.blocks old new (em_status fault)
 ended_unmade apply rule tells text old new s t fault ok same before after sound f used none =
-    let asked = asked_by apply by_cost Queue text in
+    let asked = asked_of_file apply Queue text in
     let first : old.device.moves ≡ s.moves =
     ap (λ (d : DeviceState). d.moves) before ∙ sound.moves_is in
     let last : new.device.moves ≡ t.moves =
@@ -239,21 +245,21 @@ queue_goes n x = goes_given_up (makes_ext n) x
 pub queue_runs : (apply : Combiner) {H W : Type 0} {h : ShelfGhosts H} {w : SinkGhosts W} {s t u : RigState}
     {q : ExtQueue} {shelf : H} {out : W} {shelf_after : H} {out_after : W} {end : Status}
     → IsUnused s → s.moves ≡ 0 → IsNewQueue s t q → GivesUp ext q t u
-    → RunsWithin apply h w (queue_limits (Some tree_room)) Queue t u shelf out shelf_after out_after end
+    → RunsWithin apply (λ shape. run_size Queue) h w (queue_limits (Some tree_room)) Queue t u shelf out shelf_after out_after end
     → (IsTrue h.tells → IsTrue t.device.told → WithinCalls (Some queue_share) t.pool.shape
     (commands_taken Queue ((h.stand shelf).slot First).left ((h.stand shelf_after).slot First).left)
     u.moves)
-    → RunsWithin apply h w by_cost Queue s u shelf out shelf_after out_after end
+    → Runs apply h w Queue s u shelf out shelf_after out_after end
 queue_runs apply {s = s} {t = t} {u = u} {shelf = shelf} {out = out} {shelf_after = shelf_after}
     {out_after = out_after} {end = end} unused none n x r within =
     let sound = unused.sound in
     let f : ShapeNumbers → ℕ → ℕ = λ shape size. queue_share shape size size in
     let fits : (p : ShapeNumbers) → IsShape p → (n : ℕ) → tree_room p n ≤ room p n =
     λ p is n. queue_run_room p n n (tree_room p n) is (omega arith) (omega arith) in
-    runs_by_cost apply Queue f tree_room s u shelf out shelf_after out_after end
+    runs_by_cost apply (λ shape. run_size Queue) Queue f tree_room s u shelf out shelf_after out_after end
     (runs_before apply Queue f tree_room s t u shelf out shelf_after out_after end n.session.touches r
     (λ z d. let m = within z d in let e = x.sound.moves_is in omega (arith, m, e)))
-    (queue_few s.pool.shape sound.shape)
+    (λ text left. refl) (queue_few s.pool.shape sound.shape)
     (fits s.pool.shape sound.shape) (fits u.pool.shape x.sound.shape)
     (sound.moves_is ∙ none)
 
@@ -295,7 +301,7 @@ pub unmade_runs : (apply : Combiner) {H W : Type 0} {h : ShelfGhosts H} {w : Sin
     {IsState : List ℕ → Type 0} {s t : RigState} {shelf : H} {out : W} {fault : EmFault}
     → IsRule IsState w.took → IsState (w.state out) → IsUnused s → s.moves ≡ 0
     → StopsNewTrunk s t fault
-    → RunsWithin apply h w by_cost Queue s t shelf out shelf out (em_status fault)
+    → Runs apply h w Queue s t shelf out shelf out (em_status fault)
 unmade_runs apply {h = h} {w = w} {s = s} {t = t} {shelf = shelf} {out = out} {fault = fault} rule ok
     unused none x =
     let a = x.goes.touches in

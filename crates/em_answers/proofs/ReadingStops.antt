@@ -14,7 +14,7 @@ use Rattle.em_space.proofs.Within.{touches_within}
 use Rattle.em_chain.specs.Effects.{Unmoved}
 use Rattle.em_answers.specs.Limits.{Limits}
 use Rattle.em_lines.specs.CommandLine.{good_commands}
-use Rattle.em_services.specs.Service.{GivesFrames, RisesBySize, ServiceCounts, size_of, FullOverRoom}
+use Rattle.em_services.specs.Service.{GivesFrames, GoesOn, RisesBySize, ServiceCounts, size_of, FullOverRoom}
 use Rattle.em_lines.specs.RunSize.{commands_taken, run_size}
 use Rattle.em_answers.specs.Reading.{FullAtSync, IsFilled, StandsAlone, StopsReading, SyncCause, service_limits, StopCause}
 use Rattle.em_ready.specs.Ready.{IsUnused}
@@ -94,9 +94,9 @@ command_cause tells kind text read read_after write mid after held s t u Write b
 command_cause tells kind text read read_after write mid after held s t u (Em fault) before later cause =
     cause_after held s t u fault before cause
 
-command_full : (allowance room : Option (ShapeNumbers → ℕ → ℕ)) (tells : Bool) (kind : FileKind)
+command_full : (allowance room : Option (ShapeNumbers → ℕ → ℕ)) {sized : ℕ} (tells : Bool) (kind : FileKind)
     (text left held : List ℕ) (c : ServiceCounts) (s u : RigState) (faults after : ℕ) (stop : Stop)
-    → IfSome room RisesBySize → IsShape s.pool.shape → Touches held s u → StandsAlone allowance room held c s
+    → IfSome room RisesBySize → IsShape s.pool.shape → Touches held s u → StandsAlone allowance room sized held c s
     → SyncCause faults after s u stop → IfStopsFull stop (FullAtSync room held c s u)
     → (IsTrue tells → c.n + 1 ≤ run_size kind text left)
     → IfStopsFull stop (IsFilled (service_limits allowance room) tells kind text left u)
@@ -116,10 +116,10 @@ command_full allowance room tells kind text left held c s u faults after (Em (em
     full.pays cause (λ told. record { full = full.over; most = most told })
 
 pub stops_command : {T H W : Type 0} (h : ShelfGhosts H) (w : SinkGhosts W)
-    (allowance room : Option (ShapeNumbers → ℕ → ℕ)) (kind : FileKind) (feed : Fed) (shelf shelf_after : H)
+    (allowance room : Option (ShapeNumbers → ℕ → ℕ)) {own after sized : ℕ} (kind : FileKind) (feed : Fed) (shelf shelf_after : H)
     (out mid out_after : W) (first held : List ℕ) (c : ServiceCounts) (s t u : RigState) (stop : Stop)
-    (result : Result T Stop) → IsErrAnd result (λ f. f ≡ stop) → IfSome room RisesBySize → Goes first s t
-    → Touches held t u → StandsAlone allowance room held c t → w.faults out ≤ w.faults mid
+    (result : Result T Stop) → IsErrAnd result (λ f. f ≡ stop) → IfSome room RisesBySize → GoesOn own after first s t
+    → Touches held t u → StandsAlone allowance room sized held c t → w.faults out ≤ w.faults mid
     → SyncCause (w.faults mid) (w.faults out_after) t u stop → IfStopsFull stop (FullAtSync room held c t u)
     → (IsTrue h.tells
     → c.n + 1 ≤ run_size kind (rest feed (h.stand shelf)) ((h.stand shelf_after).slot feed.slot).left)
@@ -156,11 +156,11 @@ stops_new h w allowance room kind feed shelf out s u fault rises unused none goe
 
 -- The answers weren't made.
 pub stops_answers : {H W : Type 0} (h : ShelfGhosts H) (w : SinkGhosts W)
-    (allowance room : Option (ShapeNumbers → ℕ → ℕ)) (kind : FileKind) (feed : Fed) (shelf shelf_after : H)
+    (allowance room : Option (ShapeNumbers → ℕ → ℕ)) {own after sized : ℕ} (kind : FileKind) (feed : Fed) (shelf shelf_after : H)
     (out out_after : W) (frames : ℕ) (held now : List ℕ)
     (c : ServiceCounts) (s t u v : RigState) (fault : EmFault) → IfSome room RisesBySize
-    → Touches [] s t → Within s [] held → Goes held t u → StandsAlone allowance room now c u
-    → GivesFrames frames now u v → Pays c.unstored (2 * u.pool.shape.frames) u v → Cause u v fault
+    → Touches [] s t → Within s [] held → GoesOn own after held t u → StandsAlone allowance room sized now c u
+    → GivesFrames frames after now u v → Pays c.unstored (2 * u.pool.shape.frames) u v → Cause u v fault
     → (IsTrue h.tells → c.n
     ≤ commands_taken kind (rest feed (h.stand shelf)) ((h.stand shelf_after).slot feed.slot).left)
     → (IsTrue h.tells → c.n ≡ length (good_commands kind (rest feed (h.stand shelf))))

@@ -23,9 +23,9 @@ room_wider (Some f) shape m n most rises is few h =
     let more = rises shape m n is few in omega (arith, h, more)
 
 -- A service that is alone was given commands of a text: no more blocks were in use up to now,
-pub alone_keeps : (allowance room : Option (ShapeNumbers → ℕ → ℕ)) (tells : Bool) (kind : FileKind)
+pub alone_keeps : (allowance room : Option (ShapeNumbers → ℕ → ℕ)) {sized : ℕ} (tells : Bool) (kind : FileKind)
     (text left held : List ℕ) (c : ServiceCounts) (s : RigState) → IfSome room RisesBySize
-    → IsShape s.pool.shape → StandsAlone allowance room held c s
+    → IsShape s.pool.shape → StandsAlone allowance room sized held c s
     → (IsTrue tells → c.n ≤ commands_taken kind text left) → KeepsRoom room tells kind text left s
 alone_keeps allowance room tells kind text left held c s rises is a taken = λ told d.
     let few = taken told in
@@ -46,9 +46,9 @@ call_most (Some f) n size run held s t rises is used before shape w told few sma
     rw shape (omega (arith, most, used, before, first, more))
 
 -- up to the end of a call on it for this size,
-pub call_keeps : (allowance room : Option (ShapeNumbers → ℕ → ℕ)) (tells : Bool) (kind : FileKind)
+pub call_keeps : (allowance room : Option (ShapeNumbers → ℕ → ℕ)) {sized : ℕ} (tells : Bool) (kind : FileKind)
     (text left changed held : List ℕ) (size : ℕ) (c : ServiceCounts) (s t : RigState) → IfSome room RisesBySize
-    → IsShape s.pool.shape → Touches changed s t → StandsAlone allowance room held c s
+    → IsShape s.pool.shape → Touches changed s t → StandsAlone allowance room sized held c s
     → (IsTrue tells → WithinRoom room size held s t) → (IsTrue tells → c.n ≤ run_size kind text left)
     → (IsTrue tells → size ≤ run_size kind text left) → KeepsRoom room tells kind text left t
 call_keeps allowance room tells kind text left changed held size c s t rises is touches a w few small = λ told d.
@@ -57,9 +57,9 @@ call_keeps allowance room tells kind text left changed held size c s t rises is 
     (w told) here (few told) (small told)
 
 -- up to the end of the call that gives the answers, where they are all,
-pub answers_keep : (allowance room : Option (ShapeNumbers → ℕ → ℕ)) (tells : Bool) (kind : FileKind)
+pub answers_keep : (allowance room : Option (ShapeNumbers → ℕ → ℕ)) {sized : ℕ} (tells : Bool) (kind : FileKind)
     (text left changed held : List ℕ) (c : ServiceCounts) (s t : RigState) → IfSome room RisesBySize
-    → IsShape s.pool.shape → Touches changed s t → StandsAlone allowance room held c s
+    → IsShape s.pool.shape → Touches changed s t → StandsAlone allowance room sized held c s
     → (IsTrue tells → WithinRoom room (size_of kind (up_to_sync (good_commands kind text)
     ++ since_sync (good_commands kind text))) held s t)
     → (IsTrue tells → c.n ≤ commands_taken kind text left)

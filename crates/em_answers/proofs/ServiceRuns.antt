@@ -1,5 +1,5 @@
 -- The runs of a map and of an interval list are within their transfer cost and the room.
-use Rattle.std.proofs.Common.{◌≡◌, ℕ, ◌+◌, ◌*◌, ◌≤◌, arith, Some}
+use Rattle.std.proofs.Common.{◌≡◌, ℕ, ◌+◌, ◌*◌, ◌≤◌, List, arith, Some}
 use Rattle.std.proofs.Math.Nat.{mul-le-mul, mul-le-mul_left}
 use Rattle.em_record.specs.Cost.{blocks_of, cost, room}
 use Rattle.em_record.specs.Shape.{IsShape, ShapeNumbers, payload_of}
@@ -14,11 +14,13 @@ use Rattle.em_lines.specs.declared.text.FileKind.TheVariants.{Map, Stab}
 use Rattle.em_ends.specs.declared.status.Status.{Status}
 use Rattle.em_ready.specs.Ready.{IsUnused}
 use Rattle.em_services.specs.BatchService.{map_share}
+use Rattle.em_services.specs.Service.{size_of}
 use Rattle.em_services.proofs.BatchAnswers.{ceiling_share}
 use Rattle.em_answers.specs.FileRun.{Runs, RunsWithin}
-use Rattle.em_answers.specs.Limits.{Limits}
+use Rattle.em_answers.specs.Limits.{Limits, taken_size}
 use Rattle.em_answers.specs.Reading.{service_limits}
 use Rattle.em_answers.proofs.Moves.{runs_by_cost}
+use Rattle.em_answers.proofs.Sizes.{plain_size}
 use Rattle.em_model.specs.Map.{Combiner}
 
 -- the moves of a map's run are within its transfer cost,
@@ -40,12 +42,12 @@ map_few shape is n =
 -- and so is the run.
 pub map_runs : {H W : Type 0} (apply : Combiner) (h : ShelfGhosts H) (w : SinkGhosts W) (s t : RigState) (shelf : H)
     (out : W) (shelf_after : H) (out_after : W) (end : Status) → IsUnused s → s.moves ≡ 0
-    → RunsWithin apply h w (service_limits (Some map_share) (Some room)) Map s t shelf out shelf_after out_after end
+    → RunsWithin apply (taken_size (λ shape. size_of Map) Map) h w (service_limits (Some map_share) (Some room)) Map s t shelf out shelf_after out_after end
     → Runs apply h w Map s t shelf out shelf_after out_after end
 map_runs apply h w s t shelf out shelf_after out_after end unused none r =
     let sound = unused.sound in
-    runs_by_cost apply Map (λ shape size. map_share shape size + ceiling size (payload_of shape))
-    room s t shelf out shelf_after out_after end r
+    runs_by_cost apply (taken_size (λ shape. size_of Map) Map) Map (λ shape size. map_share shape size + ceiling size (payload_of shape))
+    room s t shelf out shelf_after out_after end r (plain_size Map)
     (map_few s.pool.shape sound.shape) (λ n. omega arith) (λ n. omega arith)
     (let moves = sound.moves_is in omega (arith, moves, none))
 
@@ -59,11 +61,11 @@ stab_few shape is n =
     omega (arith, all)
 
 -- An interval list has no adds, so that its run is the same by any combiner.
-stab_joined : {H W : Type 0} (first apply : Combiner) (h : ShelfGhosts H) (w : SinkGhosts W) (limits : Limits)
+stab_joined : {H W : Type 0} (first apply : Combiner) (size : ShapeNumbers → (text left : List ℕ) → ℕ) (h : ShelfGhosts H) (w : SinkGhosts W) (limits : Limits)
     (s t : RigState) (shelf : H) (out : W) (shelf_after : H) (out_after : W) (end : Status)
-    → RunsWithin first h w limits Stab s t shelf out shelf_after out_after end
-    → RunsWithin apply h w limits Stab s t shelf out shelf_after out_after end
-stab_joined first apply h w limits s t shelf out shelf_after out_after end r = record {
+    → RunsWithin first size h w limits Stab s t shelf out shelf_after out_after end
+    → RunsWithin apply size h w limits Stab s t shelf out shelf_after out_after end
+stab_joined first apply size h w limits s t shelf out shelf_after out_after end r = record {
   ended = r.ended;
   caused = r.caused;
   most = r.most;
@@ -76,12 +78,13 @@ stab_joined first apply h w limits s t shelf out shelf_after out_after end r = r
 -- and so is the run, by any combiner.
 pub stab_runs : {H W : Type 0} (first apply : Combiner) (h : ShelfGhosts H) (w : SinkGhosts W) (s t : RigState) (shelf : H)
     (out : W) (shelf_after : H) (out_after : W) (end : Status) → IsUnused s → s.moves ≡ 0
-    → RunsWithin first h w (service_limits (Some stab_share) (Some room)) Stab s t shelf out shelf_after out_after end
+    → RunsWithin first (taken_size (λ shape. size_of Stab) Stab) h w (service_limits (Some stab_share) (Some room)) Stab s t shelf out shelf_after out_after end
     → Runs apply h w Stab s t shelf out shelf_after out_after end
 stab_runs first apply h w s t shelf out shelf_after out_after end unused none r =
     let sound = unused.sound in
-    runs_by_cost apply Stab (λ shape size. stab_share shape size + ceiling size (payload_of shape))
+    runs_by_cost apply (taken_size (λ shape. size_of Stab) Stab) Stab (λ shape size. stab_share shape size + ceiling size (payload_of shape))
     room s t shelf out shelf_after out_after end
-    (stab_joined first apply h w (service_limits (Some stab_share) (Some room)) s t shelf out shelf_after out_after end r)
-    (stab_few s.pool.shape sound.shape) (λ n. omega arith) (λ n. omega arith)
+    (stab_joined first apply (taken_size (λ shape. size_of Stab) Stab) h w (service_limits (Some stab_share) (Some room)) s t
+    shelf out shelf_after out_after end r)
+    (plain_size Stab) (stab_few s.pool.shape sound.shape) (λ n. omega arith) (λ n. omega arith)
     (let moves = sound.moves_is in omega (arith, moves, none))

@@ -8,7 +8,6 @@ use Rattle.em_model.specs.Sync.{since_sync, up_to_sync}
 use Rattle.em_model.specs.declared.command.Command.{Command}
 use Rattle.em_model.specs.declared.command.Command.TheVariants.{Put, Add, Del, Get, Sync, Push, Pop, Interval, Stab}
 use Rattle.em_model.proofs.SyncLaws.{no_sync, since_same, since_synced, sync_parts, up_to_same, up_to_synced}
-use Rattle.em_frames.specs.Pool.{PoolCounts, SameFrames, singles_of}
 use Rattle.em_space.specs.Held.{Apart, Within}
 use Rattle.em_space.specs.Queue.{Pays}
 use Rattle.em_space.specs.Rig.{BlockCause, Goes, RigState, Touches}
@@ -18,16 +17,17 @@ use Rattle.em_space.proofs.Apart.{off_left, off_right}
 use Rattle.em_space.proofs.Held.{apart_none}
 use Rattle.em_space.proofs.Paying.{pays_kept, pays_then}
 use Rattle.em_space.proofs.Sessions.{session_others}
-use Rattle.em_space.proofs.Steps.{block_cause, cause_after, goes_then}
-use Rattle.em_space.proofs.Within.{goes_within, within_kept}
+use Rattle.em_space.proofs.Steps.{block_cause, cause_after}
+use Rattle.em_space.proofs.Within.{within_kept}
 use Rattle.em_chain.specs.Chain.{ChainStays, chain_blocks}
 use Rattle.em_chain.specs.declared.chain.Chain.{Chain}
 use Rattle.em_chain.proofs.Beside.{chain_kept}
 use Rattle.em_lines.specs.Kind.{IsOfKind}
 use Rattle.em_lines.specs.declared.text.FileKind.{FileKind}
 use Rattle.em_lines.specs.declared.text.FileKind.TheVariants as kind
-use Rattle.em_services.specs.Service.{FramesOut, FullOverRoom, GivesAtSync, ServiceCounts, TakesCommand, WithinAllowance, WithinRoom, list_moves, records_for, syncs_for}
+use Rattle.em_services.specs.Service.{FramesOut, FullOverRoom, GivesAtSync, GoesOn, ServiceCounts, TakesCommand, WithinAllowance, WithinRoom, list_moves, records_for, syncs_for}
 use Rattle.em_services.specs.declared.service.Service.{Ghosts as ServiceGhosts}
+use Rattle.em_services.proofs.Areas.{goes_on, goes_on_trans, goes_on_within, out_kept}
 use Rattle.aig_text.proofs.Lines.{of_error}
 use Rattle.em_answers.specs.Answer.{text_at}
 use Rattle.em_answers.specs.Print.{KeepsBlocks, PrintCause, records_text}
@@ -38,18 +38,10 @@ use Rattle.em_ends.specs.declared.stop.Stop.TheVariants.{Fault, Read, Write, Em}
 use Rattle.em_answers.proofs.Answered.{text_at_sync}
 use Rattle.em_model.specs.Map.{Combiner}
 
--- The frames of a service are out after calls that lent none.
-out_same : (frames : ℕ) (p q : PoolCounts) → FramesOut frames p → SameFrames p q → FramesOut frames q
-out_same frames p q out same =
-    let shape = ap singles_of same.shape in
-    let free = same.free in
-    let is = out.is in
-    record { is = omega (arith, is, free, shape) }
-
 -- A service stays as it is over calls on others: the law of a service,
 abbrev pub StaysLaw : {S R : Type 0} → ServiceGhosts S R → Type 0
 StaysLaw {S} v = (x : S) (held : List ℕ) (s t : RigState) → v.IsService x s → Touches held s t
-    → (IsTrue s.device.told → Apart (v.blocks x s) held) → FramesOut v.frames t.pool
+    → (IsTrue s.device.told → Apart (v.blocks x s) held) → FramesOut v.frames (v.areas x) t.pool
     → v.IsService x t × (IsTrue s.device.told → v.blocks x t ≡ v.blocks x s)
     × ((before cs : List Command) → v.Has x s before cs → v.Has x t before cs)
 
@@ -62,19 +54,19 @@ pub record ServiceStays {S R : Type 0} (v : ServiceGhosts S R) (x : S) (s t : Ri
 -- So does what is left of it after a fault.
 abbrev pub FramesLaw : {S R : Type 0} → ServiceGhosts S R → Type 0
 FramesLaw {S} v = (x : S) (held : List ℕ) (s t : RigState) → v.HasItsFrames x s → Touches held s t
-    → FramesOut v.frames t.pool → v.HasItsFrames x t
+    → FramesOut v.frames (v.areas x) t.pool → v.HasItsFrames x t
 
 pub frames_over : {S R : Type 0} (v : ServiceGhosts S R) (law : FramesLaw v) (x : S) (held : List ℕ) (s t : RigState)
-    → v.HasItsFrames x s → FramesOut v.frames s.pool → Goes held s t → v.HasItsFrames x t
+    → v.HasItsFrames x s → FramesOut v.frames (v.areas x) s.pool → Goes held s t → v.HasItsFrames x t
 frames_over v law x held s t has out goes =
-    law x held s t has goes.touches (out_same v.frames s.pool t.pool out goes.frames)
+    law x held s t has goes.touches (out_kept v.frames (v.areas x) s.pool t.pool out goes.frames)
 
--- A service that held these blocks gave a list at a sync.
-pub record GaveList {S R : Type 0} (v : ServiceGhosts S R) (x : S) (held : List ℕ) (a : ServiceCounts)
+-- A service that held these areas and blocks gave a list at a sync.
+pub record GaveList {S R : Type 0} (v : ServiceGhosts S R) (x : S) (own : ℕ) (held : List ℕ) (a : ServiceCounts)
     (s m : RigState) (c : Chain) : Type 0 where
-  pub goes : Goes held s m
+  pub goes : GoesOn own (v.areas x) held s m
   pub is : v.IsService x m
-  pub out : FramesOut v.frames m.pool
+  pub out : FramesOut v.frames (v.areas x) m.pool
   pub gives : GivesAtSync v.allowance v.room held (v.blocks x m) a (v.counts x) s m c
 
 -- the blocks in use after a list was released
@@ -94,19 +86,20 @@ list_spent None s m t a b c moves spent = tt
 list_spent (Some f) s m t a b c moves spent = omega (arith, moves, spent)
 
 -- The list of a sync is printed,
-module _ {S R : Type 0} (v : ServiceGhosts S R) (law : StaysLaw v) {x : S} {held : List ℕ} {a : ServiceCounts}
-    {c : Chain} {s m p : RigState} (g : GaveList v x held a s m c) (k : KeepsBlocks m p) where
+module _ {S R : Type 0} (v : ServiceGhosts S R) (law : StaysLaw v) {x : S} {own : ℕ} {held : List ℕ} {a : ServiceCounts}
+    {c : Chain} {s m p : RigState} (g : GaveList v x own held a s m c) (k : KeepsBlocks m p) where
   printed_stays : ServiceStays v x m p
   printed_stays =
       let all = law x [] m p g.is k.goes.touches (λ z. apart_none (v.blocks x m))
-      (out_same v.frames m.pool p.pool g.out k.goes.frames) in
+      (out_kept v.frames (v.areas x) m.pool p.pool g.out k.goes.frames) in
       record { is = all.0; blocks = all.1; has = all.2 }
 
   pub printed_list : ChainStays m p c
   printed_list = chain_kept m p c k.goes g.gives.is
 
-  pub printed_goes : Goes held s p
-  printed_goes = goes_then held s m p g.goes k.goes
+  pub printed_goes : GoesOn own (v.areas x) held s p
+  printed_goes = goes_on_trans own (v.areas x) (v.areas x) held [] s m p g.goes (goes_on (v.areas x) [] m p k.goes)
+      (λ z j u o. tt)
 
   list_within : Within s held (chain_blocks p c)
   list_within = within_kept s held (chain_blocks m c) (chain_blocks p c)
@@ -121,14 +114,16 @@ module _ {S R : Type 0} (v : ServiceGhosts S R) (law : StaysLaw v) {x : S} {held
 
   -- and released.
   module _ {t : RigState} (d : Goes (chain_blocks p c) p t) where
-    pub released_goes : Goes held s t
-    released_goes = goes_within held (chain_blocks p c) s p t printed_goes list_within d
+    pub released_goes : GoesOn own (v.areas x) held s t
+    released_goes = goes_on_within own (v.areas x) (v.areas x) held (chain_blocks p c) s p t printed_goes list_within
+        (goes_on (v.areas x) (chain_blocks p c) p t d)
 
     pub released_stays : ServiceStays v x m t
     released_stays =
         let first = printed_stays in
         let all = law x (chain_blocks p c) p t first.is d.touches beside_list
-        (out_same v.frames p.pool t.pool (out_same v.frames m.pool p.pool g.out k.goes.frames) d.frames) in
+        (out_kept v.frames (v.areas x) p.pool t.pool
+        (out_kept v.frames (v.areas x) m.pool p.pool g.out k.goes.frames) d.frames) in
         record {
           is = all.0;
           blocks = λ z. all.1 (k.goes.touches.told ∙ z) ∙ first.blocks z;
@@ -164,14 +159,15 @@ module _ {S R : Type 0} (v : ServiceGhosts S R) (law : StaysLaw v) {x : S} {held
         }
 
 -- What is moved for the list is within what the service is allowed.
-pub sync_moves : (allowance room : Option (ShapeNumbers → ℕ → ℕ)) (held now : List ℕ) (a b : ServiceCounts)
+pub sync_moves : (allowance room : Option (ShapeNumbers → ℕ → ℕ)) (size : ℕ) (held now : List ℕ) (a b : ServiceCounts)
     (s m t : RigState) (c : Chain) → GivesAtSync allowance room held now a b s m c
-    → t.moves ≤ m.moves + list_moves c
-    → WithinAllowance allowance (a.n + 1) (a.syncs + 1) a.spent s t
-sync_moves None room held now a b s m t c g moves = tt
-sync_moves (Some f) room held now a b s m t c g moves = λ z.
+    → (IsTrue s.device.told
+    → IfSome allowance (λ f. b.spent s.pool.shape ≤ (b.syncs + 1) * f s.pool.shape size))
+    → t.moves ≤ m.moves + list_moves c → WithinAllowance allowance size (a.syncs + 1) a.spent s t
+sync_moves None room size held now a b s m t c g within moves = tt
+sync_moves (Some f) room size held now a b s m t c g within moves = λ z.
     let spent = g.spent z in
-    let share = rw (g.n, g.syncs) at (g.share z) in
+    let share = rw (g.syncs) at (within z) in
     omega (arith, spent, share, moves)
 
 -- No more blocks come into use.
@@ -247,6 +243,32 @@ pub none_at_other : (k : FileKind) (c : Command) → (c ≡ Sync → ⊥) → sy
 none_at_other kind.Map c other = no_sync c other
 none_at_other kind.Queue c other = refl
 none_at_other kind.Stab c other = refl
+
+-- Its moves are within what is allowed for the size of the commands that were given, and of it.
+module _ (allowance : Option (ShapeNumbers → ℕ → ℕ)) (size : List Command → ℕ) (k : FileKind) (given : List Command)
+    (c : Command) (syncs : ℕ) (spent : ShapeNumbers → ℕ) (s t : RigState) where
+  abbrev pub Allowed : ℕ → Type 0
+  Allowed n = WithinAllowance allowance (size (given ++ c ∷ [])) n spent s t
+
+  pub sync_within : c ≡ Sync → IsOfKind k Sync
+      → WithinAllowance allowance (size (up_to_sync given ++ since_sync given ++ Sync ∷ [])) (syncs + 1) spent s t
+      → Allowed (syncs + syncs_for k (c ∷ []))
+  sync_within e is h =
+      let all : up_to_sync given ++ since_sync given ++ Sync ∷ [] ≡ given ++ c ∷ [] =
+      ap (λ (l : List Command). l ++ Sync ∷ []) (sync_parts given) ∙ ap (λ (x : Command). given ++ x ∷ []) (sym e) in
+      subst (λ (n : ℕ). Allowed (syncs + n)) (sym (one_at_sync k c e is))
+      (subst (λ (l : List Command). WithinAllowance allowance (size l) (syncs + 1) spent s t) all h)
+
+  pub other_within : (c ≡ Sync → ⊥)
+      → WithinAllowance allowance (size (up_to_sync given ++ since_sync given ++ c ∷ [])) syncs spent s t
+      → Allowed (syncs + syncs_for k (c ∷ []))
+  other_within other h =
+      let none = none_at_other k c other in
+      let all : up_to_sync given ++ since_sync given ++ c ∷ [] ≡ given ++ c ∷ [] =
+      ap (λ (l : List Command). l ++ c ∷ []) (sync_parts given) in
+      let e : syncs ≡ syncs + syncs_for k (c ∷ []) = omega (arith, none) in
+      subst (λ (n : ℕ). Allowed n) e
+      (subst (λ (l : List Command). WithinAllowance allowance (size l) syncs spent s t) all h)
 
 -- The commands up to the last sync and those since, one command further on.
 has_synced : (P : List Command → List Command → Type 0) (given : List Command) (c : Command) → c ≡ Sync

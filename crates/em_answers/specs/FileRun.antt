@@ -1,10 +1,13 @@
 -- The run of a command file.
+use Rattle.std.specs.Prelude.{ℕ, List}
+use Rattle.em_record.specs.Shape.{ShapeNumbers}
 use Rattle.em_io.specs.declared.shelf.Shelf.{Ghosts as ShelfGhosts}
 use Rattle.em_io.specs.declared.shelf.Slot.TheVariants.{First}
 use Rattle.em_io.specs.declared.sink.Sink.{Ghosts as SinkGhosts}
 use Rattle.em_model.specs.Map.{Combiner}
 use Rattle.em_space.specs.Rig.{RigState}
 use Rattle.em_ends.specs.declared.status.Status.{Status}
+use Rattle.em_lines.specs.RunSize.{run_size}
 use Rattle.em_lines.specs.declared.text.FileKind.{FileKind}
 use Rattle.em_answers.specs.Limits.{Limits, asked_by, by_cost}
 use Rattle.em_answers.specs.Reading.{KeepsRoom}
@@ -13,11 +16,13 @@ use Rattle.em_ends.specs.Status.{OnDone, OnNoMemory, OnUsage}
 use Rattle.em_ends.specs.Ended.{outside, Ended, Caused}
 
 -- A run with these limits over a command file in the open first slot, whose adds are joined so, on a rig that was `s` and is `t`:
--- how it ended, why, and how many blocks it took at most. Only that slot was read, and at Done to its end.
-pub record RunsWithin {H W : Type 0} (apply : Combiner) (h : ShelfGhosts H) (w : SinkGhosts W) (limits : Limits)
+-- how it ended, why, and how many blocks it took at most. Its moves go by this size. Only that slot was read, and at Done to
+-- its end.
+pub record RunsWithin {H W : Type 0} (apply : Combiner) (size : ShapeNumbers → (text left : List ℕ) → ℕ)
+    (h : ShelfGhosts H) (w : SinkGhosts W) (limits : Limits)
     (kind : FileKind) (s t : RigState) (shelf : H) (out : W) (shelf_after : H) (out_after : W)
     (status : Status) : Type 0 where
-  pub ended : Ended h.tells w.took (asked_by apply limits kind ((h.stand shelf).slot First).left)
+  pub ended : Ended h.tells w.took (asked_by apply size limits kind ((h.stand shelf).slot First).left)
       s.pool.shape s.blocks
       (outside h w s.device shelf out) (outside h w t.device shelf_after out_after) status
   pub caused : Caused (outside h w s.device shelf out)
@@ -33,4 +38,4 @@ pub record RunsWithin {H W : Type 0} (apply : Combiner) (h : ShelfGhosts H) (w :
 abbrev pub Runs : {H W : Type 0} → Combiner → ShelfGhosts H → SinkGhosts W → FileKind → RigState → RigState → H
     → W → H → W → Status → Type 0
 Runs apply h w kind s t shelf out shelf_after out_after status =
-    RunsWithin apply h w by_cost kind s t shelf out shelf_after out_after status
+    RunsWithin apply (λ shape. run_size kind) h w by_cost kind s t shelf out shelf_after out_after status

@@ -1,20 +1,22 @@
 -- What a command file asks of a run, by the limits of the structure that answers it.
-use Rattle.std.specs.Prelude.{ℕ, ◌+◌, ◌*◌, List, false, Option, Some, None}
+use Rattle.std.specs.Prelude.{ℕ, ◌+◌, ◌*◌, List, false, Option, Some, None, take}
 use Rattle.em_record.specs.Cost.{cost, room}
 use Rattle.em_record.specs.Shape.{ShapeNumbers}
 use Rattle.em_io.specs.Shelf.{SlotState}
 use Rattle.em_io.specs.declared.shelf.Slot.{Slot}
 use Rattle.em_io.specs.declared.shelf.Slot.TheVariants.{First}
 use Rattle.em_model.specs.Map.{Combiner}
+use Rattle.em_model.specs.declared.command.Command.{Command}
 use Rattle.em_answers.specs.FileDue.{due_status, output_text}
-use Rattle.em_lines.specs.RunSize.{run_size, syncs_taken}
+use Rattle.em_lines.specs.CommandLine.{good_commands}
+use Rattle.em_lines.specs.RunSize.{commands_taken, run_size, syncs_taken}
 use Rattle.em_lines.specs.declared.text.FileKind.{FileKind}
 use Rattle.em_lines.specs.declared.text.FileKind.TheVariants.{Map, Queue, Stab}
 use Rattle.em_ends.specs.Asked.{Asked}
 
 -- The most moves of a command file's run, for the end and for each sync that was taken, and the blocks that are enough
--- for it, each if its structure keeps to a number: by the shape and the size of the run. Both are said of a device that
--- tells.
+-- for it, each if its structure keeps to a number. Both go by the shape and a size: the blocks by the size of the run, the
+-- moves by one that stands beside the limits. Both are said of a device that tells.
 pub record Limits : Type 0 where
   pub moves : Option (ShapeNumbers → ℕ → ℕ)
   pub room : Option (ShapeNumbers → ℕ → ℕ)
@@ -35,26 +37,34 @@ syncs_in Map text left = syncs_taken text left
 syncs_in Queue text left = 0
 syncs_in Stab text left = 0
 
--- a number by size as one by how far each slot was read: as often as syncs were taken, and once more
-abbrev pub for_each : Option (ShapeNumbers → ℕ → ℕ) → (syncs size : (Slot → SlotState) → ℕ)
-    → Option (ShapeNumbers → (Slot → SlotState) → ℕ)
-for_each None syncs size = None
-for_each (Some f) syncs size = Some (λ shape slots. (syncs slots + 1) * f shape (size slots))
+-- the commands that were taken of a text, where this much of it is left
+abbrev pub taken_commands : FileKind → (text left : List ℕ) → List Command
+taken_commands kind text left = take (commands_taken kind text left) (good_commands kind text)
 
--- what a command file whose adds are joined so asks of a run with these limits
-abbrev pub asked_by : Combiner → Limits → FileKind → List ℕ → Asked
-asked_by apply limits kind text = record {
+-- a size of commands as one by how far a text was read: that of the commands that were taken
+abbrev pub taken_size : (ShapeNumbers → List Command → ℕ) → FileKind → ShapeNumbers → (text left : List ℕ) → ℕ
+taken_size size kind shape text left = size shape (taken_commands kind text left)
+
+-- a number by a size that has the shape as one by how far each slot was read: as often as syncs were taken, and once more
+abbrev pub for_each : Option (ShapeNumbers → ℕ → ℕ) → (syncs : (Slot → SlotState) → ℕ)
+    → (size : ShapeNumbers → (Slot → SlotState) → ℕ) → Option (ShapeNumbers → (Slot → SlotState) → ℕ)
+for_each None syncs size = None
+for_each (Some f) syncs size = Some (λ shape slots. (syncs slots + 1) * f shape (size shape slots))
+
+-- What a command file whose adds are joined so asks of a run with these limits. Its moves go by this size of what was read.
+abbrev pub asked_by : Combiner → (size : ShapeNumbers → (text left : List ℕ) → ℕ) → Limits → FileKind → List ℕ → Asked
+asked_by apply size limits kind text = record {
   status = due_status kind text;
   status_told = false;
   output = output_text apply kind text;
   moves = for_each limits.moves (λ slots. syncs_in kind text (slots First).left)
-      (λ slots. run_size kind text (slots First).left);
+      (λ shape slots. size shape text (slots First).left);
   room = sized limits.room (λ slots. run_size kind text (slots First).left);
 }
 
 -- what a command file asks: its run is held to the transfer cost and the room
 abbrev pub asked_of_file : Combiner → FileKind → List ℕ → Asked
-asked_of_file apply kind text = asked_by apply by_cost kind text
+asked_of_file apply kind text = asked_by apply (λ shape. run_size kind) by_cost kind text
 
 -- What the run of a queue is held to by itself: the room that it states, if it does. Of its moves its
 -- allowance tells.

@@ -4,12 +4,15 @@ use Rattle.em_io.specs.Feed.{Fed, rest}
 use Rattle.em_io.specs.declared.shelf.Shelf.{Ghosts as ShelfGhosts}
 use Rattle.em_io.specs.declared.sink.Sink.{Ghosts as SinkGhosts}
 use Rattle.em_record.specs.Shape.{ShapeNumbers, payload_of}
+use Rattle.em_model.specs.Sync.{since_sync, up_to_sync}
+use Rattle.em_model.specs.declared.command.Command.{Command}
 use Rattle.em_space.specs.Queue.{Pays}
 use Rattle.em_space.specs.Rig.{RigState, Cause}
 use Rattle.em_space.specs.declared.fault.EmFault.TheVariants as em
 use Rattle.em_chain.specs.Counts.{ceiling}
-use Rattle.em_answers.specs.Limits.{Limits, syncs_in}
+use Rattle.em_answers.specs.Limits.{Limits, syncs_in, taken_commands}
 use Rattle.em_services.specs.Service.{FullOverRoom, ServiceCounts}
+use Rattle.em_services.specs.declared.service.Service.{Ghosts as ServiceGhosts}
 use Rattle.em_lines.specs.RunSize.{run_size}
 use Rattle.em_ends.specs.Stop.{IfStopsFull, fault_counts, Faults}
 use Rattle.em_ends.specs.declared.stop.Stop.{Stop}
@@ -19,11 +22,11 @@ use Rattle.em_lines.specs.CommandLine.{first_fault}
 use Rattle.em_ends.specs.declared.status.Malform.TheVariants.{Text, Aig}
 use Rattle.em_ends.specs.declared.stop.Stop.TheVariants.{Fault, Read, Write, Em}
 
--- The service, which holds these blocks, is alone on the rig: each block in use was moved or isn't stored
--- yet. If it states a room and the device tells, all blocks in use are its own, and at no moment more than
+-- The service, which holds these blocks and took commands of this size, is alone on the rig: each block in use was moved or
+-- isn't stored yet. If it states a room and the device tells, all blocks in use are its own, and at no moment more than
 -- that. If it states an allowance, and the device tells or no sync came, all moves are its own or those of the lists that it
 -- gave at syncs; and within that for each sync and once more, if the device tells.
-pub record StandsAlone (allowance room : Option (ShapeNumbers → ℕ → ℕ)) (held : List ℕ)
+pub record StandsAlone (allowance room : Option (ShapeNumbers → ℕ → ℕ)) (size : ℕ) (held : List ℕ)
     (c : ServiceCounts) (s : RigState) : Type 0 where
   pub paid : (2 ^ 64 - 1 ≤ s.moves) ⊎ (s.used ≤ s.moves + c.unstored)
   pub used : IsTrue s.device.told → IfSome room (λ f. s.used ≡ length held)
@@ -31,7 +34,16 @@ pub record StandsAlone (allowance room : Option (ShapeNumbers → ℕ → ℕ)) 
   pub moved : (0 < c.syncs → IsTrue s.device.told)
       → IfSome allowance (λ f. s.moves ≤ c.spent s.pool.shape)
   pub within : IsTrue s.device.told
-      → IfSome allowance (λ f. s.moves ≤ (c.syncs + 1) * f s.pool.shape c.n)
+      → IfSome allowance (λ f. s.moves ≤ (c.syncs + 1) * f s.pool.shape size)
+
+-- The service took some commands, which are counted by this size, and is alone on the rig. They are all those of a file, if
+-- the shelf tells.
+pub record TookCommands {S R : Type 0} (v : ServiceGhosts S R) (size : List Command → ℕ) (tells : Bool)
+    (all : List Command) (x : S) (s : RigState) : Type 0 where
+  pub taken : List Command
+  pub are_all : IsTrue tells → taken ≡ all
+  pub has : v.Has x s (up_to_sync taken) (since_sync taken)
+  pub alone : StandsAlone v.allowance v.room (size taken) (v.blocks x s) (v.counts x) s
 
 -- the most moves of a run over a service that states an allowance, for the end and for each sync: those of the service, and
 -- one for each block of the answers, which are packed
@@ -43,14 +55,14 @@ moves_within (Some f) = Some (λ shape size. f shape size + ceiling size (payloa
 abbrev pub service_limits : (allowance room : Option (ShapeNumbers → ℕ → ℕ)) → Limits
 service_limits allowance room = record { moves = moves_within allowance; room = room }
 
--- All moves on a rig that moved none at first are within the allowance of a service for the size of what was read of a
--- text, for each sync and once more, if it states one and the device tells.
-abbrev pub KeepsAllowance : Option (ShapeNumbers → ℕ → ℕ) → FileKind → (text left : List ℕ) → RigState
-    → RigState → Type 0
-KeepsAllowance None kind text left old new = Unit {0}
-KeepsAllowance (Some f) kind text left old new =
+-- All moves on a rig that moved none at first are within the allowance of a service for this size of the commands that were
+-- taken of a text, for each sync and once more, if it states one and the device tells.
+abbrev pub KeepsAllowance : Option (ShapeNumbers → ℕ → ℕ) → (size : ShapeNumbers → List Command → ℕ) → FileKind
+    → (text left : List ℕ) → RigState → RigState → Type 0
+KeepsAllowance None size kind text left old new = Unit {0}
+KeepsAllowance (Some f) size kind text left old new =
     IsTrue old.device.told
-    → new.moves ≤ (syncs_in kind text left + 1) * f old.pool.shape (run_size kind text left)
+    → new.moves ≤ (syncs_in kind text left + 1) * f old.pool.shape (size old.pool.shape (taken_commands kind text left))
 
 -- Over a shelf and a device that tell, at no moment of a run were more blocks in use than this room says by the size of
 -- what was read of a text, if there is such a number.

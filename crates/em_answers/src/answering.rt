@@ -4,10 +4,10 @@ ghost use Rattle.em_space.specs.Queue.{CanServe, IsNew};
 ghost use Rattle.em_space.specs.Rig.{Goes, Sound};
 ghost use Rattle.em_space.specs.Seen.{seen};
 ghost use Rattle.em_answers.specs.Serve.{GivesUp, WithinCalls, IsAlone};
-ghost use Rattle.em_answers.specs.Limits.{queue_limits};
+ghost use Rattle.em_answers.specs.Limits.{queue_limits, taken_size};
 ghost use Rattle.em_ready.specs.Ready.{IsReady, IsUnused};
 ghost use Rattle.em_answers.specs.FileRun.{Runs, RunsWithin};
-ghost use Rattle.em_lines.specs.RunSize.{commands_taken};
+ghost use Rattle.em_lines.specs.RunSize.{commands_taken, run_size};
 ghost use Rattle.em_answers.specs.Reading.{service_limits};
 ghost use Rattle.em_model.specs.Map.{Combiner};
 ghost use Rattle.em_settle.specs.Add.{apply_of};
@@ -39,7 +39,7 @@ pub fn run_service<D: Device, H: Shelf, W: Sink, S: Service>(
     requires free { IsReady (seen D.state rig.old).pool }
     requires ready { ((H.stand shelf.old).slot Slot.First).ready ≡ true }
     ensures goes { Goes [] (seen D.state rig.old) (seen D.state rig.new) }
-    ensures runs { RunsWithin (S.combiner_of rule) H.Shelf W.Sink
+    ensures runs { RunsWithin (S.combiner_of rule) (taken_size (S.size_by rule) S.KIND) H.Shelf W.Sink
         (service_limits S.allowance S.room)
         S.KIND (seen D.state rig.old) (seen D.state rig.new)
         shelf.old out.old shelf.new out.new result }
@@ -66,8 +66,8 @@ pub fn run_queue<D: Device, H: Shelf, W: Sink, Q: Queue>(
     requires alone { IsAlone (seen D.state rig.old) (Q.counts queue) }
     requires ready { ((H.stand shelf.old).slot Slot.First).ready ≡ true }
     ensures gives { GivesUp Q.Queue queue (seen D.state rig.old) (seen D.state rig.new) }
-    ensures runs { (apply : Combiner) → RunsWithin apply H.Shelf W.Sink (queue_limits Q.room)
-        FileKind.Queue (seen D.state rig.old) (seen D.state rig.new)
+    ensures runs { (apply : Combiner) → RunsWithin apply (λ shape. run_size FileKind.Queue) H.Shelf W.Sink
+        (queue_limits Q.room) FileKind.Queue (seen D.state rig.old) (seen D.state rig.new)
         shelf.old out.old shelf.new out.new result }
     ensures moves { IsTrue H.tells → IsTrue (seen D.state rig.old).device.told
         → WithinCalls Q.allowance (seen D.state rig.old).pool.shape

@@ -13,16 +13,17 @@ ghost use Rattle.em_lines.specs.CommandLine.{good_commands};
 ghost use Rattle.em_lines.specs.Kind.{IsOfKind};
 ghost use Rattle.em_lines.specs.Reads.{Reads};
 ghost use Rattle.em_ready.specs.Ready.{IsReady, IsUnused};
-ghost use Rattle.em_lines.specs.RunSize.{commands_taken, run_size};
+ghost use Rattle.em_lines.specs.RunSize.{commands_taken};
 ghost use Rattle.em_chain.specs.Chain.{IsChain, chain_items, payload_in};
 ghost use Rattle.em_chain.specs.Counts.{ceiling};
 ghost use Rattle.em_answers.specs.Answer.{synced_text, text_at};
 ghost use Rattle.em_answers.specs.FileDue.{output_text};
+ghost use Rattle.em_answers.specs.Limits.{taken_commands};
 ghost use Rattle.em_answers.specs.Print.{records_text};
-ghost use Rattle.em_answers.specs.Reading.{FullAtSync, KeepsAllowance, KeepsRoom, StandsAlone, StopsReading, SyncCause, moves_within, service_limits, ReadsAll};
+ghost use Rattle.em_answers.specs.Reading.{FullAtSync, KeepsAllowance, KeepsRoom, StandsAlone, StopsReading, SyncCause, TookCommands, moves_within, service_limits, ReadsAll};
 ghost use Rattle.em_answers.specs.Serve.{Answers as AnswersAll};
 ghost use Rattle.em_ends.specs.Stop.{IfStopsFull, Prints};
-ghost use Rattle.em_services.specs.Service.{CanSync, TakesCommand, WithinAllowance, WithinRoom, records_for, syncs_for};
+ghost use Rattle.em_services.specs.Service.{CanSync, GoesOn, TakesCommand, WithinAllowance, WithinRoom, records_for, syncs_for};
 
 use crate::print::{Answers, print_answers};
 use em_chain::discard;
@@ -53,12 +54,13 @@ fn answer_sync<D: Device, W: Sink, S: Service>(
 ) -> Result<(), Stop>
     requires sound { Sound (seen D.state rig.old) }
     requires is { S.IsService service.old (seen D.state rig.old) }
-    requires free { CanSync (seen D.state rig.old).pool }
+    requires free { CanSync (S.areas service.old) (seen D.state rig.old).pool }
     requires few { (S.counts service.old).n < 2 ^ 40 }
     requires kind { IsOfKind S.KIND variants.Sync }
-    ensures goes { Goes (S.blocks service.old (seen D.state rig.old))
-        (seen D.state rig.old) (seen D.state rig.new) }
+    ensures goes { GoesOn (S.areas service.old) (S.areas service.new)
+        (S.blocks service.old (seen D.state rig.old)) (seen D.state rig.old) (seen D.state rig.new) }
     ensures joins { S.combiner service.new ≡ S.combiner service.old }
+    ensures sizes { S.size service.new ≡ S.size service.old }
     ensures frames { S.HasItsFrames service.new (seen D.state rig.new) }
     ensures is { OnOk result (S.IsService service.new (seen D.state rig.new)) }
     ensures has { OnOk result ((before cs : List commands.Command)
@@ -71,7 +73,10 @@ fn answer_sync<D: Device, W: Sink, S: Service>(
     ensures room { WithinRoom S.room ((S.counts service.old).n + 1)
         (S.blocks service.old (seen D.state rig.old))
         (seen D.state rig.old) (seen D.state rig.new) }
-    ensures moves { WithinAllowance S.allowance ((S.counts service.old).n + 1)
+    ensures moves { (before cs : List commands.Command)
+        → S.Has service.old (seen D.state rig.old) before cs
+        → WithinAllowance S.allowance
+        (S.size service.old (seen D.state rig.old).pool.shape (before ++ cs ++ variants.Sync ∷ []))
         ((S.counts service.old).syncs + 1) (S.counts service.old).spent
         (seen D.state rig.old) (seen D.state rig.new) }
     ensures prints { IsTrue (seen D.state rig.old).device.told → (before cs : List commands.Command)
@@ -101,12 +106,13 @@ fn give<D: Device, W: Sink, S: Service>(
 ) -> Result<(), Stop>
     requires sound { Sound (seen D.state rig.old) }
     requires is { S.IsService service.old (seen D.state rig.old) }
-    requires free { CanSync (seen D.state rig.old).pool }
+    requires free { CanSync (S.areas service.old) (seen D.state rig.old).pool }
     requires few { (S.counts service.old).n < 2 ^ 40 }
     requires kind { IsOfKind S.KIND command }
-    ensures goes { Goes (S.blocks service.old (seen D.state rig.old))
-        (seen D.state rig.old) (seen D.state rig.new) }
+    ensures goes { GoesOn (S.areas service.old) (S.areas service.new)
+        (S.blocks service.old (seen D.state rig.old)) (seen D.state rig.old) (seen D.state rig.new) }
     ensures joins { S.combiner service.new ≡ S.combiner service.old }
+    ensures sizes { S.size service.new ≡ S.size service.old }
     ensures frames { S.HasItsFrames service.new (seen D.state rig.new) }
     ensures is { OnOk result (S.IsService service.new (seen D.state rig.new)) }
     ensures has { OnOk result ((given : List commands.Command)
@@ -120,7 +126,10 @@ fn give<D: Device, W: Sink, S: Service>(
     ensures room { WithinRoom S.room ((S.counts service.old).n + 1)
         (S.blocks service.old (seen D.state rig.old))
         (seen D.state rig.old) (seen D.state rig.new) }
-    ensures moves { WithinAllowance S.allowance ((S.counts service.old).n + 1)
+    ensures moves { (given : List commands.Command)
+        → S.Has service.old (seen D.state rig.old) (up_to_sync given) (since_sync given)
+        → WithinAllowance S.allowance
+        (S.size service.old (seen D.state rig.old).pool.shape (given ++ command ∷ []))
         ((S.counts service.old).syncs + syncs_for S.KIND (command ∷ [])) (S.counts service.old).spent
         (seen D.state rig.old) (seen D.state rig.new) }
     ensures prints { IsTrue (seen D.state rig.old).device.told → (given : List commands.Command)
@@ -154,23 +163,24 @@ fn read_all<D: Device, H: Shelf, W: Sink, S: Service>(
     requires sound { Sound (seen D.state rig.old) }
     requires is { S.IsService service.old (seen D.state rig.old) }
     requires none { S.Has service.old (seen D.state rig.old) [] [] }
-    requires alone { StandsAlone S.allowance S.room
+    requires alone { StandsAlone S.allowance S.room 0
         (S.blocks service.old (seen D.state rig.old)) (S.counts service.old)
         (seen D.state rig.old) }
-    requires free { CanSync (seen D.state rig.old).pool }
+    requires free { CanSync (S.areas service.old) (seen D.state rig.old).pool }
     requires ready { ((H.stand shelf.old).slot feed.old.slot).ready ≡ true }
     requires place { feed.old.place ≡ 0 }
-    ensures goes { Goes (S.blocks service.old (seen D.state rig.old))
-        (seen D.state rig.old) (seen D.state rig.new) }
+    ensures goes { GoesOn (S.areas service.old) (S.areas service.new)
+        (S.blocks service.old (seen D.state rig.old)) (seen D.state rig.old) (seen D.state rig.new) }
     ensures joins { S.combiner service.new ≡ S.combiner service.old }
+    ensures sizes { S.size service.new ≡ S.size service.old }
     ensures frames { S.HasItsFrames service.new (seen D.state rig.new) }
     ensures is { OnOk result (S.IsService service.new (seen D.state rig.new)) }
     ensures within { OnOk result (Within (seen D.state rig.old)
         (S.blocks service.old (seen D.state rig.old))
         (S.blocks service.new (seen D.state rig.new))) }
-    ensures alone { OnOk result
-        (StandsAlone S.allowance S.room (S.blocks service.new (seen D.state rig.new))
-        (S.counts service.new) (seen D.state rig.new)) }
+    ensures alone { OnOk result (TookCommands S.Service
+        (S.size service.old (seen D.state rig.old).pool.shape) H.tells
+        (good_commands S.KIND (rest feed.old (H.stand shelf.old))) service.new (seen D.state rig.new)) }
     ensures reads { Reads H.tells feed.old (H.stand shelf.old) feed.new (H.stand shelf.new) }
     ensures later { H.faults shelf.old ≤ H.faults shelf.new }
     ensures write_later { W.faults out.old ≤ W.faults out.new }
@@ -191,7 +201,7 @@ fn read_all<D: Device, H: Shelf, W: Sink, S: Service>(
     ensures stop { IfErr result (StopsReading H.Shelf W.Sink
         (service_limits S.allowance S.room) S.KIND feed.old shelf.old shelf.new out.old out.new
         (seen D.state rig.old) (seen D.state rig.new)) }
-    ensures moves { IsTrue H.tells → KeepsAllowance S.allowance S.KIND
+    ensures moves { IsTrue H.tells → KeepsAllowance S.allowance (S.size service.old) S.KIND
         (rest feed.old (H.stand shelf.old)) ((H.stand shelf.new).slot feed.old.slot).left
         (seen D.state rig.old) (seen D.state rig.new) }
     ensures most { KeepsRoom S.room H.tells S.KIND (rest feed.old (H.stand shelf.old))
@@ -216,7 +226,7 @@ fn read_all<D: Device, H: Shelf, W: Sink, S: Service>(
 
 /// Gives all commands of a file to a new service of type S by this rule, on a rig of which no block is or was in use. At each
 /// sync the answers that are due are printed; those of the others are handed out. The service is given up.
-#[tactic(auto, using(crate::proofs::Listing::serves_beside, crate::proofs::Listing::answers_beside, crate::proofs::Listing::alone_made, crate::proofs::Listing::ended_service, crate::proofs::Listing::left_service))]
+#[tactic(auto, using(em_services::proofs::Areas::syncs_beside, em_services::proofs::Areas::answers_after_calls, crate::proofs::Listing::alone_made, em_services::proofs::Areas::service_ended, em_services::proofs::Areas::service_left))]
 fn read_answers<D: Device, H: Shelf, W: Sink, S: Service>(
     rig: &mut Rig<'_, D>,
     rule: S::Rule,
@@ -245,8 +255,8 @@ fn read_answers<D: Device, H: Shelf, W: Sink, S: Service>(
         ≡ length (stab_answers (good_commands S.KIND (rest feed.old (H.stand shelf.old))))) }
     ensures blocks { IsTrue H.tells → IsTrue (seen D.state rig.old).device.told
         → IfOk result (λ a. a.records.blocks ≤ ceiling
-        (run_size S.KIND (rest feed.old (H.stand shelf.old))
-        ((H.stand shelf.new).slot feed.old.slot).left) (payload_in (seen D.state rig.old))) }
+        (S.size_by rule (seen D.state rig.old).pool.shape (taken_commands S.KIND (rest feed.old (H.stand shelf.old))
+        ((H.stand shelf.new).slot feed.old.slot).left)) (payload_in (seen D.state rig.old))) }
     ensures synced { IsTrue H.tells → IsTrue (seen D.state rig.old).device.told
         → AnswersAll W.took
         (synced_text (S.combiner_of rule) S.KIND (good_commands S.KIND (rest feed.old (H.stand shelf.old))))
@@ -254,7 +264,7 @@ fn read_answers<D: Device, H: Shelf, W: Sink, S: Service>(
     ensures stop { IfErr result (StopsReading H.Shelf W.Sink
         (service_limits S.allowance S.room) S.KIND feed.old shelf.old shelf.new out.old out.new
         (seen D.state rig.old) (seen D.state rig.new)) }
-    ensures moves { IsTrue H.tells → KeepsAllowance S.allowance S.KIND
+    ensures moves { IsTrue H.tells → KeepsAllowance S.allowance (S.size_by rule) S.KIND
         (rest feed.old (H.stand shelf.old)) ((H.stand shelf.new).slot feed.old.slot).left
         (seen D.state rig.old) (seen D.state rig.new) }
     ensures most { KeepsRoom S.room H.tells S.KIND (rest feed.old (H.stand shelf.old))
@@ -303,7 +313,7 @@ pub fn answer_file<D: Device, H: Shelf, W: Sink, S: Service>(
     ensures stop { IfErr result (StopsReading H.Shelf W.Sink
         (service_limits S.allowance S.room) S.KIND feed.old shelf.old shelf.new out.old out.new
         (seen D.state rig.old) (seen D.state rig.new)) }
-    ensures moves { IsTrue H.tells → KeepsAllowance (moves_within S.allowance) S.KIND
+    ensures moves { IsTrue H.tells → KeepsAllowance (moves_within S.allowance) (S.size_by rule) S.KIND
         (rest feed.old (H.stand shelf.old)) ((H.stand shelf.new).slot feed.old.slot).left
         (seen D.state rig.old) (seen D.state rig.new) }
     ensures most { KeepsRoom S.room H.tells S.KIND (rest feed.old (H.stand shelf.old))

@@ -90,7 +90,7 @@ close_share s (Some p) sound n r c x q d i e b k some h =
     omega (arith, big, full, e, b)
 
 -- The moves of the last leaf and of the list, with those of the nodes over a list of four records more, are within the share.
-share_of : {s : RigState} {b : Builder} (sound : Sound s) (i : IsBuilder s b) (some : 0 < b.count) (c : Chain)
+pub share_of : {s : RigState} {b : Builder} (sound : Sound s) (i : IsBuilder s b) (some : 0 < b.count) (c : Chain)
     → c.blocks ≡ b.leaf.blocks
     → spent_by s.pool.shape b + (1 + ending_moves b.full.held c + 1) + (3 * (b.full.list.count + 4) + 2)
     ≤ builder_share s.pool.shape b.count

@@ -144,7 +144,7 @@ module _ {s m : RigState} {b : Builder} (sound : Sound s) (i : IsBuilder s b) (n
       ap (λ (ps : List (Record × List Record)). records_in (rows_in (ps ++ held_parts s b.full.held)) ++ writer_items s b.leaf) e
       ∙ (ap (λ (ps : List (Record × List Record)). records_in (rows_in ps) ++ writer_items s b.leaf) h ∙ i.none none z)
 
-  unspent : spent_by s.pool.shape b ≡ 0
+  pub unspent : spent_by s.pool.shape b ≡ 0
   unspent =
       let q : b.full.list.count / 2 ≡ 0 = let n = no_list in omega (arith, n) in
       let p = ap (λ (k : ℕ). (2 * ceiling (lot_of s.pool.shape) (payload_of s.pool.shape) + 5) * k) q in

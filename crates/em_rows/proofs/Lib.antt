@@ -5,6 +5,7 @@ mod RowGiving
 pub mod RowLaws
 mod RowMoves
 mod RowRows
+mod RowSizes
 mod SpellLaws
 mod TakeLaws
 mod TwoTexts

@@ -1,5 +1,5 @@
 -- The moves of a service that takes rows.
-use Rattle.std.proofs.Common.{◌≡◌, ℕ, ◌+◌, ◌*◌, ◌≤◌, List, length, sym, ◌∙◌, arith, Bool, IsTrue, Option, Some, None, IfSome}
+use Rattle.std.proofs.Common.{◌≡◌, ℕ, ◌+◌, ◌*◌, ◌≤◌, List, [], ◌∷◌, ◌++◌, ap, sym, subst, ◌∙◌, arith, Bool, IsTrue, Option, Some, None, IfSome}
 use Rattle.em_record.specs.Shape.{IsShape, ShapeNumbers}
 use Rattle.em_model.specs.declared.command.Command.{Command}
 use Rattle.em_space.specs.Rig.{RigState, Touches}
@@ -9,20 +9,26 @@ use Rattle.em_lines.specs.declared.text.FileKind.{FileKind}
 use Rattle.em_services.specs.Service.{MakesService, RisesBySize, ServiceCounts, TakesCommand, WithinAllowance, size_of}
 use Rattle.em_rows.specs.Answered.{AnswersWithin, MovesBySize}
 use Rattle.em_rows.specs.Moves.{MovesFrom, MovesTo}
-use Rattle.em_rows.specs.Rows.{rows_in}
+use Rattle.em_lines.specs.Lines.{lines_of}
+use Rattle.em_rows.specs.Rows.{rows_from, rows_in}
 use Rattle.em_rows.specs.declared.kinds.RowKind.{RowKind}
-use Rattle.em_rows.proofs.RowLaws.{RowsGiven, rows_few}
+use Rattle.em_rows.proofs.RowLaws.{RowsGiven}
+use Rattle.em_rows.proofs.RowSizes.{rows_joined, rows_sized}
 
 -- A service was made.
 pub moves_made : (allowance room : Option (ShapeNumbers → ℕ → ℕ)) (frames : ℕ) (held : List ℕ)
-    (c : ServiceCounts) (s t : RigState) → MakesService allowance room frames held c s t
-    → WithinAllowance allowance 0 0 (λ shape. 0) s t → MovesFrom allowance s.moves c t
-moves_made None room frames held c s t m w = record { none = tt; spent = tt; within = λ told. tt }
-moves_made (Some f) room frames held c s t m w = record {
+    (c : ServiceCounts) (s t : RigState) (size : ℕ) → IfSome allowance RisesBySize → IsShape s.pool.shape
+    → MakesService allowance room frames held c s t → WithinAllowance allowance 0 0 (λ shape. 0) s t
+    → MovesFrom allowance s.moves size c t
+moves_made None room frames held c s t size rises is m w =
+    record { none = tt; spent = tt; within = λ told. tt }
+moves_made (Some f) room frames held c s t size rises is m w = record {
   none = m.syncs;
   spent = rw (m.touches.shape) m.spent;
   within = λ told.
-      let now = w (sym m.touches.told ∙ told) in rw (m.touches.shape, m.n) (omega (arith, now));
+      let now = w (sym m.touches.told ∙ told) in
+      let more = rises s.pool.shape 0 size is (omega arith) in
+      rw (m.touches.shape) (omega (arith, now, more));
 }
 
 -- None was made.
@@ -36,8 +42,8 @@ moves_unmade (Some f) kind tells commands s t rises is w = λ z told.
     omega (arith, now, more)
 
 -- All moves up to the end of a call on it,
-pub moves_call : (allowance : Option (ShapeNumbers → ℕ → ℕ)) (first size : ℕ) (held : List ℕ) (c : ServiceCounts)
-    (s t : RigState) → MovesFrom allowance first c s → Touches held s t
+pub moves_call : {had : ℕ} (allowance : Option (ShapeNumbers → ℕ → ℕ)) (first size : ℕ) (held : List ℕ)
+    (c : ServiceCounts) (s t : RigState) → MovesFrom allowance first had c s → Touches held s t
     → WithinAllowance allowance size c.syncs c.spent s t → MovesTo allowance first size t
 moves_call None first size held c s t m touches w = λ told. tt
 moves_call (Some f) first size held c s t m touches w = λ told.
@@ -48,12 +54,13 @@ moves_call (Some f) first size held c s t m touches w = λ told.
     rw (touches.shape) (omega (arith, before, now))
 
 -- and after a command that it took.
-pub moves_next : (allowance room : Option (ShapeNumbers → ℕ → ℕ)) (first : ℕ) (held now : List ℕ)
+pub moves_next : {had : ℕ} (allowance room : Option (ShapeNumbers → ℕ → ℕ)) (first size : ℕ) (held now : List ℕ)
     (c d : ServiceCounts) (s t : RigState) → Touches held s t → TakesCommand allowance room 0 held now c d s t
-    → WithinAllowance allowance (c.n + 1) c.syncs c.spent s t → MovesFrom allowance first c s
-    → MovesFrom allowance first d t
-moves_next None room first held now c d s t touches k w m = record { none = tt; spent = tt; within = λ told. tt }
-moves_next (Some f) room first held now c d s t touches k w m =
+    → WithinAllowance allowance size c.syncs c.spent s t → MovesFrom allowance first had c s
+    → MovesFrom allowance first size d t
+moves_next None room first size held now c d s t touches k w m =
+    record { none = tt; spent = tt; within = λ told. tt }
+moves_next (Some f) room first size held now c d s t touches k w m =
     let syncs = k.syncs in
     let none = m.none in
     let before = m.spent in
@@ -61,8 +68,13 @@ moves_next (Some f) room first held now c d s t touches k w m =
     record {
       none = omega (arith, syncs, none);
       spent = rw (touches.shape) (omega (arith, before, spent));
-      within = rw (k.n) (moves_call (Some f) first (c.n + 1) held c s t m touches w);
+      within = moves_call (Some f) first size held c s t m touches w;
     }
+
+-- An equal size says the same.
+pub moves_at : (allowance : Option (ShapeNumbers → ℕ → ℕ)) (first m n : ℕ) (c : ServiceCounts) (s : RigState) → m ≡ n
+    → MovesFrom allowance first m c s → MovesFrom allowance first n c s
+moves_at allowance first m n c s e h = subst (λ (size : ℕ). MovesFrom allowance first size c s) e h
 
 -- They are within the allowance for more commands,
 pub moves_more : (allowance : Option (ShapeNumbers → ℕ → ℕ)) (first size most : ℕ) (s : RigState)
@@ -75,13 +87,26 @@ moves_more (Some f) first size most s rises is few m = λ told.
     omega (arith, now, more)
 
 -- up to the rows of a whole text, of which these were given,
-pub moves_rows : (allowance : Option (ShapeNumbers → ℕ → ℕ)) (first had : ℕ) (kind : RowKind) (number : ℕ)
-    (text left : List ℕ) (rows : List Command) (c : ServiceCounts) (s : RigState) → IfSome allowance RisesBySize
-    → IsShape s.pool.shape → RowsGiven kind number text left rows → c.n ≡ had + length rows
-    → MovesFrom allowance first c s → MovesTo allowance first (had + length (rows_in kind text)) s
-moves_rows allowance first had kind number text left rows c s rises is given count m =
-    let few = rows_few given in
-    moves_more allowance first c.n (had + length (rows_in kind text)) s rises is (omega (arith, count, few)) m.within
+pub moves_rows : (allowance : Option (ShapeNumbers → ℕ → ℕ)) (first size : ℕ) (files : FileKind) (kind : RowKind)
+    (number : ℕ) (text left : List ℕ) (before cs rows : List Command) (s : RigState) → IfSome allowance RisesBySize
+    → IsShape s.pool.shape → RowsGiven kind number text left rows → size ≤ size_of files (before ++ (cs ++ rows))
+    → MovesTo allowance first size s → MovesTo allowance first (size_of files (before ++ cs ++ rows_in kind text)) s
+moves_rows allowance first size files kind number text left before cs rows s rises is given few m =
+    let front = rows_sized files before cs rows (rows_from kind number (lines_of left)).good (rows_in kind text)
+    given.good in
+    moves_more allowance first size (size_of files (before ++ cs ++ rows_in kind text)) s rises is
+    (omega (arith, few, front)) m
+
+-- also if the service refused one more,
+pub moves_refused : (allowance : Option (ShapeNumbers → ℕ → ℕ)) (first size : ℕ) (files : FileKind) (kind : RowKind)
+    (number : ℕ) (text left : List ℕ) (before cs rows : List Command) (row : Command) (s : RigState)
+    → IfSome allowance RisesBySize → IsShape s.pool.shape → RowsGiven kind number text left (rows ++ row ∷ [])
+    → size ≤ size_of files (before ++ (cs ++ rows) ++ row ∷ []) → MovesTo allowance first size s
+    → MovesTo allowance first (size_of files (before ++ cs ++ rows_in kind text)) s
+moves_refused allowance first size files kind number text left before cs rows row s rises is given few m =
+    let same = ap (λ (xs : List Command). size_of files xs) (rows_joined before cs rows (row ∷ [])) in
+    moves_rows allowance first size files kind number text left before cs (rows ++ row ∷ []) s rises is given
+    (omega (arith, few, same)) m
 
 -- and as they are after a call that moved nothing.
 pub moves_unmoved : (allowance : Option (ShapeNumbers → ℕ → ℕ)) (first size : ℕ) (held : List ℕ) (s t : RigState)

@@ -7,7 +7,7 @@ use Rattle.em_io.specs.declared.shelf.Slot.TheVariants.{First, Second}
 use Rattle.em_model.specs.Map.{Combiner}
 use Rattle.em_model.specs.declared.command.Command.{Command}
 use Rattle.em_space.specs.Held.{Within}
-use Rattle.em_space.specs.Rig.{Cause, Goes, RigState}
+use Rattle.em_space.specs.Rig.{Cause, RigState}
 use Rattle.em_lines.specs.declared.text.FileKind.{FileKind}
 use Rattle.em_lines.specs.declared.text.FileKind.TheVariants as files
 use Rattle.em_ends.specs.Opens.{text_in}
@@ -15,10 +15,10 @@ use Rattle.em_ends.specs.Stop.{Faults}
 use Rattle.em_ends.specs.declared.status.Malform.TheVariants.{Text, Aig}
 use Rattle.em_ends.specs.declared.stop.Stop.{Stop}
 use Rattle.em_ends.specs.declared.stop.Stop.TheVariants.{Fault, Read, Write, Em}
-use Rattle.em_services.specs.Service.{records_for, size_of}
+use Rattle.em_services.specs.Service.{GoesOn, records_for, size_of}
 use Rattle.em_services.specs.declared.service.Service.{Ghosts as ServiceGhosts}
 use Rattle.em_answers.specs.Reading.{moves_within}
-use Rattle.em_rows.specs.Moves.{MovesFrom, MovesTo}
+use Rattle.em_rows.specs.Moves.{MovesWithRows, TakesRows}
 use Rattle.em_rows.specs.Rows.{row_fault, rows_in, rows_text}
 use Rattle.em_rows.specs.declared.answering.Plan.{Plan}
 use Rattle.em_rows.specs.declared.kinds.RowKind.{RowKind}
@@ -70,21 +70,20 @@ TextsCause tells plan a b faults after old new Write = Rose faults.write after.w
 TextsCause tells plan a b faults after old new (Em fault) = Cause old new fault
 
 -- A service, x before and y after the call, was given these commands, up to a stop. At Ok it has them after those that it had
--- before. Its moves are within what it is allowed for as many commands.
+-- before. Its moves are within what it is allowed for the size of all.
 pub record GivesRows {S R : Type 0} (v : ServiceGhosts S R) (tells : Bool) (commands : List Command) (x y : S)
     (s t : RigState) (result : Result (Unit {0}) Stop) : Type 0 where
-  pub goes : Goes (v.blocks x s) s t
+  pub goes : GoesOn (v.areas x) (v.areas y) (v.blocks x s) s t
   pub joins : v.combiner y ≡ v.combiner x
+  pub sizes : v.size y ≡ v.size x
   pub frames : v.HasItsFrames y t
   pub is : OnOk result (v.IsService y t)
   pub within : OnOk result (Within s (v.blocks x s) (v.blocks y t))
   pub has : IsTrue tells → OnOk result
       ((before cs : List Command) → v.Has x s before cs → v.Has y t before (cs ++ commands))
   pub counted : IsTrue tells → OnOk result ((v.counts y).n ≡ (v.counts x).n + length commands)
-  pub since : OnOk result
-      ((first : ℕ) → MovesFrom v.allowance first (v.counts x) s → MovesFrom v.allowance first (v.counts y) t)
-  pub moves : IsTrue tells → (first : ℕ) → MovesFrom v.allowance first (v.counts x) s
-      → MovesTo v.allowance first ((v.counts x).n + length commands) t
+  pub since : OnOk result (TakesRows v tells commands x y s t)
+  pub moves : IsTrue tells → MovesWithRows v commands x s t
 
 -- All moves are within an allowance for the size of some commands, if there is one.
 abbrev pub MovesBySize : Option (ShapeNumbers → ℕ → ℕ) → FileKind → Bool → List Command → RigState → RigState

@@ -1,14 +1,14 @@
 // A text of numbers given to a service, row by row.
-ghost use Rattle.std.specs.Prelude.{◌≡◌, ◌+◌, ◌++◌, ◌^◌, ◌≤◌, ℕ, List, length, true, IfErr, IsTrue, OnOk};
+ghost use Rattle.std.specs.Prelude.{◌≡◌, ◌+◌, ◌++◌, ◌^◌, ◌≤◌, List, length, true, IfErr, IsTrue, OnOk};
 ghost use Rattle.em_io.specs.Feed.{rest};
 ghost use Rattle.em_model.specs.declared.command.Command as commands;
 ghost use Rattle.em_space.specs.Held.{Within};
-ghost use Rattle.em_space.specs.Queue.{CanServe};
-ghost use Rattle.em_space.specs.Rig.{Goes, Sound};
+ghost use Rattle.em_space.specs.Rig.{Sound};
 ghost use Rattle.em_space.specs.Seen.{seen};
 ghost use Rattle.em_lines.specs.Reads.{Reads};
+ghost use Rattle.em_services.specs.Service.{CanTake, GoesOn};
 ghost use Rattle.em_rows.specs.Answered.{Fits};
-ghost use Rattle.em_rows.specs.Moves.{MovesFrom, MovesTo};
+ghost use Rattle.em_rows.specs.Moves.{MovesWithRows, TakesRows};
 ghost use Rattle.em_rows.specs.Rows.{rows_in};
 ghost use Rattle.em_rows.specs.Taken.{ReadsRows, RowsCause};
 
@@ -35,13 +35,14 @@ pub fn give_rows<D: Device, H: Shelf, S: Service>(
     requires fits { Fits kind S.KIND }
     requires sound { Sound (seen D.state rig.old) }
     requires is { S.IsService service.old (seen D.state rig.old) }
-    requires free { CanServe (seen D.state rig.old).pool }
+    requires free { CanTake (S.areas service.old) (seen D.state rig.old).pool }
     requires few { (S.counts service.old).n ≤ 2 ^ 39 }
     requires ready { ((H.stand shelf.old).slot feed.old.slot).ready ≡ true }
     requires place { feed.old.place ≡ 0 }
-    ensures goes { Goes (S.blocks service.old (seen D.state rig.old))
-        (seen D.state rig.old) (seen D.state rig.new) }
+    ensures goes { GoesOn (S.areas service.old) (S.areas service.new)
+        (S.blocks service.old (seen D.state rig.old)) (seen D.state rig.old) (seen D.state rig.new) }
     ensures joins { S.combiner service.new ≡ S.combiner service.old }
+    ensures sizes { S.size service.new ≡ S.size service.old }
     ensures frames { S.HasItsFrames service.new (seen D.state rig.new) }
     ensures is { OnOk result (S.IsService service.new (seen D.state rig.new)) }
     ensures within { OnOk result (Within (seen D.state rig.old)
@@ -60,13 +61,12 @@ pub fn give_rows<D: Device, H: Shelf, S: Service>(
         (H.faults shelf.old) (H.faults shelf.new) (seen D.state rig.old) (seen D.state rig.new)) }
     ensures counted { IsTrue H.tells → OnOk result ((S.counts service.new).n
         ≡ (S.counts service.old).n + length (rows_in kind (rest feed.old (H.stand shelf.old)))) }
-    ensures since { OnOk result ((first : ℕ)
-        → MovesFrom S.allowance first (S.counts service.old) (seen D.state rig.old)
-        → MovesFrom S.allowance first (S.counts service.new) (seen D.state rig.new)) }
-    ensures moves { IsTrue H.tells → (first : ℕ)
-        → MovesFrom S.allowance first (S.counts service.old) (seen D.state rig.old)
-        → MovesTo S.allowance first ((S.counts service.old).n
-        + length (rows_in kind (rest feed.old (H.stand shelf.old)))) (seen D.state rig.new) }
+    ensures since { OnOk result (TakesRows S.Service H.tells
+        (rows_in kind (rest feed.old (H.stand shelf.old))) service.old service.new
+        (seen D.state rig.old) (seen D.state rig.new)) }
+    ensures moves { IsTrue H.tells → MovesWithRows S.Service
+        (rows_in kind (rest feed.old (H.stand shelf.old))) service.old
+        (seen D.state rig.old) (seen D.state rig.new) }
 {
     let mut number: u64 = 1;
     loop {

@@ -24,8 +24,9 @@ use Rattle.em_tree_cost.proofs.Rising.{queue_share_rises}
 use Rattle.em_map.specs.Batch.{BatchCosts, FinishedBatch, HasCommands, batch_blocks, batch_spent, rule_of, trunk_of}
 use Rattle.em_map.specs.declared.batch.Batch.{Batch}
 use Rattle.em_services.specs.BatchService.{AreAnswers, IsGivenBatch, OrdersAnswers, answers_share, batch_counts, map_share, ordering_moves, ordering_room}
-use Rattle.em_services.specs.Service.{CanAnswer, GivesFrames, LeavesAnswers, WithinAllowance, FullOverRoom, WithinRoom}
+use Rattle.em_services.specs.Service.{CanAnswer, GivenWithAreas, GivesFrames, LeavesAnswers, WithinAllowance, FullOverRoom, WithinRoom}
 use Rattle.em_services.proofs.AnswerOrder.{answers_lack, answers_most}
+use Rattle.em_services.proofs.Areas.{given_singles}
 use Rattle.em_services.proofs.Moves.{call_moves}
 use Rattle.em_record.specs.Cost.{room}
 use Rattle.em_plain.specs.Room.{StaysWithin}
@@ -44,12 +45,12 @@ ceiling_share shape count n few some =
     (ceil_is n p some) few in
     omega (arith, least)
 
-given_then : (p q r : PoolCounts) → GivenFrames 2 p q → SameFrames q r → GivenFrames 2 p r
+given_then : (p q r : PoolCounts) → GivenFrames 2 p q → SameFrames q r → GivenWithAreas 2 0 p r
 given_then p q r x y = record {
   shape = y.shape ∙ x.shape;
   free = y.free ∙ x.free;
   rack = y.rack ∙ x.rack;
-  free_areas = y.free_areas ∙ x.free_areas;
+  free_areas = omega (arith, x.free_areas, y.free_areas);
   peak = omega (arith, x.peak, y.peak);
 }
 
@@ -69,7 +70,7 @@ answers_count s m b c f i z =
 
 -- It was finished: its answers can be put in order.
 pub answers_are : {F : Type 0} (s m : RigState) (b : Batch F) (c : Chain) → FinishedBatch s m b c
-    → IsGivenBatch s b → CanAnswer s.pool → AreAnswers m c
+    → IsGivenBatch s b → CanAnswer 0 s.pool → AreAnswers m c
 answers_are s m b c f i free =
     let told = f.tree.session.touches.told in
     let pool = f.tree.frames in
@@ -98,7 +99,7 @@ module _ {F : Type 0} (s m t : RigState) (b : Batch F) (c : Chain) (f : Finished
   frames_kept = ap (λ (p : ShapeNumbers). p.frames) f.tree.frames.shape
 
   pub answers_gives : (result : Result Chain EmFault) → OrdersAnswers m t c result
-      → GivesFrames 2 (batch_blocks s b) s t
+      → GivesFrames 2 0 (batch_blocks s b) s t
   answers_gives (Ok d) o = record {
     sound = o.session.sound;
     touches = touches_within s m t (batch_blocks s b) (chain_blocks m c) finished_touches
@@ -231,8 +232,12 @@ module _ {F : Type 0} (s m t : RigState) (b : Batch F) (c : Chain) (f : Finished
 -- It wasn't finished.
 module _ {F : Type 0} (s t : RigState) (b : Batch F) (fault : EmFault) (h : StopsFinishing s t (trunk_of b) fault)
   where
-    pub unfinished_gives : GivesFrames 2 (batch_blocks s b) s t
-    unfinished_gives = record { sound = h.sound; touches = h.touches; frames_are = h.frames }
+    pub unfinished_gives : GivesFrames 2 0 (batch_blocks s b) s t
+    unfinished_gives = record {
+      sound = h.sound;
+      touches = h.touches;
+      frames_are = given_singles 2 s.pool t.pool h.frames;
+    }
 
     pub unfinished_owes : Pays (batch_counts b).unstored (2 * s.pool.shape.frames) s t
     unfinished_owes = pays_more h.pays (omega arith)

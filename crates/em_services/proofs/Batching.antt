@@ -11,8 +11,10 @@ use Rattle.em_trunk.specs.Lists.{LeavesTrunk}
 use Rattle.em_map.specs.Batch.{BatchHasFrames, CountsCommand, HasCommands, IsNewBatch, TakesTo, batch_blocks, batch_spent, trunk_of}
 use Rattle.em_map.specs.declared.batch.Batch.{Batch}
 use Rattle.em_services.specs.BatchService.{IsGivenBatch, answers_share, batch_counts, map_share}
+use Rattle.em_services.proofs.Areas.{given_singles, goes_on, one_more, shares_same, within_equal}
+use Rattle.em_services.specs.BatchLaws.{n_is}
 use Rattle.em_services.proofs.Moves.{call_moves, first_within, made_spends, share_at, take_spends, times_rise}
-use Rattle.em_services.specs.Service.{GivesFrames, MakesService, TakesCommand, WithinAllowance, FullOverRoom, WithinRoom}
+use Rattle.em_services.specs.Service.{GivesFrames, GoesOn, MakesService, TakesCommand, WithinAllowance, FullOverRoom, WithinRoom}
 use Rattle.em_services.proofs.OrderedBatch.{share_some}
 use Rattle.em_record.specs.Cost.{room}
 use Rattle.em_trunk.specs.Room.{FullOverRoom as TreeFullOverRoom, WithinRoom as TreeWithinRoom}
@@ -93,14 +95,22 @@ unmade_cause s t (Ok b) h = tt
 unmade_cause s t (Err fault) h = h.cause
 
 -- A command was given to it, with at most the moves of its share,
-pub take_moves : {F : Type 0} (s t : RigState) (b d : Batch F) → Sound s → CountsCommand s t b d
+counted_moves : {F : Type 0} (s t : RigState) (b d : Batch F) → Sound s → CountsCommand s t b d
     → WithinAllowance (Some map_share) ((batch_counts b).n + 1) (batch_counts b).syncs (batch_counts b).spent s t
-take_moves s t b d sound n = λ z.
+counted_moves s t b d sound n = λ z.
     let share = share_at s.pool.shape (batch_spent d) d.calls (b.calls + 1) d.syncs b.syncs n.calls n.syncs (n.share z) in
     let spent = n.tree.spent in
     let syncs = n.syncs in
     call_moves s.pool.shape (b.calls + 1) b.calls b.syncs b.syncs (batch_spent b) (batch_spent d) 0 s.moves t.moves
     sound.shape (omega arith) (omega arith) (omega (arith, spent, syncs)) share (omega arith)
+
+pub take_moves : {F : Type 0} (c : Command) (s t : RigState) (b d : Batch F) → Sound s → CountsCommand s t b d
+    → (before cs : List Command) → HasCommands s b before cs
+    → WithinAllowance (Some map_share) (length (before ++ cs ++ c ∷ [])) (batch_counts b).syncs
+    (batch_counts b).spent s t
+take_moves c s t b d sound n before cs h =
+    within_equal (Some map_share) (b.calls + 1) (length (before ++ cs ++ c ∷ [])) (batch_counts b).syncs
+    (batch_counts b).spent s t (one_more b.calls before cs c (n_is b s before cs h)) (counted_moves s t b d sound n)
 
 -- and at most the blocks of its room,
 module _ {F : Type 0} (s t : RigState) (b : Batch F) (i : IsGivenBatch s b) (sound : Sound s) where
@@ -130,13 +140,13 @@ module _ {F : Type 0} (s t : RigState) (b : Batch F) (i : IsGivenBatch s b) (sou
 -- or the call gave up.
 module _ {F : Type 0} (T : Type 0) (c : Command) (s t : RigState) (b d : Batch F) where
   pub take_goes : (result : Result T EmFault) → TakesTo c s t b d result
-      → Goes (batch_blocks s b) s t
+      → GoesOn 0 0 (batch_blocks s b) s t
   take_goes (Ok x) h = record {
     sound = h.tree.session.sound;
     touches = h.tree.session.touches;
-    frames = h.tree.frames;
+    frames = shares_same 0 s.pool t.pool h.tree.frames;
   }
-  take_goes (Err fault) h = h.goes
+  take_goes (Err fault) h = goes_on 0 (batch_blocks s b) s t h.goes
 
   pub take_frames : (result : Result T EmFault) → TakesTo c s t b d result → BatchHasFrames t d
   take_frames (Ok x) h = h.is.is.running.frames
@@ -187,8 +197,12 @@ module _ {F : Type 0} (T : Type 0) (c : Command) (s t : RigState) (b d : Batch F
   take_cause (Err fault) h = h.cause
 
 -- It was abandoned.
-pub left_gives : (s t : RigState) → LeavesTrunk s t → GivesFrames 2 [] s t
-left_gives s t l = record { sound = l.sound; touches = l.touches; frames_are = l.frames }
+pub left_gives : (s t : RigState) → LeavesTrunk s t → GivesFrames 2 0 [] s t
+left_gives s t l = record {
+  sound = l.sound;
+  touches = l.touches;
+  frames_are = given_singles 2 s.pool t.pool l.frames;
+}
 
 pub left_unmoved : (s t : RigState) → LeavesTrunk s t → Unmoved s t
 left_unmoved s t l = record {

@@ -1,4 +1,5 @@
 pub mod AnswerOrder
+pub mod Areas
 pub mod BatchAnswers
 pub mod Batching
 pub mod InOrder

@@ -106,7 +106,6 @@ module _ {F : Type 0} (s t : RigState) (m n : ScanMap F) (sound : Sound s) (i : 
             let after = writer_length a.is.list.writer (h.goes.touches.told ∙ z) in
             omega (arith, used, before, after);
         spent = λ z. tt;
-        share = λ z. tt;
       }
   sync_gives (Err fault) h = tt
 

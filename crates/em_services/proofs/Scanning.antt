@@ -27,6 +27,7 @@ use Rattle.em_tree_walk.proofs.Losses.{writer_length}
 use Rattle.em_model.specs.MapAnswers.{answers_after}
 use Rattle.std.proofs.Math.Seq.{drop-append_seam, take-append_seam}
 use Rattle.em_services.proofs.AnswerOrder.{records_few}
+use Rattle.em_services.proofs.Areas.{given_singles}
 use Rattle.em_settle.specs.Add.{apply_of}
 
 -- the blocks of a list are those that its commands fill
@@ -147,8 +148,12 @@ take_full s t l m c (Err (Full used)) sound i h = λ z.
 take_full s t l m c (Err (Damaged block)) sound i h = λ z. tt
 
 -- It was answered.
-pub list_gives : (ks : List ℕ) (s t : RigState) → GivesFrame ks s t → GivesFrames 1 ks s t
-list_gives ks s t g = record { sound = g.sound; touches = g.touches; frames_are = g.frames }
+pub list_gives : (ks : List ℕ) (s t : RigState) → GivesFrame ks s t → GivesFrames 1 0 ks s t
+list_gives ks s t g = record {
+  sound = g.sound;
+  touches = g.touches;
+  frames_are = given_singles 1 s.pool t.pool g.frames;
+}
 
 pub list_leaves : (s t : RigState) (l : CommandList) (items : List Record)
     (result : Result Chain EmFault) → IsCommandList s l → IfOk result (AnsweredBy s t l items)

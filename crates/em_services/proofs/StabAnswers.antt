@@ -3,7 +3,7 @@ use Rattle.std.proofs.Common.{◌≡◌, ℕ, ◌+◌, ◌*◌, ◌≤◌, List,
 use Rattle.std.proofs.Math.Nat.{mul-le-mul_left}
 use Rattle.em_record.specs.Cost.{blocks_of, lev, room}
 use Rattle.em_record.specs.Shape.{ShapeNumbers, fan_of}
-use Rattle.em_frames.specs.Pool.{GivenFrames, PoolCounts, singles_of}
+use Rattle.em_frames.specs.Pool.{PoolCounts, singles_of}
 use Rattle.em_model.specs.StabAnswers.{stab_pairs}
 use Rattle.em_model.specs.declared.command.Command.{Command}
 use Rattle.em_space.specs.Ledger.{Session}
@@ -26,7 +26,7 @@ use Rattle.em_segment.proofs.StabCalls.{stab_few}
 use Rattle.em_segment.proofs.StabLaws.{StabStays, stab_beside, stab_frames_stay}
 use Rattle.em_tree_cost.specs.Shares.{queue_share, stab_share, stab_room, tree_room}
 use Rattle.em_ready.specs.Queues.{FailsToMake, MakesQueue}
-use Rattle.em_services.specs.Service.{CanAnswer, GivesFrames, LeavesAnswers, WithinAllowance, FullOverRoom, WithinRoom}
+use Rattle.em_services.specs.Service.{CanAnswer, GivenWithAreas, GivesFrames, LeavesAnswers, WithinAllowance, FullOverRoom, WithinRoom}
 use Rattle.em_services.specs.StabService.{stab_counts}
 use Rattle.em_tree_cost.proofs.Rising.{tree_room_rises}
 use Rattle.em_ready.proofs.RoomLaws.{finish_room, stabs_room, two_missing, when_full}
@@ -34,7 +34,7 @@ use Rattle.em_services.proofs.Stabbing.{list_length}
 
 -- the frames of a queue that was made came back with the two of the list
 given_all : (c : QueueCounts) (p q r : PoolCounts)
-    → Shares (record c { frames = 0; areas = 0 }) c p q → GivesAll c q r → GivenFrames 2 p r
+    → Shares (record c { frames = 0; areas = 0 }) c p q → GivesAll c q r → GivenWithAreas 2 0 p r
 given_all c p q r x y = record {
   shape = y.shape ∙ x.shape;
   free = let lent = x.free in let back = y.free in omega (arith, lent, back);
@@ -69,7 +69,7 @@ module _ {Q : Type 0} (q : QueueGhosts Q) (x : Q) (v : Stab) (s m : RigState) (s
   pub list_is : IsStab m v
   list_is = list_beside.is
 
-  pub can_finish : CanAnswer s.pool → CanFinish q x m v
+  pub can_finish : CanAnswer 0 s.pool → CanFinish q x m v
   can_finish free =
       let pool = makes.frames in
       record {
@@ -102,7 +102,7 @@ module _ {Q : Type 0} (q : QueueGhosts Q) (x : Q) (v : Stab) (s m : RigState) (s
   -- and all frames come back, by the result,
   module _ (t : RigState) where
     pub finish_gives : (result : Result Chain EmFault) → FinishesTo q x m t v result
-        → GivesFrames 2 (stab_blocks s v) s t
+        → GivesFrames 2 0 (stab_blocks s v) s t
     finish_gives (Ok c) f = record {
       sound = f.session.sound;
       touches = (session_trans both_stand f.session).touches;
@@ -270,7 +270,7 @@ module _ (v : Stab) (s m : RigState) (fault : EmFault) (sound : Sound s) (i : Is
       i.frames
 
   module _ (t : RigState) (l : LeavesStab m t) where
-    pub unmade_gives : GivesFrames 2 (stab_blocks s v) s t
+    pub unmade_gives : GivesFrames 2 0 (stab_blocks s v) s t
     unmade_gives = record {
       sound = l.sound;
       touches = touches_wider (stab_blocks s v) [] s t
@@ -281,7 +281,9 @@ module _ (v : Stab) (s m : RigState) (fault : EmFault) (sound : Sound s) (i : Is
             shape = l.frames.shape ∙ pool.shape;
             free = let same = pool.free in let back = l.frames.free in omega (arith, same, back);
             rack = l.frames.rack ∙ pool.rack;
-            free_areas = l.frames.free_areas ∙ pool.free_areas;
+            free_areas =
+                let same = pool.free_areas in
+                let back = l.frames.free_areas in omega (arith, same, back);
             peak = let first = pool.peak in let last = l.frames.peak in omega (arith, first, last);
           };
     }

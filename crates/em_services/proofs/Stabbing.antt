@@ -3,7 +3,7 @@ use Rattle.std.proofs.Common.{◌≡◌, ◌+◌, List, [], ◌∷◌, ◌++◌,
 use Rattle.std.proofs.lemmas.List.{length-append}
 use Rattle.em_model.specs.declared.command.Command.{Command}
 use Rattle.em_space.specs.Queue.{Pays}
-use Rattle.em_space.specs.Rig.{Cause, Goes, RigState, Sound}
+use Rattle.em_space.specs.Rig.{Cause, RigState, Sound}
 use Rattle.em_space.specs.declared.fault.EmFault.{EmFault}
 use Rattle.em_space.proofs.Paying.{pays_more}
 use Rattle.em_space.proofs.Runs.{runs_goes}
@@ -13,8 +13,11 @@ use Rattle.em_chain.specs.declared.writer.Writer.{Writer}
 use Rattle.em_segment.specs.Stabs.{HasCommands, IsNewStab, IsStab, LeavesStab, StabHasFrames, TakeCosts, TakesTo, stab_blocks, FullOverRoom as StabFullOverRoom, stab_account, stab_len}
 use Rattle.em_segment.specs.declared.stab.Stab.{Stab}
 use Rattle.em_tree_cost.specs.Shares.{stab_share, stab_room}
-use Rattle.em_services.specs.Service.{GivesFrames, MakesService, TakesCommand, WithinAllowance, FullOverRoom, WithinRoom}
+use Rattle.em_services.specs.Service.{GivesFrames, GoesOn, MakesService, TakesCommand, WithinAllowance, FullOverRoom, WithinRoom}
+use Rattle.em_services.specs.StabLaws.{rising}
 use Rattle.em_services.specs.StabService.{stab_counts}
+use Rattle.em_services.proofs.Areas.{given_singles, goes_on, one_more, within_more}
+use Rattle.em_model.specs.StabAnswers.{stab_pairs}
 use Rattle.em_record.specs.Cost.{room}
 use Rattle.em_tree_walk.proofs.Losses.{writer_length}
 use Rattle.em_ready.proofs.RoomLaws.{stabs_room, when_full}
@@ -93,9 +96,20 @@ made_by P (Ok v) ok = tt
 made_by P (Err fault) ok = cc
 
 -- A command was given to it, with at most the moves of its share,
-pub take_moves : (s t : RigState) (v : Stab) → TakeCosts s t v
+counted_moves : (s t : RigState) (v : Stab) → TakeCosts s t v
     → WithinAllowance (Some stab_share) ((stab_counts v).n + 1) (stab_counts v).syncs (stab_counts v).spent s t
-take_moves s t v costs = λ z. let share = costs.share in omega (arith, share)
+counted_moves s t v costs = λ z. let share = costs.share in omega (arith, share)
+
+pub take_moves : (c : Command) (s t : RigState) (v : Stab) → Sound s → TakeCosts s t v → (before cs : List Command)
+    → HasCommands s v (before ++ cs)
+    → WithinAllowance (Some stab_share)
+    (length (before ++ cs ++ c ∷ []) + length (stab_pairs (before ++ cs ++ c ∷ []))) (stab_counts v).syncs
+    (stab_counts v).spent s t
+take_moves c s t v sound costs before cs h =
+    let one = one_more (stab_len v) before cs c h.len in
+    within_more (Some stab_share) (stab_len v + 1)
+    (length (before ++ cs ++ c ∷ []) + length (stab_pairs (before ++ cs ++ c ∷ []))) (stab_counts v).syncs
+    (stab_counts v).spent s t rising sound.shape (omega (arith, one)) (counted_moves s t v costs)
 
 -- and at most the blocks of its room,
 pub take_room : (s t : RigState) (v : Stab) → Sound s → IsStab s v → TakeCosts s t v
@@ -121,9 +135,9 @@ take_full s v (Err fault) sound i over = λ z.
 -- or the call gave up.
 module _ (T : Type 0) (c : Command) (s t : RigState) (v w : Stab) where
   pub take_goes : (result : Result T EmFault) → TakesTo c s t v w result
-      → Goes (stab_blocks s v) s t
-  take_goes (Ok x) h = runs_goes h.runs
-  take_goes (Err fault) h = h.stops.goes
+      → GoesOn 0 0 (stab_blocks s v) s t
+  take_goes (Ok x) h = goes_on 0 (stab_blocks s v) s t (runs_goes h.runs)
+  take_goes (Err fault) h = goes_on 0 (stab_blocks s v) s t h.stops.goes
 
   pub take_frames : (result : Result T EmFault) → TakesTo c s t v w result → StabHasFrames t w
   take_frames (Ok x) h = h.is.frames
@@ -173,8 +187,12 @@ module _ (T : Type 0) (c : Command) (s t : RigState) (v w : Stab) where
   take_cause (Err fault) h = h.stops.cause
 
 -- It was abandoned.
-pub left_gives : (s t : RigState) → LeavesStab s t → GivesFrames 2 [] s t
-left_gives s t l = record { sound = l.sound; touches = l.touches; frames_are = l.frames }
+pub left_gives : (s t : RigState) → LeavesStab s t → GivesFrames 2 0 [] s t
+left_gives s t l = record {
+  sound = l.sound;
+  touches = l.touches;
+  frames_are = given_singles 2 s.pool t.pool l.frames;
+}
 
 pub left_unmoved : (s t : RigState) → LeavesStab s t → Unmoved s t
 left_unmoved s t l = record {

@@ -1,5 +1,5 @@
 -- A sync of a batch, and its answers in order.
-use Rattle.std.proofs.Common.{◌≡◌, ℕ, ◌+◌, ◌*◌, ◌≤◌, ◌<◌, List, [], ◌∷◌, ◌++◌, length, length-append, ap, sym, ◌∙◌, arith, IsTrue, Some, Result, Ok, Err, OnOk, OnErr, IfOk, IfErr}
+use Rattle.std.proofs.Common.{◌≡◌, ℕ, ◌+◌, ◌*◌, ◌≤◌, ◌<◌, List, [], ◌∷◌, ◌++◌, length, length-append, ap, sym, subst, ◌∙◌, arith, IsTrue, Some, Result, Ok, Err, OnOk, OnErr, IfOk, IfErr}
 use Rattle.em_record.specs.Cost.{room}
 use Rattle.em_record.proofs.Order.{length_order}
 use Rattle.em_record.specs.Shape.{ShapeNumbers, fan_of, payload_of}
@@ -9,7 +9,7 @@ use Rattle.em_model.specs.MapAnswers.{answers_after}
 use Rattle.em_model.specs.declared.command.Command.{Command}
 use Rattle.em_model.specs.declared.command.Command.TheVariants.{Sync}
 use Rattle.em_space.specs.Queue.{Pays}
-use Rattle.em_space.specs.Rig.{Cause, Goes, RigState, Sound, Touches}
+use Rattle.em_space.specs.Rig.{Cause, RigState, Sound, Touches}
 use Rattle.em_space.specs.declared.fault.EmFault.{EmFault}
 use Rattle.em_space.proofs.Paying.{pays_more, pays_then}
 use Rattle.em_space.proofs.Sessions.{session_as, session_others, session_then}
@@ -34,8 +34,10 @@ use Rattle.em_map.proofs.Stays.{BatchStays, batch_beside, batch_frames_stay}
 use Rattle.em_ready.proofs.RoomLaws.{commands_room, over_used, room_rises, when_full}
 use Rattle.em_services.specs.BatchService.{AreAnswers, IsGivenBatch, OrdersAnswers, answers_share, batch_counts, map_share, ordering_moves, ordering_room}
 use Rattle.em_services.specs.InOrder.{lists_room}
-use Rattle.em_services.specs.Service.{CanSync, FullOverRoom, GivesAtSync, WithinAllowance, WithinRoom}
+use Rattle.em_services.specs.Service.{CanSync, FullOverRoom, GivesAtSync, GoesOn, WithinAllowance, WithinRoom}
+use Rattle.em_services.specs.BatchLaws.{n_is}
 use Rattle.em_services.proofs.AnswerOrder.{answers_lack, answers_most}
+use Rattle.em_services.proofs.Areas.{goes_on, one_more, shares_same, within_equal}
 use Rattle.em_services.proofs.BatchAnswers.{ceiling_share}
 use Rattle.em_services.proofs.Moves.{call_moves, share_at, sync_spends, times_rise, two_rooms, within_map}
 use Rattle.em_services.proofs.SyncRoom.{sync_room}
@@ -69,7 +71,7 @@ module _ {F : Type 0} (s m : RigState) (b d : Batch F) (c : Chain) (f : SyncedBa
       omega (arith, n, l, calls)
 
   -- which can be put in order,
-  pub handed_are : CanSync s.pool → AreAnswers m c
+  pub handed_are : CanSync 0 s.pool → AreAnswers m c
   handed_are free = record {
     sound = f.session.sound;
     free = record {
@@ -145,13 +147,13 @@ module _ {F : Type 0} (s m : RigState) (b d : Batch F) (c : Chain) (f : SyncedBa
     order_frames (Ok e) o = o.frames
     order_frames (Err fault) o = o.goes.frames
 
-    pub synced_goes : (result : Result Chain EmFault) → OrdersAnswers m t c result → Goes (batch_blocks s b) s t
+    pub synced_goes : (result : Result Chain EmFault) → OrdersAnswers m t c result → GoesOn 0 0 (batch_blocks s b) s t
     synced_goes result o = record {
       sound = order_sound result o;
       touches = touches_within s m t (batch_blocks s b) (chain_blocks m c) f.session.touches
           (record { off = λ z j u k. off_left j (chain_blocks m c) (batch_blocks m d) (f.session.within.off z j u k) })
           (order_touches result o);
-      frames = same_frames_then s.pool m.pool t.pool f.frames (order_frames result o);
+      frames = shares_same 0 s.pool t.pool (same_frames_then s.pool m.pool t.pool f.frames (order_frames result o));
     }
 
     -- its two frames are out
@@ -242,19 +244,32 @@ module _ {F : Type 0} (s m : RigState) (b d : Batch F) (c : Chain) (f : SyncedBa
           let same = ap (λ (ks : List ℕ). length ks) ((beside (Ok e) o).blocks (told_m z)) in
           omega (arith, used, first, same);
       spent = λ z. sync_spent e o z;
-      share = λ z. within_map s.pool.shape d.calls d.syncs (batch_spent d) (n.share z);
     }
     synced_gives (Err fault) o = tt
+
+    -- a command more
+    calls_next : (before cs : List Command) → HasCommands s b before cs → b.calls + 1 ≡ length (before ++ cs ++ Sync ∷ [])
+    calls_next before cs h = one_more b.calls before cs Sync (n_is b s before cs h)
+
+    pub synced_within : (result : Result Chain EmFault) → OrdersAnswers m t c result
+        → OnOk result (IsTrue s.device.told → (before cs : List Command) → HasCommands s b before cs
+        → (batch_counts d).spent s.pool.shape
+        ≤ (d.syncs + 1) * map_share s.pool.shape (length (before ++ cs ++ Sync ∷ [])))
+    synced_within (Ok e) o = λ z before cs h.
+        subst (λ (k : ℕ). (batch_counts d).spent s.pool.shape ≤ (d.syncs + 1) * map_share s.pool.shape k)
+        (n.calls ∙ calls_next before cs h)
+        (within_map s.pool.shape d.calls d.syncs (batch_spent d) (n.share z))
+    synced_within (Err fault) o = tt
 
     ordered_moves : (result : Result Chain EmFault) → OrdersAnswers m t c result → IsTrue m.device.told
         → t.moves ≤ m.moves + ordering_moves m c
     ordered_moves (Ok e) o z = o.moves z
     ordered_moves (Err fault) o z = o.moves z
 
-    pub synced_moves : (result : Result Chain EmFault) → OrdersAnswers m t c result
+    counted_moves : (result : Result Chain EmFault) → OrdersAnswers m t c result
         → WithinAllowance (Some map_share) ((batch_counts b).n + 1) ((batch_counts b).syncs + 1)
         (batch_counts b).spent s t
-    synced_moves result o = λ z.
+    counted_moves result o = λ z.
         let moves : t.moves ≤ m.moves + ordering_moves m c = ordered_moves result o (told_m z) in
         let own = n.moves in
         let rest = order_share (b.calls + 1) (omega arith) z in
@@ -264,6 +279,13 @@ module _ {F : Type 0} (s m : RigState) (b d : Batch F) (c : Chain) (f : SyncedBa
         (ordering_moves m c) s.moves t.moves sound.shape (omega arith) (omega arith) (omega (arith, moves, own)) share
         (list_less (ordering_moves m c) (ceiling c.count (payload_of m.pool.shape)) (answers_share s.pool.shape (b.calls + 1))
         rest)
+
+    pub synced_moves : (result : Result Chain EmFault) → OrdersAnswers m t c result → (before cs : List Command)
+        → HasCommands s b before cs → WithinAllowance (Some map_share) (length (before ++ cs ++ Sync ∷ []))
+        ((batch_counts b).syncs + 1) (batch_counts b).spent s t
+    synced_moves result o before cs h =
+        within_equal (Some map_share) (b.calls + 1) (length (before ++ cs ++ Sync ∷ [])) ((batch_counts b).syncs + 1)
+        (batch_counts b).spent s t (calls_next before cs h) (counted_moves result o)
 
     order_stays : (result : Result Chain EmFault) → OrdersAnswers m t c result → IsTrue m.device.told
         → StaysWithin c.blocks (ordering_room m c) m t
@@ -306,14 +328,24 @@ module _ {F : Type 0} (s m : RigState) (b d : Batch F) (c : Chain) (f : SyncedBa
 -- The sync gave up.
 module _ {F : Type 0} (s t : RigState) (b d : Batch F) (fault : EmFault) (h : StopsTrunk s t (trunk_of b) (trunk_of d) fault)
     (n : CountsSync s t b d) (i : IsGivenBatch s b) (sound : Sound s) where
-  pub unsynced_moves : WithinAllowance (Some map_share) ((batch_counts b).n + 1) ((batch_counts b).syncs + 1)
+  unsynced_counted : WithinAllowance (Some map_share) ((batch_counts b).n + 1) ((batch_counts b).syncs + 1)
       (batch_counts b).spent s t
-  unsynced_moves = λ z.
+  unsynced_counted = λ z.
       let own = n.moves in
       let share = share_at s.pool.shape (batch_spent d) d.calls (b.calls + 1) d.syncs (b.syncs + 1) n.calls n.syncs
       (n.share z) in
       call_moves s.pool.shape (b.calls + 1) b.calls b.syncs (b.syncs + 1) (batch_spent b) (batch_spent d) 0 s.moves t.moves
       sound.shape (omega arith) (omega arith) (omega (arith, own)) share (omega arith)
+
+  pub unsynced_moves : (before cs : List Command) → HasCommands s b before cs
+      → WithinAllowance (Some map_share) (length (before ++ cs ++ Sync ∷ [])) ((batch_counts b).syncs + 1)
+      (batch_counts b).spent s t
+  unsynced_moves before cs k =
+      within_equal (Some map_share) (b.calls + 1) (length (before ++ cs ++ Sync ∷ [])) ((batch_counts b).syncs + 1)
+      (batch_counts b).spent s t (one_more b.calls before cs Sync (n_is b s before cs k)) unsynced_counted
+
+  pub unsynced_goes : GoesOn 0 0 (batch_blocks s b) s t
+  unsynced_goes = goes_on 0 (batch_blocks s b) s t h.goes
 
   pub unsynced_room : (IsTrue s.device.told → TreeWithinRoom b.calls s t (trunk_of b))
       → WithinRoom (Some room) ((batch_counts b).n + 1) (batch_blocks s b) s t

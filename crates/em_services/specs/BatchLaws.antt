@@ -30,12 +30,12 @@ pub holds : {F : Type 0} (b : Batch F) (s : RigState) → IsGivenBatch s b → I
 holds b s h told = (h.is.is.running.stands told).holds
 
 pub frames_stay : {F : Type 0} (b : Batch F) (held : List ℕ) (s t : RigState) → BatchHasFrames s b
-    → Touches held s t → FramesOut 2 t.pool → BatchHasFrames t b
+    → Touches held s t → FramesOut 2 0 t.pool → BatchHasFrames t b
 frames_stay b held s t f h o = batch_frames_stay held s t b h o.is f
 
 pub stays : {F : Type 0} (b : Batch F) (held : List ℕ) (s t : RigState) → IsGivenBatch s b
     → Touches held s t → (IsTrue s.device.told → Apart (batch_blocks s b) held)
-    → FramesOut 2 t.pool
+    → FramesOut 2 0 t.pool
     → IsGivenBatch t b × (IsTrue s.device.told → batch_blocks t b ≡ batch_blocks s b)
     × ((before cs : List Command) → HasCommands s b before cs → HasCommands t b before cs)
 stays b held s t i h a o =
@@ -45,8 +45,8 @@ stays b held s t i h a o =
       st.commands,
     )
 
-pub out : {F : Type 0} (b : Batch F) (s : RigState) → BatchHasFrames s b → FramesOut 2 s.pool
-out b s f = record { is = f.out }
+pub out : {F : Type 0} (b : Batch F) (s : RigState) → BatchHasFrames s b → FramesOut 2 0 s.pool
+out b s f = record { is = f.out; areas = λ some. absurd (omega (arith, some)) }
 
 pub n_is : {F : Type 0} (b : Batch F) (s : RigState) (before cs : List Command) → HasCommands s b before cs
     → b.calls ≡ length (before ++ cs)

@@ -4,5 +4,6 @@ pub mod InOrder
 pub mod ScanLaws
 pub mod ScanService
 pub mod Service
+pub mod SizeLaws
 pub mod StabLaws
 pub mod StabService

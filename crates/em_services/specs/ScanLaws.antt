@@ -47,7 +47,7 @@ pub holds : (l : CommandList) (s : RigState) → IsCommandList s l → IsTrue s.
 holds l s h told = (h.writer.told told).holds
 
 pub frames_stay : (l : CommandList) (held : List ℕ) (s t : RigState) → HasListFrame s l
-    → Touches held s t → FramesOut 1 t.pool → HasListFrame t l
+    → Touches held s t → FramesOut 1 0 t.pool → HasListFrame t l
 frames_stay l held s t f h o = record {
   len_is = f.len_is ∙ ap (λ (x : ShapeNumbers). x.block) (sym h.shape);
   out = o.is;
@@ -55,7 +55,7 @@ frames_stay l held s t f h o = record {
 
 pub stays : (l : CommandList) (held : List ℕ) (s t : RigState) → IsCommandList s l
     → Touches held s t → (IsTrue s.device.told → Apart (list_blocks s l) held)
-    → FramesOut 1 t.pool
+    → FramesOut 1 0 t.pool
     → IsCommandList t l × (IsTrue s.device.told → list_blocks t l ≡ list_blocks s l)
     × ((cs : List Command) → HoldsCommands s l cs → HoldsCommands t l cs)
 stays l held s t i h a o =
@@ -78,7 +78,7 @@ stays l held s t i h a o =
 
 pub stab_stays : (l : CommandList) (held : List ℕ) (s t : RigState) → IsCommandList s l
     → Touches held s t → (IsTrue s.device.told → Apart (list_blocks s l) held)
-    → FramesOut 1 t.pool
+    → FramesOut 1 0 t.pool
     → IsCommandList t l × (IsTrue s.device.told → list_blocks t l ≡ list_blocks s l)
     × ((before cs : List Command) → HoldsCommands s l (before ++ cs) → HoldsCommands t l (before ++ cs))
 stab_stays l held s t i h a o =
@@ -86,7 +86,7 @@ stab_stays l held s t i h a o =
 
 pub map_stays : {F : Type 0} (m : ScanMap F) (held : List ℕ) (s t : RigState) → IsScanMap s m
     → Touches held s t → (IsTrue s.device.told → Apart (list_blocks s m.list) held)
-    → FramesOut 1 t.pool
+    → FramesOut 1 0 t.pool
     → IsScanMap t m × (IsTrue s.device.told → list_blocks t m.list ≡ list_blocks s m.list)
     × ((before cs : List Command) → HoldsParts s m before cs → HoldsParts t m before cs)
 map_stays m held s t i h a o =
@@ -96,8 +96,8 @@ map_stays m held s t i h a o =
       λ before cs k. record { all = st.2 (before ++ cs) k.all; answered = k.answered },
     )
 
-pub out : (l : CommandList) (s : RigState) → HasListFrame s l → FramesOut 1 s.pool
-out l s f = record { is = f.out }
+pub out : (l : CommandList) (s : RigState) → HasListFrame s l → FramesOut 1 0 s.pool
+out l s f = record { is = f.out; areas = λ some. absurd (omega (arith, some)) }
 
 pub unstored_most : (l : CommandList) (s : RigState) → IsCommandList s l → unstored l ≤ 1
 unstored_most l s h = omega arith

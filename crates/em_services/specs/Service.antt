@@ -3,7 +3,7 @@ use Rattle.std.specs.Prelude.{ℕ, ◌+◌, ◌*◌, ◌++◌, List, false, IsTr
 use Rattle.em_record.specs.Shape.{ShapeNumbers, fan_of, IsShape}
 use Rattle.em_lines.specs.declared.text.FileKind.{FileKind}
 use Rattle.em_lines.specs.declared.text.FileKind.TheVariants.{Map, Queue, Stab}
-use Rattle.em_frames.specs.Pool.{PoolCounts, GivenFrames, LentFrames, singles_of}
+use Rattle.em_frames.specs.Pool.{PoolCounts, LentFrames, singles_of}
 use Rattle.em_space.specs.Rig.{RigState, Sound, Touches, IfFull}
 use Rattle.em_record.specs.declared.record.Record.{Record}
 use Rattle.em_model.specs.Map.{Combiner}
@@ -55,21 +55,53 @@ size_of Stab commands = length commands + length (stab_pairs commands)
 abbrev pub RisesBySize : (ShapeNumbers → ℕ → ℕ) → Type 0
 RisesBySize f = (s : ShapeNumbers) (m n : ℕ) → IsShape s → m ≤ n → f s m ≤ f s n
 
--- The frames that the answers may need are free: 2f + 6 single ones, two areas and the rack.
-pub record CanAnswer (p : PoolCounts) : Type 0 where
+-- The frames that a command may need are free beside those of a service, which has this many areas: 2f + 4 single ones, two
+-- areas with its own, and the rack.
+pub record CanTake (own : ℕ) (p : PoolCounts) : Type 0 where
+  pub singles : 2 * fan_of p.shape + 4 ≤ p.free
+  pub areas : 2 ≤ p.free_areas + own
+  pub rack : p.rack_out ≡ false
+
+-- Those that the answers may need are free: two single ones more than for a command.
+pub record CanAnswer (own : ℕ) (p : PoolCounts) : Type 0 where
   pub singles : 2 * fan_of p.shape + 6 ≤ p.free
-  pub areas : 2 ≤ p.free_areas
+  pub areas : 2 ≤ p.free_areas + own
   pub rack : p.rack_out ≡ false
 
 -- Those that a sync may need are free: two single ones more, since the service keeps its own.
-pub record CanSync (p : PoolCounts) : Type 0 where
+pub record CanSync (own : ℕ) (p : PoolCounts) : Type 0 where
   pub singles : 2 * fan_of p.shape + 8 ≤ p.free
-  pub areas : 2 ≤ p.free_areas
+  pub areas : 2 ≤ p.free_areas + own
   pub rack : p.rack_out ≡ false
 
--- This many single frames of the pool are out.
-pub record FramesOut (frames : ℕ) (p : PoolCounts) : Type 0 where
+-- What is free and what a service holds are as many together as before: it had the first number of areas, and has the
+-- second.
+pub record SharesAreas (before after : ℕ) (p q : PoolCounts) : Type 0 where
+  pub shape : q.shape ≡ p.shape
+  pub free : q.free ≡ p.free
+  pub areas : q.free_areas + after ≡ p.free_areas + before
+  pub rack : q.rack_out ≡ p.rack_out
+  pub peak : p.peak ≤ q.peak
+
+-- What holds after a call on a service, whether it gave up or not: only these blocks may have changed, and the frames that
+-- are free and those that it holds are as many as before.
+pub record GoesOn (before after : ℕ) (held : List ℕ) (old new : RigState) : Type 0 where
+  pub sound : Sound new
+  pub touches : Touches held old new
+  pub frames : SharesAreas before after old.pool new.pool
+
+-- This many single frames and areas of the pool are out.
+pub record FramesOut (frames own : ℕ) (p : PoolCounts) : Type 0 where
   pub is : p.free + frames ≤ singles_of p.shape
+  pub areas : 0 < own → p.free_areas + own ≤ 2
+
+-- This many single frames and areas more are free. More may have been out in between.
+pub record GivenWithAreas (frames own : ℕ) (old new : PoolCounts) : Type 0 where
+  pub shape : new.shape ≡ old.shape
+  pub free : new.free ≡ old.free + frames
+  pub rack : new.rack_out ≡ old.rack_out
+  pub free_areas : new.free_areas ≡ old.free_areas + own
+  pub peak : old.peak ≤ new.peak
 
 -- All moves of a service, of which at most this many were made before the call, are within what it is
 -- allowed for a size, as often as there were syncs and once more, if it states an allowance.
@@ -124,7 +156,7 @@ abbrev pub list_moves : Chain → ℕ
 list_moves c = 3 * c.blocks
 
 -- A sync came: the answers that were due are a chain beside the service's blocks, and all of these were its own or weren't
--- in use. What reading and releasing the chain takes is in its moves, and these are within what it is allowed.
+-- in use. What reading and releasing the chain takes is in its moves.
 pub record GivesAtSync (allowance room : Option (ShapeNumbers → ℕ → ℕ)) (held now : List ℕ)
     (c d : ServiceCounts) (old new : RigState) (answers : Chain) : Type 0 where
   pub is : IsChain new answers
@@ -137,14 +169,12 @@ pub record GivesAtSync (allowance room : Option (ShapeNumbers → ℕ → ℕ)) 
       → IfSome room (λ f. new.used + length held ≡ old.used + (answers.blocks + length now))
   pub spent : IsTrue old.device.told → IfSome allowance (λ f. new.moves + list_moves answers
       + c.spent old.pool.shape ≤ old.moves + d.spent old.pool.shape)
-  pub share : IsTrue old.device.told → IfSome allowance
-      (λ f. d.spent old.pool.shape ≤ (d.syncs + 1) * f old.pool.shape d.n)
 
--- A service gave its frames back. Only these blocks may have changed.
-pub record GivesFrames (frames : ℕ) (held : List ℕ) (old new : RigState) : Type 0 where
+-- A service gave its frames and areas back. Only these blocks may have changed.
+pub record GivesFrames (frames own : ℕ) (held : List ℕ) (old new : RigState) : Type 0 where
   pub sound : Sound new
   pub touches : Touches held old new
-  pub frames_are : GivenFrames frames old.pool new.pool
+  pub frames_are : GivenWithAreas frames own old.pool new.pool
 
 -- The answers of a service are a chain. Its other blocks were released.
 pub record LeavesAnswers (room : Option (ShapeNumbers → ℕ → ℕ)) (held : List ℕ)

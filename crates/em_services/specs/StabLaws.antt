@@ -36,18 +36,18 @@ pub holds : (v : Stab) (s : RigState) → IsStab s v → IsTrue s.device.told
 holds v s h told = h.holds told
 
 pub frames_stay : (v : Stab) (held : List ℕ) (s t : RigState) → StabHasFrames s v
-    → Touches held s t → FramesOut 2 t.pool → StabHasFrames t v
+    → Touches held s t → FramesOut 2 0 t.pool → StabHasFrames t v
 frames_stay v held s t f h o = stab_frames_stay held h o.is f
 
 pub stays : (v : Stab) (held : List ℕ) (s t : RigState) → IsStab s v → Touches held s t
-    → (IsTrue s.device.told → Apart (stab_blocks s v) held) → FramesOut 2 t.pool
+    → (IsTrue s.device.told → Apart (stab_blocks s v) held) → FramesOut 2 0 t.pool
     → IsStab t v × (IsTrue s.device.told → stab_blocks t v ≡ stab_blocks s v)
     × ((before cs : List Command) → HasCommands s v (before ++ cs) → HasCommands t v (before ++ cs))
 stays v held s t i h a o =
     let st = stab_beside held i h a o.is in (st.is, st.blocks, λ before cs k. st.commands (before ++ cs) k)
 
-pub out : (v : Stab) (s : RigState) → StabHasFrames s v → FramesOut 2 s.pool
-out v s f = record { is = f.out }
+pub out : (v : Stab) (s : RigState) → StabHasFrames s v → FramesOut 2 0 s.pool
+out v s f = record { is = f.out; areas = λ some. absurd (omega (arith, some)) }
 
 pub unstored_most : (v : Stab) → (stab_account v).unstored ≤ 2
 unstored_most v = omega arith

@@ -9,6 +9,8 @@ ghost use Rattle.em_space.specs.Rig.{Sound};
 ghost use Rattle.em_space.specs.Seen.{seen};
 ghost use Rattle.em_map.specs.Batch.{CountsCommand, IsBatch, TakesTo, trunk_of};
 ghost use Rattle.em_services.specs.BatchLaws as laws;
+ghost use Rattle.em_services.specs.Service.{size_of};
+ghost use Rattle.em_services.specs.SizeLaws as sizes;
 ghost use Rattle.em_services.specs.BatchService.{AreAnswers, IsGivenBatch, OrdersAnswers, batch_counts, map_share};
 ghost use Rattle.em_lines.specs.Kind.{IsOfKind};
 ghost use Rattle.em_model.specs.declared.command.Command.TheVariants as variants;
@@ -104,6 +106,12 @@ impl<F: Fn(u64, u64) -> u64 + Drop> Service for Batch<F> {
 
     ghost frames = { 2 };
 
+    ghost areas = { λ b. 0 };
+
+    ghost size = { λ b shape cs. size_of kind.Map cs };
+
+    ghost size_by = { λ rule shape cs. size_of kind.Map cs };
+
     ghost allowance = { Some map_share };
 
     ghost room = { Some stated_room };
@@ -111,6 +119,14 @@ impl<F: Fn(u64, u64) -> u64 + Drop> Service for Batch<F> {
     ghost no_queue = { laws.no_queue };
 
     ghost few_frames = { laws.two_frames };
+
+    ghost few_areas = { λ b. sizes.no_area };
+
+    ghost size_most = { λ b shape cs. sizes.size_most kind.Map cs };
+
+    ghost size_rises = { λ b shape cs more. sizes.size_rises kind.Map cs more };
+
+    ghost answers_few = { λ b s before cs h. sizes.map_answers_few (rule_of b) before cs };
 
     ghost frames_of = { λ b s h. laws.frames_of b s h.0 };
 
@@ -135,12 +151,12 @@ impl<F: Fn(u64, u64) -> u64 + Drop> Service for Batch<F> {
 
     const KIND: FileKind = FileKind::Map;
 
-    #[tactic(auto, using(crate::proofs::Batching::made, crate::proofs::Batching::made_given, crate::proofs::Batching::made_full, crate::proofs::Batching::made_none, crate::proofs::Batching::made_room, crate::proofs::Batching::unmade_goes, crate::proofs::Batching::unmade_owes, crate::proofs::Batching::unmade_cause, crate::proofs::Batching::made_moves))]
+    #[tactic(auto, using(crate::proofs::Batching::made, crate::proofs::Batching::made_given, crate::proofs::Batching::made_full, crate::proofs::Batching::made_none, crate::proofs::Batching::made_room, crate::proofs::Batching::unmade_goes, crate::proofs::Batching::unmade_owes, crate::proofs::Batching::unmade_cause, crate::proofs::Batching::made_moves, crate::proofs::Rules::no_area_held, crate::proofs::Rules::same_size))]
     fn new<D: Device>(rig: &mut Rig<'_, D>, rule: AddSettle<F>) -> Result<Batch<F>, EmFault> {
         Batch::with(rig, rule)
     }
 
-    #[tactic(auto, using(crate::proofs::Batching::take_goes, crate::proofs::Batching::take_frames, crate::proofs::Batching::take_is, crate::proofs::Batching::take_has, crate::proofs::Batching::takes, crate::proofs::Batching::take_owes, crate::proofs::Batching::take_cause))]
+    #[tactic(auto, using(crate::proofs::Batching::take_goes, crate::proofs::Batching::take_frames, crate::proofs::Batching::take_is, crate::proofs::Batching::take_has, crate::proofs::Batching::takes, crate::proofs::Batching::take_owes, crate::proofs::Batching::take_cause, crate::proofs::Areas::takes_alone))]
     fn take<D: Device>(&mut self, rig: &mut Rig<'_, D>, command: Command) -> Result<(), EmFault> {
         give_batch(self, rig, command)
     }

@@ -10,6 +10,8 @@ ghost use Rattle.em_plain.specs.Room.{plain_room};
 ghost use Rattle.em_lines.specs.Kind.{IsOfKind};
 ghost use Rattle.em_model.specs.declared.command.Command.TheVariants as variants;
 ghost use Rattle.em_plain.specs.ScanMap.{IsScanMap, answered_of};
+ghost use Rattle.em_services.specs.Service.{size_of};
+ghost use Rattle.em_services.specs.SizeLaws as sizes;
 ghost use Rattle.em_services.specs.ScanLaws as laws;
 ghost use Rattle.em_services.specs.ScanService.{HoldsCommands, HoldsParts, list_counts};
 ghost use Rattle.em_lines.specs.declared.text.FileKind.TheVariants as kind;
@@ -96,6 +98,12 @@ impl<F: Fn(u64, u64) -> u64 + Drop> Service for ScanMap<F> {
 
     ghost frames = { 1 };
 
+    ghost areas = { λ m. 0 };
+
+    ghost size = { λ m shape cs. size_of kind.Map cs };
+
+    ghost size_by = { λ rule shape cs. size_of kind.Map cs };
+
     ghost allowance = { None };
 
     ghost room = { Some plain_room };
@@ -103,6 +111,14 @@ impl<F: Fn(u64, u64) -> u64 + Drop> Service for ScanMap<F> {
     ghost no_queue = { laws.map_no_queue };
 
     ghost few_frames = { laws.one_frame };
+
+    ghost few_areas = { λ m. sizes.no_area };
+
+    ghost size_most = { λ m shape cs. sizes.size_most kind.Map cs };
+
+    ghost size_rises = { λ m shape cs more. sizes.size_rises kind.Map cs more };
+
+    ghost answers_few = { λ m s before cs h. sizes.map_answers_few (apply_of m.settle.kind) before cs };
 
     ghost frames_of = { λ m s h. h.0.list.writer.frame };
 
@@ -127,17 +143,17 @@ impl<F: Fn(u64, u64) -> u64 + Drop> Service for ScanMap<F> {
 
     const KIND: FileKind = FileKind::Map;
 
-    #[tactic(auto, using(crate::proofs::Scanning::list_made, crate::proofs::Scanning::parts_none, crate::proofs::Scanning::room_still))]
+    #[tactic(auto, using(crate::proofs::Scanning::list_made, crate::proofs::Scanning::parts_none, crate::proofs::Scanning::room_still, crate::proofs::Rules::no_area_held, crate::proofs::Rules::same_size))]
     fn new<D: Device>(rig: &mut Rig<'_, D>, rule: AddSettle<F>) -> Result<ScanMap<F>, EmFault> {
         ScanMap::with(rig, rule)
     }
 
-    #[tactic(auto, using(crate::proofs::Scanning::list_takes, crate::proofs::Scanning::parts_more, crate::proofs::Scanning::take_room, crate::proofs::Scanning::take_full))]
+    #[tactic(auto, using(crate::proofs::Scanning::list_takes, crate::proofs::Scanning::parts_more, crate::proofs::Scanning::take_room, crate::proofs::Scanning::take_full, crate::proofs::Areas::goes_on))]
     fn take<D: Device>(&mut self, rig: &mut Rig<'_, D>, command: Command) -> Result<(), EmFault> {
         give_map(self, rig, command)
     }
 
-    #[tactic(auto, using(crate::proofs::ScanSyncs::sync_is, crate::proofs::ScanSyncs::sync_has, crate::proofs::ScanSyncs::sync_items, crate::proofs::ScanSyncs::sync_room, crate::proofs::ScanSyncs::sync_full, crate::proofs::Scanning::list_owes))]
+    #[tactic(auto, using(crate::proofs::ScanSyncs::sync_is, crate::proofs::ScanSyncs::sync_has, crate::proofs::ScanSyncs::sync_items, crate::proofs::ScanSyncs::sync_room, crate::proofs::ScanSyncs::sync_full, crate::proofs::Scanning::list_owes, crate::proofs::Areas::goes_on))]
     fn sync<D: Device>(&mut self, rig: &mut Rig<'_, D>) -> Result<Chain, EmFault> {
         ScanMap::sync(self, rig)
     }
@@ -178,6 +194,12 @@ impl Service for ScanStab {
 
     ghost frames = { 1 };
 
+    ghost areas = { λ v. 0 };
+
+    ghost size = { λ v shape cs. size_of kind.Stab cs };
+
+    ghost size_by = { λ rule shape cs. size_of kind.Stab cs };
+
     ghost allowance = { None };
 
     ghost room = { Some plain_room };
@@ -185,6 +207,14 @@ impl Service for ScanStab {
     ghost no_queue = { laws.stab_no_queue };
 
     ghost few_frames = { laws.one_frame };
+
+    ghost few_areas = { λ v. sizes.no_area };
+
+    ghost size_most = { λ v shape cs. sizes.size_most kind.Stab cs };
+
+    ghost size_rises = { λ v shape cs more. sizes.size_rises kind.Stab cs more };
+
+    ghost answers_few = { λ v s before cs h. sizes.stab_answers_few (before ++ cs) };
 
     ghost frames_of = { λ v s h. h.writer.frame };
 
@@ -208,12 +238,12 @@ impl Service for ScanStab {
 
     const KIND: FileKind = FileKind::Stab;
 
-    #[tactic(auto, using(crate::proofs::Scanning::list_made, crate::proofs::Scanning::none_held, crate::proofs::Scanning::room_still))]
+    #[tactic(auto, using(crate::proofs::Scanning::list_made, crate::proofs::Scanning::none_held, crate::proofs::Scanning::room_still, crate::proofs::Rules::no_area_held, crate::proofs::Rules::same_size))]
     fn new<D: Device>(rig: &mut Rig<'_, D>, _rule: ()) -> Result<ScanStab, EmFault> {
         ScanStab::new(rig)
     }
 
-    #[tactic(auto, using(crate::proofs::Scanning::list_takes, crate::proofs::Scanning::list_has_more, crate::proofs::Scanning::list_is, crate::proofs::Scanning::take_room, crate::proofs::Scanning::take_full))]
+    #[tactic(auto, using(crate::proofs::Scanning::list_takes, crate::proofs::Scanning::list_has_more, crate::proofs::Scanning::list_is, crate::proofs::Scanning::take_room, crate::proofs::Scanning::take_full, crate::proofs::Areas::goes_on))]
     fn take<D: Device>(&mut self, rig: &mut Rig<'_, D>, command: Command) -> Result<(), EmFault> {
         give_stab(self, rig, command)
     }

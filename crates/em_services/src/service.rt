@@ -18,7 +18,7 @@ ghost use Rattle.em_space.specs.Seen.{seen};
 ghost use Rattle.em_chain.specs.Chain.{chain_items, empty_chain};
 ghost use Rattle.em_chain.specs.Effects.{Unmoved};
 ghost use Rattle.em_lines.specs.Kind.{IsOfKind};
-ghost use Rattle.em_services.specs.Service.{CanAnswer, CanSync, FramesOut, GivesFrames, GivesAtSync, LeavesAnswers, MakesService, RisesBySize, ServiceCounts, TakesCommand, WithinAllowance, WithinRoom, records_for, size_of, syncs_for, FullOverRoom};
+ghost use Rattle.em_services.specs.Service.{CanAnswer, CanSync, CanTake, FramesOut, GivesFrames, GivesAtSync, GoesOn, LeavesAnswers, MakesService, RisesBySize, ServiceCounts, TakesCommand, WithinAllowance, WithinRoom, records_for, size_of, syncs_for, FullOverRoom};
 ghost use Rattle.em_lines.specs.declared.text.FileKind as kinds;
 ghost use Rattle.em_lines.specs.declared.text.FileKind.TheVariants as kind;
 
@@ -58,6 +58,12 @@ pub trait Service {
     ghost counts: { Self → ServiceCounts };
     /// It holds this many single frames.
     ghost frames: { ℕ };
+    /// The areas that it holds: one at most.
+    ghost areas: { Self → ℕ };
+    /// The size of some commands by which its moves are counted, by the shape, and how a rule says it.
+    ghost size: { Self → ShapeNumbers → List commands.Command → ℕ };
+
+    ghost size_by: { Self.Rule → ShapeNumbers → List commands.Command → ℕ };
     /// At most this many moves for commands of a size, by the shape, as often as there were syncs and once more;
     /// where there is such a number.
     ghost allowance: { Option (ShapeNumbers → ℕ → ℕ) };
@@ -78,6 +84,8 @@ pub trait Service {
         ensures is { IfOk result (λ v. IsService v (seen D.state rig.new)) }
         ensures has { IfOk result (λ v. Has v (seen D.state rig.new) [] []) }
         ensures joins { IfOk result (λ v. combiner v ≡ combiner_of rule) }
+        ensures none_out { IfOk result (λ v. areas v ≡ 0) }
+        ensures sizes { IfOk result (λ v. size v ≡ size_by rule) }
         ensures goes { OnErr result (Goes [] (seen D.state rig.old) (seen D.state rig.new)) }
         ensures room { WithinRoom room 0 [] (seen D.state rig.old) (seen D.state rig.new) }
         ensures full { IfErr result (FullOverRoom room 0 [] (seen D.state rig.old)) }
@@ -91,13 +99,14 @@ pub trait Service {
     fn take<D: Device>(&mut self, rig: &mut Rig<'_, D>, command: Command) -> Result<(), EmFault>
         requires sound { Sound (seen D.state rig.old) }
         requires is { IsService self.old (seen D.state rig.old) }
-        requires free { CanServe (seen D.state rig.old).pool }
+        requires free { CanTake (areas self.old) (seen D.state rig.old).pool }
         requires few { (counts self.old).n < 2 ^ 40 }
         requires kind { IsOfKind KIND command }
         requires other { command ≡ variants.Sync → ⊥ }
-        ensures goes { Goes (blocks self.old (seen D.state rig.old))
-            (seen D.state rig.old) (seen D.state rig.new) }
+        ensures goes { GoesOn (areas self.old) (areas self.new)
+            (blocks self.old (seen D.state rig.old)) (seen D.state rig.old) (seen D.state rig.new) }
         ensures joins { combiner self.new ≡ combiner self.old }
+        ensures sizes { size self.new ≡ size self.old }
         ensures frames { HasItsFrames self.new (seen D.state rig.new) }
         ensures is { OnOk result (IsService self.new (seen D.state rig.new)) }
         ensures has { OnOk result ((before cs : List commands.Command)
@@ -111,8 +120,12 @@ pub trait Service {
             (seen D.state rig.old) (seen D.state rig.new) }
         ensures full { IfErr result (FullOverRoom room ((counts self.old).n + 1)
             (blocks self.old (seen D.state rig.old)) (seen D.state rig.old)) }
-        ensures moves { WithinAllowance allowance ((counts self.old).n + 1) (counts self.old).syncs
-            (counts self.old).spent (seen D.state rig.old) (seen D.state rig.new) }
+        ensures moves { (before cs : List commands.Command)
+            → Has self.old (seen D.state rig.old) before cs
+            → WithinAllowance allowance
+            (size self.old (seen D.state rig.old).pool.shape (before ++ cs ++ command ∷ []))
+            (counts self.old).syncs (counts self.old).spent
+            (seen D.state rig.old) (seen D.state rig.new) }
         ensures owes { OnErr result (Pays (counts self.old).unstored
             (seen D.state rig.old).pool.shape.frames
             (seen D.state rig.old) (seen D.state rig.new)) }
@@ -125,11 +138,12 @@ pub trait Service {
     fn sync<D: Device>(&mut self, rig: &mut Rig<'_, D>) -> Result<Chain, EmFault>
         requires sound { Sound (seen D.state rig.old) }
         requires is { IsService self.old (seen D.state rig.old) }
-        requires free { CanSync (seen D.state rig.old).pool }
+        requires free { CanSync (areas self.old) (seen D.state rig.old).pool }
         requires few { (counts self.old).n < 2 ^ 40 }
-        ensures goes { Goes (blocks self.old (seen D.state rig.old))
-            (seen D.state rig.old) (seen D.state rig.new) }
+        ensures goes { GoesOn (areas self.old) (areas self.new)
+            (blocks self.old (seen D.state rig.old)) (seen D.state rig.old) (seen D.state rig.new) }
         ensures joins { combiner self.new ≡ combiner self.old }
+        ensures sizes { size self.new ≡ size self.old }
         ensures frames { HasItsFrames self.new (seen D.state rig.new) }
         ensures is { OnOk result (IsService self.new (seen D.state rig.new)) }
         ensures has { IsOfKind KIND variants.Sync
@@ -148,9 +162,18 @@ pub trait Service {
             (seen D.state rig.old) (seen D.state rig.new) }
         ensures full { IfErr result (FullOverRoom room ((counts self.old).n + 1)
             (blocks self.old (seen D.state rig.old)) (seen D.state rig.old)) }
-        ensures moves { IsOfKind KIND variants.Sync → WithinAllowance allowance
-            ((counts self.old).n + 1) ((counts self.old).syncs + 1) (counts self.old).spent
+        ensures moves { IsOfKind KIND variants.Sync → (before cs : List commands.Command)
+            → Has self.old (seen D.state rig.old) before cs
+            → WithinAllowance allowance
+            (size self.old (seen D.state rig.old).pool.shape (before ++ cs ++ variants.Sync ∷ []))
+            ((counts self.old).syncs + 1) (counts self.old).spent
             (seen D.state rig.old) (seen D.state rig.new) }
+        ensures share { IsOfKind KIND variants.Sync
+            → OnOk result (IsTrue (seen D.state rig.old).device.told
+            → (before cs : List commands.Command) → Has self.old (seen D.state rig.old) before cs
+            → IfSome allowance (λ f. (counts self.new).spent (seen D.state rig.old).pool.shape
+            ≤ ((counts self.new).syncs + 1) * f (seen D.state rig.old).pool.shape
+            (size self.old (seen D.state rig.old).pool.shape (before ++ cs ++ variants.Sync ∷ [])))) }
         ensures owes { OnErr result (Pays (counts self.old).unstored
             (2 * (seen D.state rig.old).pool.shape.frames)
             (seen D.state rig.old) (seen D.state rig.new)) }
@@ -163,8 +186,8 @@ pub trait Service {
     fn answers<D: Device>(self, rig: &mut Rig<'_, D>) -> Result<Chain, EmFault>
         requires sound { Sound (seen D.state rig.old) }
         requires is { IsService self (seen D.state rig.old) }
-        requires free { CanAnswer (seen D.state rig.old).pool }
-        ensures gives { GivesFrames frames (blocks self (seen D.state rig.old))
+        requires free { CanAnswer (areas self) (seen D.state rig.old).pool }
+        ensures gives { GivesFrames frames (areas self) (blocks self (seen D.state rig.old))
             (seen D.state rig.old) (seen D.state rig.new) }
         ensures leaves { IfOk result (LeavesAnswers room (blocks self (seen D.state rig.old))
             (counts self) (seen D.state rig.old) (seen D.state rig.new)) }
@@ -181,8 +204,8 @@ pub trait Service {
             (blocks self (seen D.state rig.old)) (seen D.state rig.old)) }
         ensures moves { (before cs : List commands.Command)
             → Has self (seen D.state rig.old) before cs
-            → WithinAllowance allowance (size_of KIND (before ++ cs)) (counts self).syncs
-            (counts self).spent (seen D.state rig.old) (seen D.state rig.new) }
+            → WithinAllowance allowance (size self (seen D.state rig.old).pool.shape (before ++ cs))
+            (counts self).syncs (counts self).spent (seen D.state rig.old) (seen D.state rig.new) }
         ensures owes { OnErr result (Pays (counts self).unstored
             (2 * (seen D.state rig.old).pool.shape.frames)
             (seen D.state rig.old) (seen D.state rig.new)) }
@@ -192,7 +215,8 @@ pub trait Service {
     fn abandon<D: Device>(self, rig: &mut Rig<'_, D>)
         requires sound { Sound (seen D.state rig.old) }
         requires frames { HasItsFrames self (seen D.state rig.old) }
-        ensures gives { GivesFrames frames [] (seen D.state rig.old) (seen D.state rig.new) }
+        ensures gives { GivesFrames frames (areas self) []
+            (seen D.state rig.old) (seen D.state rig.new) }
         ensures unmoved { Unmoved (seen D.state rig.old) (seen D.state rig.new) };
 
     /// A queue file is answered pop by pop, and by no service.
@@ -201,8 +225,22 @@ pub trait Service {
     /// It holds few frames: those of a call are free beside them.
     ghost few_frames: { frames ≤ 4 };
 
+    ghost few_areas: { (v : Self) → areas v ≤ 1 };
+
     /// What ties it to its blocks has the part on frames.
     ghost frames_of: { (v : Self) (s : RigState) → IsService v s → HasItsFrames v s };
+
+    /// Its own size of some commands is at most their size, and no less with more commands after them. The answers that
+    /// are due are no more than that.
+    ghost size_most: { (v : Self) (shape : ShapeNumbers) (cs : List commands.Command)
+        → size v shape cs ≤ size_of KIND cs };
+
+    ghost size_rises: { (v : Self) (shape : ShapeNumbers) (cs more : List commands.Command)
+        → size v shape cs ≤ size v shape (cs ++ more) };
+
+    ghost answers_few: { (v : Self) (s : RigState) (before cs : List commands.Command)
+        → Has v s before cs
+        → length (records_for (combiner v) KIND before cs) ≤ size v s.pool.shape (before ++ cs) };
 
     /// Its commands are counted, and its syncs are no more than those among them.
     ghost n_is: { (v : Self) (s : RigState) (before cs : List commands.Command) → Has v s before cs
@@ -217,16 +255,16 @@ pub trait Service {
 
     /// It stays as it is over a call that changes no block of its own, while its frames are out.
     ghost stays: { (v : Self) (held : List ℕ) (s t : RigState) → IsService v s → Touches held s t
-        → (IsTrue s.device.told → Apart (blocks v s) held) → FramesOut frames t.pool
+        → (IsTrue s.device.told → Apart (blocks v s) held) → FramesOut frames (areas v) t.pool
         → IsService v t × (IsTrue s.device.told → blocks v t ≡ blocks v s)
         × ((before cs : List commands.Command) → Has v s before cs → Has v t before cs) };
 
     /// The same of what is left after a fault.
     ghost frames_stay: { (v : Self) (held : List ℕ) (s t : RigState) → HasItsFrames v s
-        → Touches held s t → FramesOut frames t.pool → HasItsFrames v t };
+        → Touches held s t → FramesOut frames (areas v) t.pool → HasItsFrames v t };
 
     /// Its frames are out.
-    ghost out: { (v : Self) (s : RigState) → HasItsFrames v s → FramesOut frames s.pool };
+    ghost out: { (v : Self) (s : RigState) → HasItsFrames v s → FramesOut frames (areas v) s.pool };
 
     /// Of its blocks at most as many aren't stored as it holds frames.
     ghost unstored_most: { (v : Self) (s : RigState) → IsService v s

@@ -10,6 +10,8 @@ ghost use Rattle.em_space.specs.Seen.{seen};
 ghost use Rattle.em_segment.specs.Stabs.{IsStab, TakeCosts, TakesTo, stab_len, FullOverRoom};
 ghost use Rattle.em_tree_cost.specs.Shares.{stab_share};
 ghost use Rattle.em_lines.specs.Kind.{IsOfKind};
+ghost use Rattle.em_services.specs.Service.{size_of};
+ghost use Rattle.em_services.specs.SizeLaws as sizes;
 ghost use Rattle.em_services.specs.StabLaws as laws;
 ghost use Rattle.em_services.specs.StabService.{stab_counts};
 ghost use Rattle.em_lines.specs.declared.text.FileKind.TheVariants as kind;
@@ -72,6 +74,12 @@ impl Service for Stab {
 
     ghost frames = { 2 };
 
+    ghost areas = { λ v. 0 };
+
+    ghost size = { λ v shape cs. size_of kind.Stab cs };
+
+    ghost size_by = { λ rule shape cs. size_of kind.Stab cs };
+
     ghost allowance = { Some stab_share };
 
     ghost room = { Some stated_room };
@@ -79,6 +87,14 @@ impl Service for Stab {
     ghost no_queue = { laws.no_queue };
 
     ghost few_frames = { laws.two_frames };
+
+    ghost few_areas = { λ v. sizes.no_area };
+
+    ghost size_most = { λ v shape cs. sizes.size_most kind.Stab cs };
+
+    ghost size_rises = { λ v shape cs more. sizes.size_rises kind.Stab cs more };
+
+    ghost answers_few = { λ v s before cs h. sizes.stab_answers_few (before ++ cs) };
 
     ghost frames_of = { laws.frames_of };
 
@@ -102,12 +118,12 @@ impl Service for Stab {
 
     const KIND: FileKind = FileKind::Stab;
 
-    #[tactic(auto, using(crate::proofs::Stabbing::made, crate::proofs::Stabbing::made_is, crate::proofs::Stabbing::made_none, crate::proofs::Stabbing::made_moves, crate::proofs::Stabbing::made_room, crate::proofs::Stabbing::made_surely, crate::proofs::Stabbing::made_by))]
+    #[tactic(auto, using(crate::proofs::Stabbing::made, crate::proofs::Stabbing::made_is, crate::proofs::Stabbing::made_none, crate::proofs::Stabbing::made_moves, crate::proofs::Stabbing::made_room, crate::proofs::Stabbing::made_surely, crate::proofs::Stabbing::made_by, crate::proofs::Rules::no_area_held, crate::proofs::Rules::same_size))]
     fn new<D: Device>(rig: &mut Rig<'_, D>, _rule: ()) -> Result<Stab, EmFault> {
         Stab::new(rig)
     }
 
-    #[tactic(auto, using(crate::proofs::Stabbing::take_goes, crate::proofs::Stabbing::take_frames, crate::proofs::Stabbing::take_is, crate::proofs::Stabbing::take_has, crate::proofs::Stabbing::takes, crate::proofs::Stabbing::take_owes, crate::proofs::Stabbing::take_cause))]
+    #[tactic(auto, using(crate::proofs::Stabbing::take_goes, crate::proofs::Stabbing::take_frames, crate::proofs::Stabbing::take_is, crate::proofs::Stabbing::take_has, crate::proofs::Stabbing::takes, crate::proofs::Stabbing::take_owes, crate::proofs::Stabbing::take_cause, crate::proofs::Areas::takes_alone))]
     fn take<D: Device>(&mut self, rig: &mut Rig<'_, D>, command: Command) -> Result<(), EmFault> {
         give_list(self, rig, command)
     }

@@ -228,6 +228,13 @@ impl<S: Settle> Tree<S> {
         self.trunk.level
     }
 
+    /// The rules by which it settles its operations.
+    pub fn rules(&self) -> &S
+        ensures { result.now ≡ self.now.settle }
+    {
+        &self.settle
+    }
+
     /// Whether no operation was pushed since the last reset.
     pub fn is_fresh(&self) -> bool
         ensures { IsTrue result ↔ (self.now.trunk.since ≡ 0) }

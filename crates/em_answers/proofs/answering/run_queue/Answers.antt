@@ -1,13 +1,16 @@
-use Rattle.std.proofs.Common.{◌≤◌, subst, ap, ◌∙◌, Ok, Err}
+use Rattle.std.proofs.Common.{◌≤◌, ℕ, List, subst, ap, ◌∙◌, Ok, Err}
+use Rattle.em_record.specs.Shape.{ShapeNumbers}
 use Rattle.em_io.specs.Feed.{Fed, rest}
 use Rattle.em_io.specs.declared.shelf.Slot.TheVariants.{First}
 use Rattle.em_space.specs.Seen.{seen}
 use Rattle.em_space.proofs.Steps.{touches_then}
-use Rattle.em_lines.specs.RunSize.{commands_taken}
+use Rattle.em_model.specs.declared.command.Command.{Command}
+use Rattle.em_lines.specs.RunSize.{commands_taken, run_size}
 use Rattle.em_lines.specs.declared.text.FileKind.TheVariants as kind
 use Rattle.em_ends.specs.Stop.{fault_counts}
-use Rattle.em_answers.specs.Limits.{queue_limits}
-use Rattle.em_answers.proofs.FileRuns.{runs_answered}
+use Rattle.em_services.specs.Service.{size_of}
+use Rattle.em_answers.specs.Limits.{queue_limits, taken_size}
+use Rattle.em_answers.proofs.FileRuns.{runs_answered, runs_sized}
 use Rattle.em_answers.proofs.QueueRuns.{calls_within, gives_up, queue_filled, queue_stops}
 use Rattle.em_answers.proofs.Rooms.{queue_keeps}
 use Rattle.em_answers.proofs.answering.run_queue.Goals as goal
@@ -83,7 +86,9 @@ returns-in-Ok-clause-runs g c = λ apply.
     let r = c.in-Ok.ensures in
     let l = c.abandon.ensures.leaves in
     let laws = g.met.Q.Queue in
-    runs_answered apply g.H.Shelf g.W.Sink (queue_limits g.Q.Queue.room) kind.Queue
+    let plain : ShapeNumbers → List Command → ℕ = λ shape. size_of kind.Queue in
+    runs_sized apply (taken_size plain kind.Queue) (λ shape. run_size kind.Queue)
+    (runs_answered apply plain g.H.Shelf g.W.Sink (queue_limits g.Q.Queue.room) kind.Queue
     (g.Q.Queue.blocks c.args.queue first) c.args.shelf.now c.args.out.now c.serve-done.new.feed
     c.serve-done.new.shelf c.serve-done.new.out first last c.requires.ready feed (Ok tt)
     c.new-feed.ensures (record {
@@ -98,7 +103,7 @@ returns-in-Ok-clause-runs g c = λ apply.
       moves = λ t. tt;
       most = queue_keeps g.Q.Queue.room g.H.Shelf.tells (rest feed stand) (after.slot feed.slot).left counts mid last
           laws.rising_room (laws.k_most queue mid r.frames) r.calls (laws.fits queue mid r.frames) r.most l;
-    })
+    }))
 
 pub returns-in-Err-clause-runs : goal.returns-in-Err-clause-runs
 returns-in-Err-clause-runs g c = λ apply.
@@ -114,8 +119,9 @@ returns-in-Err-clause-runs g c = λ apply.
     let r = c.in-Err.ensures in
     let l = c.abandon.ensures.leaves in
     let laws = g.met.Q.Queue in
-    rw (c.status_of.ensures.is)
-    (runs_answered apply g.H.Shelf g.W.Sink (queue_limits g.Q.Queue.room) kind.Queue
+    let plain : ShapeNumbers → List Command → ℕ = λ shape. size_of kind.Queue in
+    rw (c.status_of.ensures.is) (runs_sized apply (taken_size plain kind.Queue) (λ shape. run_size kind.Queue)
+    (runs_answered apply plain g.H.Shelf g.W.Sink (queue_limits g.Q.Queue.room) kind.Queue
     (g.Q.Queue.blocks c.args.queue first) c.args.shelf.now c.args.out.now c.serve-done.new.feed
     c.serve-done.new.shelf c.serve-done.new.out first last c.requires.ready feed (Err stop)
     c.new-feed.ensures (record {
@@ -137,4 +143,4 @@ returns-in-Err-clause-runs g c = λ apply.
       moves = λ t. tt;
       most = queue_keeps g.Q.Queue.room g.H.Shelf.tells (rest feed stand) (after.slot feed.slot).left counts mid last
           laws.rising_room (laws.k_most queue mid r.frames) r.calls (laws.fits queue mid r.frames) r.most l;
-    }))
+    })))

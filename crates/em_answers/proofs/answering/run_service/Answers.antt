@@ -7,7 +7,7 @@ use Rattle.em_answers.proofs.answering.run_service.Goals as goal
 pub returns-in-Ok-clause-runs : goal.returns-in-Ok-clause-runs
 returns-in-Ok-clause-runs g c =
     let r = c.in-Ok.ensures in
-    runs_answered (g.S.Service.combiner_of c.args.rule) g.H.Shelf g.W.Sink (service_limits g.S.Service.allowance g.S.Service.room) g.S.Service.KIND []
+    runs_answered (g.S.Service.combiner_of c.args.rule) (g.S.Service.size_by c.args.rule) g.H.Shelf g.W.Sink (service_limits g.S.Service.allowance g.S.Service.room) g.S.Service.KIND []
     c.args.shelf.now c.args.out.now c.answer_file.new.feed c.answer_file.new.shelf c.answer_file.new.out
     (seen g.D.Device.state c.args.rig.now) (seen g.D.Device.state c.answer_file.new.rig) c.requires.ready
     c.new-feed.result (Ok tt) c.new-feed.ensures (record {
@@ -27,7 +27,7 @@ pub returns-in-Err-clause-runs : goal.returns-in-Err-clause-runs
 returns-in-Err-clause-runs g c =
     let r = c.in-Err.ensures in
     rw (c.status_of.ensures.is)
-    (runs_answered (g.S.Service.combiner_of c.args.rule) g.H.Shelf g.W.Sink (service_limits g.S.Service.allowance g.S.Service.room) g.S.Service.KIND []
+    (runs_answered (g.S.Service.combiner_of c.args.rule) (g.S.Service.size_by c.args.rule) g.H.Shelf g.W.Sink (service_limits g.S.Service.allowance g.S.Service.room) g.S.Service.KIND []
     c.args.shelf.now c.args.out.now c.answer_file.new.feed c.answer_file.new.shelf c.answer_file.new.out
     (seen g.D.Device.state c.args.rig.now) (seen g.D.Device.state c.answer_file.new.rig) c.requires.ready
     c.new-feed.result (Err c.in-Err.stop) c.new-feed.ensures (record {

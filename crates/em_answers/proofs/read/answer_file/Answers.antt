@@ -26,7 +26,7 @@ returns-in_err-answers-clause-stop g c =
 
 pub returns-in_err-answers-clause-moves : goal.returns-in_err-answers-clause-moves
 returns-in_err-answers-clause-moves g c = λ t.
-    printed_reads g.S.Service.allowance g.S.Service.KIND _ _ (seen g.D.Device.state c.args.rig.now)
+    printed_reads g.S.Service.allowance (g.S.Service.size_by c.args.rule) g.S.Service.KIND _ _ (seen g.D.Device.state c.args.rig.now)
     (seen g.D.Device.state c.read_answers.new.rig) (seen g.D.Device.state c.read_answers.new.rig)
     (c.in_err-answers.ensures.moves t) (λ d. omega arith)
 
@@ -67,7 +67,7 @@ returns-clause-stop g c =
 pub returns-clause-moves : goal.returns-clause-moves
 returns-clause-moves g c = λ t.
     let r = c.in_ok-answers.ensures in
-    printed_reads g.S.Service.allowance g.S.Service.KIND _ _ (seen g.D.Device.state c.args.rig.now)
+    printed_reads g.S.Service.allowance (g.S.Service.size_by c.args.rule) g.S.Service.KIND _ _ (seen g.D.Device.state c.args.rig.now)
     (seen g.D.Device.state c.read_answers.new.rig) (seen g.D.Device.state c.print_answers.new.rig)
     (r.moves t) (λ d. let b = r.blocks t d in let m = c.print_answers.ensures.moves in omega (arith, b, m))
 

@@ -1,12 +1,15 @@
-use Rattle.std.proofs.Common.{◌≤◌, ◌+◌, ◌∙◌, [], arith, refl}
+use Rattle.std.proofs.Common.{◌≤◌, ◌+◌, ◌++◌, ◌∷◌, ◌∙◌, List, [], arith, refl}
 use Rattle.std.specs.Prelude.{IfErr}
 use Rattle.em_io.proofs.Sent.{part-of, sent-nothing}
+use Rattle.em_model.specs.declared.command.Command.{Command}
+use Rattle.em_model.specs.declared.command.Command.TheVariants.{Sync}
+use Rattle.em_space.specs.Rig.{RigState}
 use Rattle.em_space.specs.Seen.{seen}
 use Rattle.em_space.proofs.Steps.{block_cause, cause_after}
 use Rattle.aig_text.proofs.Lines.{of_error}
 use Rattle.em_ends.specs.declared.stop.Stop.TheVariants.{Em}
 use Rattle.em_ends.proofs.Printing.{prints_part}
-use Rattle.em_services.specs.Service.{list_moves}
+use Rattle.em_services.specs.Service.{WithinAllowance, list_moves}
 use Rattle.em_answers.specs.Reading.{SyncCause}
 use Rattle.em_answers.proofs.Stepping.{GaveList, discard_full, frames_over, print_cause, print_full, printed_goes, printed_list, released_goes, released_stays, released_takes, room_over, sync_full, sync_moves}
 use Rattle.em_answers.proofs.read.answer_sync.Given as given
@@ -26,7 +29,7 @@ returns-in_err-records-clause-full g c =
 
 -- The service gave a list.
 module _ (g : given.Over) (c : In_ok-records g) where
-  gave : GaveList g.S.Service c.sync.new.self
+  gave : GaveList g.S.Service c.sync.new.self (g.S.Service.areas c.args.service.now)
       (g.S.Service.blocks c.args.service.now (seen g.D.Device.state c.args.rig.now))
       (g.S.Service.counts c.args.service.now) (seen g.D.Device.state c.args.rig.now)
       (seen g.D.Device.state c.sync.new.rig) c.in_ok-records.records
@@ -38,6 +41,20 @@ module _ (g : given.Over) (c : In_ok-records g) where
         out = g.met.S.Service.out c.sync.new.self (seen g.D.Device.state c.sync.new.rig) r.frames;
         gives = r.gives c.requires.kind;
       }
+
+  -- its moves and those of printing and releasing the list
+  moved : (t : RigState)
+      → t.moves ≤ (seen g.D.Device.state c.sync.new.rig).moves + list_moves c.in_ok-records.records
+      → (before cs : List Command) → g.S.Service.Has c.args.service.now (seen g.D.Device.state c.args.rig.now) before cs
+      → WithinAllowance g.S.Service.allowance (g.S.Service.size c.args.service.now
+      (seen g.D.Device.state c.args.rig.now).pool.shape (before ++ cs ++ Sync ∷ []))
+      ((g.S.Service.counts c.args.service.now).syncs + 1) (g.S.Service.counts c.args.service.now).spent
+      (seen g.D.Device.state c.args.rig.now) t
+  moved t moves before cs has =
+      let r = c.in_ok-records.ensures in
+      sync_moves g.S.Service.allowance g.S.Service.room _ _ _ _ _ (seen g.D.Device.state c.args.rig.now)
+      (seen g.D.Device.state c.sync.new.rig) t c.in_ok-records.records (r.gives c.requires.kind)
+      (λ told. r.share c.requires.kind told before cs has) moves
 
 -- its answers weren't printed
 pub returns-in_err-print_answers-clause-goes : goal.returns-in_err-print_answers-clause-goes
@@ -59,13 +76,9 @@ returns-in_err-print_answers-clause-room g c =
 
 pub returns-in_err-print_answers-clause-moves : goal.returns-in_err-print_answers-clause-moves
 returns-in_err-print_answers-clause-moves g c =
-    let m = seen g.D.Device.state c.sync.new.rig in
-    let p = seen g.D.Device.state c.print_answers.new.rig in
-    let list = c.in_ok-records.records in
     let printed = c.print_answers.ensures.moves in
-    let moves : p.moves ≤ m.moves + list_moves list = omega (arith, printed) in
-    sync_moves g.S.Service.allowance g.S.Service.room _ _ _ _ (seen g.D.Device.state c.args.rig.now) m p list
-    (c.in_ok-records.ensures.gives c.requires.kind) moves
+    moved g ((goal.at.returns-in_err-print_answers-clause-moves g c).In_ok-records)
+    (seen g.D.Device.state c.print_answers.new.rig) (omega (arith, printed))
 
 pub returns-in_err-print_answers-clause-prints : goal.returns-in_err-print_answers-clause-prints
 returns-in_err-print_answers-clause-prints g c = λ told before cs has.
@@ -117,14 +130,10 @@ returns-in_err-discard-clause-room g c =
 
 pub returns-in_err-discard-clause-moves : goal.returns-in_err-discard-clause-moves
 returns-in_err-discard-clause-moves g c =
-    let m = seen g.D.Device.state c.sync.new.rig in
-    let t = seen g.D.Device.state c.discard.new.rig in
-    let list = c.in_ok-records.records in
     let printed = c.print_answers.ensures.moves in
     let released = c.discard.ensures.frees.moves in
-    let moves : t.moves ≤ m.moves + list_moves list = omega (arith, printed, released) in
-    sync_moves g.S.Service.allowance g.S.Service.room _ _ _ _ (seen g.D.Device.state c.args.rig.now) m t list
-    (c.in_ok-records.ensures.gives c.requires.kind) moves
+    moved g ((goal.at.returns-in_err-discard-clause-moves g c).In_ok-records) (seen g.D.Device.state c.discard.new.rig)
+    (omega (arith, printed, released))
 
 pub returns-in_err-discard-clause-prints : goal.returns-in_err-discard-clause-prints
 returns-in_err-discard-clause-prints g c = λ told before cs has.
@@ -187,14 +196,10 @@ returns-clause-room g c =
 
 pub returns-clause-moves : goal.returns-clause-moves
 returns-clause-moves g c =
-    let m = seen g.D.Device.state c.sync.new.rig in
-    let t = seen g.D.Device.state c.discard.new.rig in
-    let list = c.in_ok-records.records in
     let printed = c.print_answers.ensures.moves in
     let released = c.discard.ensures.frees.moves in
-    let moves : t.moves ≤ m.moves + list_moves list = omega (arith, printed, released) in
-    sync_moves g.S.Service.allowance g.S.Service.room _ _ _ _ (seen g.D.Device.state c.args.rig.now) m t list
-    (c.in_ok-records.ensures.gives c.requires.kind) moves
+    moved g ((goal.at.returns-clause-moves g c).In_ok-records) (seen g.D.Device.state c.discard.new.rig)
+    (omega (arith, printed, released))
 
 pub returns-clause-prints : goal.returns-clause-prints
 returns-clause-prints g c = λ told before cs has.

@@ -1,8 +1,7 @@
 use Rattle.std.proofs.Common.{arith}
-use Rattle.std.proofs.Math.Nat.{add-zero}
 use Rattle.em_space.specs.Seen.{seen}
 use Rattle.em_space.proofs.Paying.{pays_more}
-use Rattle.em_answers.proofs.Stepping.{call_full, has_answered, has_same, none_at_other, one_at_sync, prints_other, prints_sync}
+use Rattle.em_answers.proofs.Stepping.{call_full, has_answered, has_same, none_at_other, one_at_sync, other_within, prints_other, prints_sync, sync_within}
 use Rattle.em_answers.proofs.read.give.Goals as goal
 
 -- a sync was answered, or that stopped
@@ -19,9 +18,12 @@ returns-in-Sync-clause-takes g c =
     c.answer_sync.ensures.takes
 
 pub returns-in-Sync-clause-moves : goal.returns-in-Sync-clause-moves
-returns-in-Sync-clause-moves g c =
-    rw (one_at_sync g.S.Service.KIND c.args.command c.in-Sync.is (rw c.in-Sync.is at c.requires.kind))
-    c.answer_sync.ensures.moves
+returns-in-Sync-clause-moves g c = λ given has.
+    let v = c.args.service.now in
+    let s = seen g.D.Device.state c.args.rig.now in
+    sync_within g.S.Service.allowance (g.S.Service.size v s.pool.shape) g.S.Service.KIND given c.args.command
+    (g.S.Service.counts v).syncs (g.S.Service.counts v).spent s (seen g.D.Device.state c.answer_sync.new.rig)
+    c.in-Sync.is (rw c.in-Sync.is at c.requires.kind) (c.answer_sync.ensures.moves _ _ has)
 
 pub returns-in-Sync-clause-prints : goal.returns-in-Sync-clause-prints
 returns-in-Sync-clause-prints g c = λ told given has.
@@ -39,8 +41,12 @@ returns-in-Ok-clause-takes g c =
     rw (none_at_other g.S.Service.KIND c.args.command c.in_default.not-Sync) c.in-Ok.ensures.takes
 
 pub returns-in-Ok-clause-moves : goal.returns-in-Ok-clause-moves
-returns-in-Ok-clause-moves g c =
-    rw (none_at_other g.S.Service.KIND c.args.command c.in_default.not-Sync, add-zero) c.in-Ok.ensures.moves
+returns-in-Ok-clause-moves g c = λ given has.
+    let v = c.args.service.now in
+    let s = seen g.D.Device.state c.args.rig.now in
+    other_within g.S.Service.allowance (g.S.Service.size v s.pool.shape) g.S.Service.KIND given c.args.command
+    (g.S.Service.counts v).syncs (g.S.Service.counts v).spent s (seen g.D.Device.state c.take.new.rig)
+    c.in_default.not-Sync (c.in-Ok.ensures.moves _ _ has)
 
 pub returns-in-Ok-clause-prints : goal.returns-in-Ok-clause-prints
 returns-in-Ok-clause-prints g c = λ told given has.
@@ -49,8 +55,12 @@ returns-in-Ok-clause-prints g c = λ told given has.
 
 -- or the service gave up
 pub returns-in-Err-clause-moves : goal.returns-in-Err-clause-moves
-returns-in-Err-clause-moves g c =
-    rw (none_at_other g.S.Service.KIND c.args.command c.in_default.not-Sync, add-zero) c.in-Err.ensures.moves
+returns-in-Err-clause-moves g c = λ given has.
+    let v = c.args.service.now in
+    let s = seen g.D.Device.state c.args.rig.now in
+    other_within g.S.Service.allowance (g.S.Service.size v s.pool.shape) g.S.Service.KIND given c.args.command
+    (g.S.Service.counts v).syncs (g.S.Service.counts v).spent s (seen g.D.Device.state c.take.new.rig)
+    c.in_default.not-Sync (c.in-Err.ensures.moves _ _ has)
 
 pub returns-in-Err-clause-prints : goal.returns-in-Err-clause-prints
 returns-in-Err-clause-prints g c = λ told given has.

@@ -5,9 +5,7 @@ use Rattle.em_model.specs.Stab.{stab_answers}
 use Rattle.em_model.specs.Sync.{since_sync, up_to_sync}
 use Rattle.em_model.specs.declared.command.Command.{Command}
 use Rattle.em_space.specs.Seen.{seen}
-use Rattle.em_space.proofs.Steps.{goes_nothing, same_frames}
-use Rattle.em_space.proofs.Within.{goes_within, within_same, within_then}
-use Rattle.em_chain.proofs.Keeps.{touches_none}
+use Rattle.em_space.proofs.Within.{within_same, within_then}
 use Rattle.em_lines.specs.CommandLine.{parsed_from}
 use Rattle.em_lines.specs.LineTaken.{LineTaken}
 use Rattle.em_lines.specs.Lines.{lines_of}
@@ -15,10 +13,12 @@ use Rattle.em_lines.specs.RunSize.{run_size}
 use Rattle.em_lines.proofs.ReadLaws.{counted_left, counted_more, counted_none, counted_read, good_more}
 use Rattle.em_lines.proofs.Steps.{reads_then}
 use Rattle.em_services.specs.Service.{syncs_for}
-use Rattle.em_answers.proofs.Listing.{alone_next, syncs_same, stabs_next, taken_most}
+use Rattle.em_services.proofs.Areas.{goes_on_nothing, goes_on_within, syncs_shared, within_equal}
+use Rattle.em_answers.proofs.Listing.{alone_larger, alone_next, stabs_next, taken_most}
 use Rattle.em_answers.proofs.ReadingStops.{stops_command}
 use Rattle.em_answers.proofs.Rooms.{alone_keeps, call_keeps}
 use Rattle.em_answers.proofs.ServiceMoves.{command_reads, given_reads}
+use Rattle.em_answers.proofs.Sizes.{equal_size}
 use Rattle.em_answers.proofs.Synced.{given_all, given_faulty, given_stopped, given_unread, printed_next, printed_none}
 use Rattle.em_answers.proofs.read.read_all.Goals as goal
 
@@ -31,13 +31,15 @@ loop-next-init g c =
     let kind = g.S.Service.KIND in
     let n = g.met.S.Service.n_is service s [] [] r.none in
     record {
-      goes = record { sound = r.sound; touches = touches_none _ s s (goes_nothing s r.sound).touches; frames = same_frames s.pool };
+      goes = goes_on_nothing (g.S.Service.areas service) _ s r.sound;
       free = r.free;
       joins = refl;
+      sizes = refl;
       is = r.is;
       within = within_same s _;
-      alone = r.alone;
       given = [];
+      alone = alone_larger g.S.Service.allowance g.S.Service.room (g.S.Service.size service s.pool.shape []) _ _ s
+          g.met.S.Service.rising r.sound.shape r.alone;
       has = r.none;
       printed = λ d. printed_none (g.S.Service.combiner c.args.service.now) g.met.W.Sink.rule (g.met.W.Sink.is_state c.args.out.now) kind;
       write_later = omega arith;
@@ -78,8 +80,9 @@ returns-in-Err-Fault-clause-moves g c = λ told.
     let laws = g.met.S.Service in
     let service = c.loop-next.service in
     let mid = seen g.D.Device.state c.loop-next.rig in
-    given_reads g.S.Service.allowance g.S.Service.room g.S.Service.KIND _ _ _ _ (g.S.Service.counts service)
-    (seen g.D.Device.state c.args.rig.now) mid inv.given _ laws.rising inv.goes inv.alone (inv.good told)
+    given_reads g.S.Service.allowance g.S.Service.room (g.S.Service.size c.args.service.now) g.S.Service.KIND _ _ _ _
+    (g.S.Service.counts service) (seen g.D.Device.state c.args.rig.now) mid inv.given _ laws.rising
+    (laws.size_rises c.args.service.now) inv.goes inv.alone (inv.good told)
     (laws.n_is service mid _ _ inv.has) (laws.syncs_few service mid _ _ inv.has)
     (counted_read g.S.Service.KIND inv.reads c.in-Err-Fault.ensures.reads.reads told (inv.counted told))
 
@@ -103,8 +106,9 @@ returns-in-Err-Read-clause-moves g c = λ told.
     let laws = g.met.S.Service in
     let service = c.loop-next.service in
     let mid = seen g.D.Device.state c.loop-next.rig in
-    given_reads g.S.Service.allowance g.S.Service.room g.S.Service.KIND _ _ _ _ (g.S.Service.counts service)
-    (seen g.D.Device.state c.args.rig.now) mid inv.given _ laws.rising inv.goes inv.alone (inv.good told)
+    given_reads g.S.Service.allowance g.S.Service.room (g.S.Service.size c.args.service.now) g.S.Service.KIND _ _ _ _
+    (g.S.Service.counts service) (seen g.D.Device.state c.args.rig.now) mid inv.given _ laws.rising
+    (laws.size_rises c.args.service.now) inv.goes inv.alone (inv.good told)
     (laws.n_is service mid _ _ inv.has) (laws.syncs_few service mid _ _ inv.has)
     (counted_read g.S.Service.KIND inv.reads c.in-Err-Read.ensures.reads.reads told (inv.counted told))
 
@@ -119,6 +123,20 @@ returns-in-Err-Read-clause-most g c =
 pub returns-in_default-clause-reads : goal.returns-in_default-clause-reads
 returns-in_default-clause-reads g c =
     reads_then _ _ _ _ _ _ _ c.loop-next.invariant.reads c.in-Ok.ensures.reads.reads
+
+pub returns-in_default-clause-alone : goal.returns-in_default-clause-alone
+returns-in_default-clause-alone g c =
+    let inv = c.loop-next.invariant in
+    record {
+      taken = inv.given;
+      are_all = λ told.
+          let ended = rw c.in_default.is at (c.in-Ok.ensures.ended told) in
+          let none = ap (λ s. (parsed_from g.S.Service.KIND ((g.S.Service.counts c.loop-next.service).n + 1)
+          (lines_of s)).good) ended.0 in
+          sym (inv.good told ∙ ap (λ r. inv.given ++ r) none ∙ append-nil inv.given);
+      has = inv.has;
+      alone = inv.alone;
+    }
 
 pub returns-in_default-clause-taken : goal.returns-in_default-clause-taken
 returns-in_default-clause-taken g c = λ told.
@@ -151,8 +169,9 @@ returns-in_default-clause-moves g c = λ told.
     let laws = g.met.S.Service in
     let service = c.loop-next.service in
     let mid = seen g.D.Device.state c.loop-next.rig in
-    given_reads g.S.Service.allowance g.S.Service.room g.S.Service.KIND _ _ _ _ (g.S.Service.counts service)
-    (seen g.D.Device.state c.args.rig.now) mid inv.given _ laws.rising inv.goes inv.alone (inv.good told)
+    given_reads g.S.Service.allowance g.S.Service.room (g.S.Service.size c.args.service.now) g.S.Service.KIND _ _ _ _
+    (g.S.Service.counts service) (seen g.D.Device.state c.args.rig.now) mid inv.given _ laws.rising
+    (laws.size_rises c.args.service.now) inv.goes inv.alone (inv.good told)
     (laws.n_is service mid _ _ inv.has) (laws.syncs_few service mid _ _ inv.has)
     (counted_read g.S.Service.KIND inv.reads c.in-Ok.ensures.reads.reads told (inv.counted told))
 
@@ -167,7 +186,7 @@ returns-in_default-clause-most g c =
 pub returns-in_err-give-clause-goes : goal.returns-in_err-give-clause-goes
 returns-in_err-give-clause-goes g c =
     let inv = c.loop-next.invariant in
-    goes_within _ _ (seen g.D.Device.state c.args.rig.now)
+    goes_on_within _ _ _ _ _ (seen g.D.Device.state c.args.rig.now)
     (seen g.D.Device.state c.loop-next.rig) (seen g.D.Device.state c.give.new.rig) inv.goes
     inv.within c.in_err-give.ensures.goes
 
@@ -189,11 +208,13 @@ returns-in_err-give-clause-moves g c = λ told.
     let taken = counted_left kind _ _ c.take_line.new.feed
     (g.H.Shelf.stand c.take_line.new.shelf) c.args.feed.now.slot (counts.n + 1) more
     (l.reads.reads.slot ∙ inv.reads.slot) (omega arith) in
-    command_reads g.S.Service.allowance g.S.Service.room kind _ _ _ _ counts
-    (seen g.D.Device.state c.args.rig.now) mid (seen g.D.Device.state c.give.new.rig) inv.given
-    c.in-Some.command _ laws.rising inv.goes inv.alone
+    command_reads g.S.Service.allowance g.S.Service.room (g.S.Service.size c.args.service.now)
+    (g.S.Service.size service) kind _ _ _ _ counts (seen g.D.Device.state c.args.rig.now) mid
+    (seen g.D.Device.state c.give.new.rig) inv.given c.in-Some.command _ laws.rising
+    (laws.size_rises c.args.service.now) inv.sizes inv.goes inv.alone
     (inv.good told ∙ ap (λ r. inv.given ++ r.good) line.from) (laws.n_is service mid _ _ inv.has)
-    (laws.syncs_few service mid _ _ inv.has) taken c.in_err-give.ensures.moves
+    (laws.syncs_few service mid _ _ inv.has) taken
+    (c.in_err-give.ensures.moves inv.given inv.has)
 
 pub returns-in_err-give-clause-most : goal.returns-in_err-give-clause-most
 returns-in_err-give-clause-most g c =
@@ -266,19 +287,26 @@ loop-next-preserved g c =
     let mid = seen g.D.Device.state c.loop-next.rig in
     let last = seen g.D.Device.state c.give.new.rig in
     let held = g.S.Service.blocks c.args.service.now first in
+    let size = g.S.Service.size c.args.service.now in
+    let now = g.S.Service.size c.loop-next.service in
+    let given = inv.given ++ command ∷ [] in
     let line : IsTrue g.H.Shelf.tells → LineTaken kind (count + 1) before after command =
     λ told. rw c.KIND.ensures at (rw inv.number at (rw c.in-Some.is at (l.taken told))) in
     let n = v.takes.n in
     record {
-      goes = goes_within held _ first mid last inv.goes inv.within v.goes;
-      free = syncs_same mid.pool last.pool inv.free v.goes.frames;
+      goes = goes_on_within _ _ _ held _ first mid last inv.goes inv.within v.goes;
+      free = syncs_shared _ _ mid.pool last.pool inv.free v.goes.frames;
       joins = v.joins ∙ inv.joins;
+      sizes = v.sizes ∙ inv.sizes;
       is = v.is;
       within = within_then first mid held _ _ inv.goes.touches inv.within v.takes.within;
-      alone = alone_next g.S.Service.allowance g.S.Service.room (syncs_for kind (command ∷ [])) _ _ counts
-          (g.S.Service.counts c.give.new.service) mid last g.met.S.Service.rising_room inv.goes.sound.shape
-          inv.alone v.goes.touches v.takes v.room v.moves;
       given = inv.given ++ command ∷ [];
+      alone = alone_next g.S.Service.allowance g.S.Service.room (syncs_for kind (command ∷ [])) (size first.pool.shape given)
+          _ _ counts (g.S.Service.counts c.give.new.service) mid last g.met.S.Service.rising_room inv.goes.sound.shape
+          inv.alone v.goes.touches v.takes v.room (within_equal g.S.Service.allowance (now mid.pool.shape given)
+          (size first.pool.shape given) (counts.syncs + syncs_for kind (command ∷ [])) counts.spent mid last
+          (equal_size size now mid.pool.shape first.pool.shape given given inv.sizes inv.goes.touches.shape refl)
+          (v.moves inv.given inv.has));
       has = v.has inv.given inv.has;
       printed = λ d. printed_next (g.S.Service.combiner c.args.service.now) g.met.W.Sink.rule (g.met.W.Sink.is_state c.args.out.now) kind inv.given
           (inv.printed d) command (rw inv.joins at (v.prints (inv.goes.touches.told ∙ d) inv.given inv.has)).all;

@@ -4,13 +4,12 @@ use Rattle.em_model.specs.Stab.{stab_answers}
 use Rattle.em_model.specs.Sync.{since_sync, up_to_sync}
 use Rattle.em_model.specs.declared.command.Command.{Command}
 use Rattle.em_space.specs.Held.{Within}
-use Rattle.em_space.specs.Rig.{Goes}
 use Rattle.em_space.specs.Seen.{seen}
 use Rattle.em_lines.specs.CommandLine.{parsed_from, first_fault, good_commands}
 use Rattle.em_lines.specs.Lines.{lines_of}
 use Rattle.em_lines.specs.Reads.{Reads}
 use Rattle.em_lines.proofs.ReadLaws.{Counted}
-use Rattle.em_services.specs.Service.{CanSync}
+use Rattle.em_services.specs.Service.{CanSync, GoesOn}
 use Rattle.em_answers.specs.Answer.{synced_text}
 use Rattle.em_answers.specs.Reading.{StandsAlone}
 use Rattle.em_answers.proofs.read.read_all.Given as goal
@@ -25,14 +24,16 @@ invariant-loop-next g l =
     let n = (g.S.Service.counts l.service).n in
     let held = g.S.Service.blocks l.fn.service first in
     record {
-      goes : Goes held first now;
-      free : CanSync now.pool;
+      goes : GoesOn (g.S.Service.areas l.fn.service) (g.S.Service.areas l.service) held first now;
+      free : CanSync (g.S.Service.areas l.service) now.pool;
       joins : g.S.Service.combiner l.service ≡ g.S.Service.combiner l.fn.service;
+      sizes : g.S.Service.size l.service ≡ g.S.Service.size l.fn.service;
       is : g.S.Service.IsService l.service now;
       within : Within first held (g.S.Service.blocks l.service now);
-      alone : StandsAlone g.S.Service.allowance g.S.Service.room
-          (g.S.Service.blocks l.service now) (g.S.Service.counts l.service) now;
       given : List Command;
+      alone : StandsAlone g.S.Service.allowance g.S.Service.room
+          (g.S.Service.size l.fn.service first.pool.shape given)
+          (g.S.Service.blocks l.service now) (g.S.Service.counts l.service) now;
       has : g.S.Service.Has l.service now (up_to_sync given) (since_sync given);
       printed : IsTrue first.device.told → g.W.Sink.state l.out
           ≡ g.W.Sink.took (g.W.Sink.state l.fn.out) (synced_text (g.S.Service.combiner l.fn.service) kind given);

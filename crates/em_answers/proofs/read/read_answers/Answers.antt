@@ -31,7 +31,7 @@ returns-in-Err-clause-synced g c = λ t d.
 
 pub returns-in-Err-clause-moves : goal.returns-in-Err-clause-moves
 returns-in-Err-clause-moves g c = λ t.
-    new_reads g.S.Service.allowance g.S.Service.KIND _ _ (seen g.D.Device.state c.args.rig.now)
+    new_reads g.S.Service.allowance (g.S.Service.size_by c.args.rule) g.S.Service.KIND _ _ (seen g.D.Device.state c.args.rig.now)
     (seen g.D.Device.state c.new.new.rig) g.met.S.Service.rising c.requires.unused.sound.shape
     c.requires.none_moved c.in-Err.ensures.moves
 
@@ -65,12 +65,15 @@ returns-in-Ok-answers-clause-blocks g c = λ t d.
     let a = c.in-Ok-answers.ensures in
     let here = r.goes.touches.told ∙ made.touches.told ∙ d in
     let taken = r.taken t in
-    let len = g.met.S.Service.n_is c.read_all.new.service u _ _ (r.has t)
+    let service = c.read_all.new.service in
+    let joins = r.joins ∙ c.in-Ok.ensures.joins in
+    let len = g.met.S.Service.n_is service u _ _ (r.has t)
     ∙ ap (λ (cs : List Command). length cs) (sync_parts good) in
-    records_blocks (g.S.Service.combiner_of c.args.rule) kind text left s v c.in-Ok-answers.records c.requires.unused.sound.shape
+    records_blocks (g.S.Service.combiner_of c.args.rule) (g.S.Service.size_by c.args.rule) (g.S.Service.size service) kind
+    text left s u v c.in-Ok-answers.records c.requires.unused.sound.shape (r.goes.touches.shape ∙ made.touches.shape)
     (a.gives.touches.shape ∙ r.goes.touches.shape ∙ made.touches.shape) a.leaves.is
-    (a.gives.touches.told ∙ here) (a.leaves.packed here)
-    (rw (r.joins ∙ c.in-Ok.ensures.joins) at (a.items here _ _ (r.has t)))
+    (a.gives.touches.told ∙ here) (a.leaves.packed here) (rw joins at (a.items here _ _ (r.has t)))
+    (r.sizes ∙ c.in-Ok.ensures.sizes) (rw joins at (g.met.S.Service.answers_few service u _ _ (r.has t)))
     (omega (arith, taken, len))
 
 pub returns-in-Ok-answers-clause-synced : goal.returns-in-Ok-answers-clause-synced
@@ -86,11 +89,11 @@ returns-in-Ok-answers-clause-moves g c = λ t.
     let service = c.read_all.new.service in
     let u = seen g.D.Device.state c.read_all.new.rig in
     let laws = g.met.S.Service in
-    all_reads g.S.Service.allowance g.S.Service.room g.S.Service.KIND _ _ (g.S.Service.blocks service u)
-    (g.S.Service.counts service) (seen g.D.Device.state c.args.rig.now) u
-    (seen g.D.Device.state c.answers.new.rig) laws.rising r.goes.sound.shape
-    (r.goes.touches.told ∙ made.touches.told) (r.goes.touches.shape ∙ made.touches.shape) r.alone
-    (c.in-Ok-answers.ensures.moves _ _ (r.has t)) (r.taken t) (laws.n_is service u _ _ (r.has t))
+    all_reads g.S.Service.allowance g.S.Service.room (g.S.Service.size_by c.args.rule) (g.S.Service.size service)
+    g.S.Service.KIND _ _ (g.S.Service.blocks service u) (g.S.Service.counts service)
+    (seen g.D.Device.state c.args.rig.now) u (seen g.D.Device.state c.answers.new.rig) laws.rising
+    (r.sizes ∙ c.in-Ok.ensures.sizes) r.goes.sound.shape (r.goes.touches.told ∙ made.touches.told)
+    (r.goes.touches.shape ∙ made.touches.shape) r.alone.alone (c.in-Ok-answers.ensures.moves _ _ (r.has t)) (r.taken t) (laws.n_is service u _ _ (r.has t))
     (laws.syncs_few service u _ _ (r.has t))
 
 pub returns-in-Ok-answers-clause-most : goal.returns-in-Ok-answers-clause-most
@@ -102,7 +105,7 @@ returns-in-Ok-answers-clause-most g c =
     let a = c.in-Ok-answers.ensures in
     answers_keep g.S.Service.allowance g.S.Service.room g.H.Shelf.tells g.S.Service.KIND _ _ _
     (g.S.Service.blocks service u) (g.S.Service.counts service) u (seen g.D.Device.state c.answers.new.rig)
-    laws.rising_room r.goes.sound.shape a.gives.touches r.alone (λ t. a.room _ _ (r.has t)) r.taken
+    laws.rising_room r.goes.sound.shape a.gives.touches r.alone.alone (λ t. a.room _ _ (r.has t)) r.taken
     (λ t. laws.n_is service u _ _ (r.has t))
 
 pub returns-in-Err-answers-clause-synced : goal.returns-in-Err-answers-clause-synced
@@ -118,11 +121,11 @@ returns-in-Err-answers-clause-moves g c = λ t.
     let service = c.read_all.new.service in
     let u = seen g.D.Device.state c.read_all.new.rig in
     let laws = g.met.S.Service in
-    all_reads g.S.Service.allowance g.S.Service.room g.S.Service.KIND _ _ (g.S.Service.blocks service u)
-    (g.S.Service.counts service) (seen g.D.Device.state c.args.rig.now) u
-    (seen g.D.Device.state c.answers.new.rig) laws.rising r.goes.sound.shape
-    (r.goes.touches.told ∙ made.touches.told) (r.goes.touches.shape ∙ made.touches.shape) r.alone
-    (c.in-Err-answers.ensures.moves _ _ (r.has t)) (r.taken t) (laws.n_is service u _ _ (r.has t))
+    all_reads g.S.Service.allowance g.S.Service.room (g.S.Service.size_by c.args.rule) (g.S.Service.size service)
+    g.S.Service.KIND _ _ (g.S.Service.blocks service u) (g.S.Service.counts service)
+    (seen g.D.Device.state c.args.rig.now) u (seen g.D.Device.state c.answers.new.rig) laws.rising
+    (r.sizes ∙ c.in-Ok.ensures.sizes) r.goes.sound.shape (r.goes.touches.told ∙ made.touches.told)
+    (r.goes.touches.shape ∙ made.touches.shape) r.alone.alone (c.in-Err-answers.ensures.moves _ _ (r.has t)) (r.taken t) (laws.n_is service u _ _ (r.has t))
     (laws.syncs_few service u _ _ (r.has t))
 
 pub returns-in-Err-answers-clause-stop : goal.returns-in-Err-answers-clause-stop
@@ -142,7 +145,7 @@ returns-in-Err-answers-clause-stop g c =
     stops_answers g.H.Shelf g.W.Sink g.S.Service.allowance g.S.Service.room kind c.args.feed.now
     c.args.shelf.now c.read_all.new.shelf c.args.out.now c.read_all.new.out _
     (g.S.Service.blocks c.in-Ok.service m) now (g.S.Service.counts service) s m u v c.in-Err-answers.fault
-    g.met.S.Service.rising_room made.touches made.within r.goes r.alone a.gives a.owes a.cause r.taken
+    g.met.S.Service.rising_room made.touches made.within r.goes r.alone.alone a.gives a.owes a.cause r.taken
     (λ t. g.met.S.Service.n_is service u _ _ (r.has t) ∙ ap (λ (cs : List Command). length cs) (sync_parts good))
     (λ t. subst (λ (cs : List Command). FullOverRoom g.S.Service.room (size_of kind cs) now u
     c.in-Err-answers.fault) (sync_parts good) (a.full _ _ (r.has t)))
@@ -156,7 +159,7 @@ returns-in-Err-answers-clause-most g c =
     let a = c.in-Err-answers.ensures in
     answers_keep g.S.Service.allowance g.S.Service.room g.H.Shelf.tells g.S.Service.KIND _ _ _
     (g.S.Service.blocks service u) (g.S.Service.counts service) u (seen g.D.Device.state c.answers.new.rig)
-    laws.rising_room r.goes.sound.shape a.gives.touches r.alone (λ t. a.room _ _ (r.has t)) r.taken
+    laws.rising_room r.goes.sound.shape a.gives.touches r.alone.alone (λ t. a.room _ _ (r.has t)) r.taken
     (λ t. laws.n_is service u _ _ (r.has t))
 
 pub returns-in-Err-read_all-clause-stop : goal.returns-in-Err-read_all-clause-stop
@@ -178,10 +181,10 @@ returns-in-Err-read_all-clause-synced g c = λ t d.
 pub returns-in-Err-read_all-clause-moves : goal.returns-in-Err-read_all-clause-moves
 returns-in-Err-read_all-clause-moves g c = λ t.
     let made = c.in-Ok.ensures.makes in
-    reads_around g.S.Service.allowance g.S.Service.KIND _ _ (seen g.D.Device.state c.args.rig.now)
+    reads_around g.S.Service.allowance (g.S.Service.size_by c.args.rule) g.S.Service.KIND _ _ (seen g.D.Device.state c.args.rig.now)
     (seen g.D.Device.state c.new.new.rig) (seen g.D.Device.state c.read_all.new.rig)
     (seen g.D.Device.state c.abandon.new.rig) made.touches.told made.touches.shape
-    c.abandon.ensures.unmoved.moves (c.in-Err-read_all.ensures.moves t)
+    c.abandon.ensures.unmoved.moves (rw (c.in-Ok.ensures.sizes) at (c.in-Err-read_all.ensures.moves t))
 
 pub returns-in-Err-read_all-clause-most : goal.returns-in-Err-read_all-clause-most
 returns-in-Err-read_all-clause-most g c =

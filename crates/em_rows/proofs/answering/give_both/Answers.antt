@@ -6,7 +6,8 @@ use Rattle.em_ends.specs.Stop.{reading}
 use Rattle.em_answers.proofs.Due.{stop_on}
 use Rattle.em_rows.specs.Answered.{TextsCause, first_text, second_text}
 use Rattle.em_rows.specs.Rows.{rows_in}
-use Rattle.em_rows.proofs.RowGiving.{gives_both, gives_front, gives_same, serves_same}
+use Rattle.em_services.proofs.Areas.{takes_shared}
+use Rattle.em_rows.proofs.RowGiving.{gives_both, gives_front, gives_same}
 use Rattle.em_rows.proofs.TwoTexts.{both_there, both_whole, first_stop, second_same, second_stops, second_unopened}
 use Rattle.em_rows.proofs.answering.give_both.Goals as goal
 
@@ -14,7 +15,7 @@ use Rattle.em_rows.proofs.answering.give_both.Goals as goal
 pub returns-in_err-give_file-clause-gives : goal.returns-in_err-give_file-clause-gives
 returns-in_err-give_file-clause-gives g c =
     let stand = g.H.Shelf.stand c.args.shelf.now in
-    gives_front g.S.Service g.met.S.Service.rising g.H.Shelf.tells
+    gives_front g.S.Service g.met.S.Service.rising g.met.S.Service.size_most g.H.Shelf.tells
     (rows_in c.args.plan.first (first_text stand c.args.first.now))
     (rows_in c.args.plan.second (second_text stand c.args.second.now)) c.args.service.now
     c.give_file.new.service (seen g.D.Device.state c.args.rig.now) (seen g.D.Device.state c.give_file.new.rig)
@@ -37,7 +38,7 @@ returns-in_err-give_file-clause-stop g c =
 -- the second file is read
 pub give_file-requires-2-clause-free : goal.give_file-requires-2-clause-free
 give_file-requires-2-clause-free g c =
-    serves_same (seen g.D.Device.state c.args.rig.now).pool (seen g.D.Device.state c.give_file.new.rig).pool
+    takes_shared _ _ (seen g.D.Device.state c.args.rig.now).pool (seen g.D.Device.state c.give_file.new.rig).pool
     c.requires.free c.in_ok-give_file.ensures.gives.goes.frames
 
 pub give_file-requires-2-clause-unopened : goal.give_file-requires-2-clause-unopened
@@ -54,12 +55,12 @@ returns-clause-gives g c =
     let t = seen g.D.Device.state c.give_file.new.rig in
     let u = seen g.D.Device.state c.give_file-2.new.rig in
     let rows = rows_in c.args.plan.second in
-    gives_both g.S.Service g.met.S.Service.rising g.H.Shelf.tells
+    gives_both g.S.Service g.met.S.Service.rising g.met.S.Service.size_most g.H.Shelf.tells
     (rows_in c.args.plan.first (first_text stand c.args.first.now)) (rows (second_text stand name))
     c.args.service.now c.give_file.new.service c.give_file-2.new.service s t u c.in_ok-give_file.ensures.gives
     c.give_file-2.result
-    (gives_same g.S.Service g.met.S.Service.rising g.H.Shelf.tells (rows (text_in mid Second (Some name)))
-    (rows (second_text stand name)) c.give_file.new.service c.give_file-2.new.service t u c.give_file-2.result
+    (gives_same g.S.Service g.met.S.Service.rising g.met.S.Service.size_most g.H.Shelf.tells
+    (rows (text_in mid Second (Some name))) (rows (second_text stand name)) c.give_file.new.service c.give_file-2.new.service t u c.give_file-2.result
     (λ told. ap rows (second_same stand mid name c.in_ok-give_file.ensures.leaves)) c.give_file-2.ensures.gives)
 
 pub returns-clause-whole : goal.returns-clause-whole

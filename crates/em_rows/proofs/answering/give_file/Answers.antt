@@ -18,7 +18,7 @@ pub returns-in_default-clause-gives : goal.returns-in_default-clause-gives
 returns-in_default-clause-gives g c =
     let s = seen g.D.Device.state c.args.rig.now in
     let service = c.args.service.now in
-    gives_none g.S.Service g.met.S.Service.rising g.H.Shelf.tells
+    gives_none g.S.Service g.met.S.Service.rising g.met.S.Service.size_most g.H.Shelf.tells
     (rows_in c.args.kind (text_in (g.H.Shelf.stand c.args.shelf.now) c.args.slot (Some c.args.name.now)))
     service s Read c.requires.sound (g.met.S.Service.frames_of service s c.requires.is)
 
@@ -29,8 +29,8 @@ returns-clause-gives g c =
     let before = g.H.Shelf.stand c.args.shelf.now in
     let opened = g.H.Shelf.stand c.open.new.self in
     let feed = c.new-feed.result in
-    gives_same g.S.Service g.met.S.Service.rising g.H.Shelf.tells (rows_in c.args.kind (rest feed opened))
-    (rows_in c.args.kind (text_in before c.args.slot (Some c.args.name.now))) c.args.service.now
+    gives_same g.S.Service g.met.S.Service.rising g.met.S.Service.size_most g.H.Shelf.tells
+    (rows_in c.args.kind (rest feed opened)) (rows_in c.args.kind (text_in before c.args.slot (Some c.args.name.now))) c.args.service.now
     c.give_rows.new.service (seen g.D.Device.state c.args.rig.now) (seen g.D.Device.state c.give_rows.new.rig)
     c.give_rows.result
     (λ told. ap (rows_in c.args.kind) (text_fed before opened c.args.slot c.args.name.now feed c.new-feed.ensures
@@ -38,6 +38,7 @@ returns-clause-gives g c =
     (record {
       goes = r.goes;
       joins = r.joins;
+      sizes = r.sizes;
       frames = r.frames;
       is = r.is;
       within = r.within;

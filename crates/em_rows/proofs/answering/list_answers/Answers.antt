@@ -41,9 +41,10 @@ returns-in-Ok-answers-clause-moves g c =
     let a = c.in-Ok-answers.ensures in
     let stand = g.H.Shelf.stand c.args.shelf.now in
     let rows = both_rows c.args.plan (first_text stand c.args.first.now) (second_text stand c.args.second.now) in
-    answered_moves g.S.Service g.met.S.Service.rising g.H.Shelf.tells rows c.in-Ok.service c.give_both.new.service
-    (seen g.D.Device.state c.args.rig.now) (seen g.D.Device.state c.new.new.rig)
-    (seen g.D.Device.state c.give_both.new.rig) (seen g.D.Device.state c.answers.new.rig) made.makes made.moves r _
+    answered_moves g.S.Service g.met.S.Service.rising g.met.S.Service.size_most g.H.Shelf.tells rows
+    c.in-Ok.service c.give_both.new.service (seen g.D.Device.state c.args.rig.now)
+    (seen g.D.Device.state c.new.new.rig) (seen g.D.Device.state c.give_both.new.rig)
+    (seen g.D.Device.state c.answers.new.rig) made.makes made.moves made.has c.requires.sound.shape r _
     a.gives.touches (λ t. a.moves [] rows (r.has t [] [] made.has))
 
 -- or gave up
@@ -64,9 +65,10 @@ returns-in-Err-answers-clause-moves g c =
     let a = c.in-Err-answers.ensures in
     let stand = g.H.Shelf.stand c.args.shelf.now in
     let rows = both_rows c.args.plan (first_text stand c.args.first.now) (second_text stand c.args.second.now) in
-    answered_moves g.S.Service g.met.S.Service.rising g.H.Shelf.tells rows c.in-Ok.service c.give_both.new.service
-    (seen g.D.Device.state c.args.rig.now) (seen g.D.Device.state c.new.new.rig)
-    (seen g.D.Device.state c.give_both.new.rig) (seen g.D.Device.state c.answers.new.rig) made.makes made.moves r _
+    answered_moves g.S.Service g.met.S.Service.rising g.met.S.Service.size_most g.H.Shelf.tells rows
+    c.in-Ok.service c.give_both.new.service (seen g.D.Device.state c.args.rig.now)
+    (seen g.D.Device.state c.new.new.rig) (seen g.D.Device.state c.give_both.new.rig)
+    (seen g.D.Device.state c.answers.new.rig) made.makes made.moves made.has c.requires.sound.shape r _
     a.gives.touches (λ t. a.moves [] rows (r.has t [] [] made.has))
 
 -- a file stopped it
@@ -84,7 +86,7 @@ pub returns-in-Err-give_both-clause-moves : goal.returns-in-Err-give_both-clause
 returns-in-Err-give_both-clause-moves g c =
     let made = c.in-Ok.ensures in
     let r = c.in-Err-give_both.ensures.gives in
-    stopped_moves g.S.Service g.met.S.Service.rising g.H.Shelf.tells _ c.in-Ok.service c.give_both.new.service
-    (seen g.D.Device.state c.args.rig.now) (seen g.D.Device.state c.new.new.rig)
+    stopped_moves g.S.Service g.met.S.Service.rising g.met.S.Service.size_most g.H.Shelf.tells _ c.in-Ok.service
+    c.give_both.new.service (seen g.D.Device.state c.args.rig.now) (seen g.D.Device.state c.new.new.rig)
     (seen g.D.Device.state c.give_both.new.rig) (seen g.D.Device.state c.abandon.new.rig) made.makes made.moves
-    c.in-Err-give_both.stop r c.abandon.ensures.gives.touches c.abandon.ensures.unmoved.moves
+    made.has c.requires.sound.shape c.in-Err-give_both.stop r c.abandon.ensures.gives.touches c.abandon.ensures.unmoved.moves

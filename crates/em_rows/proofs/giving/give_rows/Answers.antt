@@ -3,16 +3,18 @@ use Rattle.std.proofs.lemmas.List.{append-nil, length-append}
 use Rattle.em_io.specs.Feed.{rest}
 use Rattle.em_model.specs.declared.command.Command.{Command}
 use Rattle.em_space.specs.Seen.{seen}
-use Rattle.em_space.proofs.Steps.{cause_after, goes_nothing, same_frames}
-use Rattle.em_space.proofs.Within.{goes_within, within_same, within_then}
-use Rattle.em_chain.proofs.Keeps.{touches_none}
+use Rattle.em_space.proofs.Steps.{cause_after}
+use Rattle.em_space.proofs.Within.{within_same, within_then}
+use Rattle.em_services.proofs.Areas.{goes_on_nothing, goes_on_within, takes_shared}
 use Rattle.em_lines.proofs.Steps.{reads_then}
 use Rattle.em_ends.specs.declared.stop.Stop.TheVariants.{Em}
 use Rattle.em_answers.proofs.Due.{stop_on}
+use Rattle.em_rows.specs.Moves.{MovesOwn}
 use Rattle.em_rows.specs.Taken.{RowsCause}
-use Rattle.em_rows.proofs.RowGiving.{row_other, serves_same}
-use Rattle.em_rows.proofs.RowLaws.{row_fits, rows_begin, rows_end, rows_fewer, rows_more, rows_stopped, rows_whole}
-use Rattle.em_rows.proofs.RowMoves.{moves_call, moves_more, moves_next, moves_rows}
+use Rattle.em_rows.proofs.RowGiving.{row_other}
+use Rattle.em_rows.proofs.RowLaws.{row_fits, rows_begin, rows_end, rows_more, rows_stopped, rows_whole}
+use Rattle.em_rows.proofs.RowMoves.{moves_at, moves_call, moves_next, moves_refused, moves_rows}
+use Rattle.em_rows.proofs.RowSizes.{rows_joined, size_kept}
 use Rattle.em_rows.proofs.giving.give_rows.Goals as goal
 
 pub loop-next-init : goal.loop-next-init
@@ -21,13 +23,10 @@ loop-next-init g c =
     let s = seen g.D.Device.state c.args.rig.now in
     let service = c.args.service.now in
     record {
-      goes = record {
-        sound = r.sound;
-        touches = touches_none _ s s (goes_nothing s r.sound).touches;
-        frames = same_frames s.pool;
-      };
+      goes = goes_on_nothing _ _ s r.sound;
       free = r.free;
       joins = refl;
+      sizes = refl;
       is = r.is;
       within = within_same s _;
       given = [];
@@ -47,7 +46,8 @@ loop-next-init g c =
       };
       later = omega arith;
       rows = λ t. rows_begin c.args.kind (rest c.args.feed.now (g.H.Shelf.stand c.args.shelf.now));
-      since = λ start m. m;
+      since = λ start before cs h m.
+          subst (λ (xs : List Command). MovesOwn g.S.Service start (before ++ xs) service s) (sym (append-nil cs)) m;
     }
 
 -- a row is faulty
@@ -61,19 +61,25 @@ returns-in-Err-Fault-clause-reads g c =
     reads_then _ _ _ _ _ _ _ c.loop-next.invariant.reads c.in-Err-Fault.ensures.reads.reads
 
 pub returns-in-Err-Fault-clause-moves : goal.returns-in-Err-Fault-clause-moves
-returns-in-Err-Fault-clause-moves g c = λ told start m.
+returns-in-Err-Fault-clause-moves g c = λ told start before cs h m.
     let inv = c.loop-next.invariant in
-    moves_rows g.S.Service.allowance start _ c.args.kind c.loop-next.number _ _ _
-    (g.S.Service.counts c.loop-next.service) (seen g.D.Device.state c.loop-next.rig) g.met.S.Service.rising
-    inv.goes.sound.shape (inv.rows told) inv.counted (inv.since start m)
+    let now = seen g.D.Device.state c.loop-next.rig in
+    moves_rows g.S.Service.allowance start (g.S.Service.size c.loop-next.service now.pool.shape
+    (before ++ (cs ++ inv.given))) g.S.Service.KIND c.args.kind c.loop-next.number _ _ before cs inv.given now
+    g.met.S.Service.rising inv.goes.sound.shape (inv.rows told)
+    (g.met.S.Service.size_most c.loop-next.service now.pool.shape (before ++ (cs ++ inv.given)))
+    (inv.since start before cs h m).within
 
 -- the shelf failed
 pub returns-in-Err-Read-clause-moves : goal.returns-in-Err-Read-clause-moves
-returns-in-Err-Read-clause-moves g c = λ told start m.
+returns-in-Err-Read-clause-moves g c = λ told start before cs h m.
     let inv = c.loop-next.invariant in
-    moves_rows g.S.Service.allowance start _ c.args.kind c.loop-next.number _ _ _
-    (g.S.Service.counts c.loop-next.service) (seen g.D.Device.state c.loop-next.rig) g.met.S.Service.rising
-    inv.goes.sound.shape (inv.rows told) inv.counted (inv.since start m)
+    let now = seen g.D.Device.state c.loop-next.rig in
+    moves_rows g.S.Service.allowance start (g.S.Service.size c.loop-next.service now.pool.shape
+    (before ++ (cs ++ inv.given))) g.S.Service.KIND c.args.kind c.loop-next.number _ _ before cs inv.given now
+    g.met.S.Service.rising inv.goes.sound.shape (inv.rows told)
+    (g.met.S.Service.size_most c.loop-next.service now.pool.shape (before ++ (cs ++ inv.given)))
+    (inv.since start before cs h m).within
 
 -- the text's end
 pub returns-in_default-clause-reads : goal.returns-in_default-clause-reads
@@ -98,12 +104,26 @@ returns-in_default-clause-counted g c = λ told.
     let ended = rw c.in_default.is at (c.in-Ok.ensures.ended told) in
     rw (rows_end (inv.rows told) ended.0) inv.counted
 
-pub returns-in_default-clause-moves : goal.returns-in_default-clause-moves
-returns-in_default-clause-moves g c = λ told start m.
+pub returns-in_default-clause-since : goal.returns-in_default-clause-since
+returns-in_default-clause-since g c = λ start before cs h m.
     let inv = c.loop-next.invariant in
-    moves_rows g.S.Service.allowance start _ c.args.kind c.loop-next.number _ _ _
-    (g.S.Service.counts c.loop-next.service) (seen g.D.Device.state c.loop-next.rig) g.met.S.Service.rising
-    inv.goes.sound.shape (inv.rows told) inv.counted (inv.since start m)
+    record {
+      given = inv.given;
+      told = λ told.
+          let ended = rw c.in_default.is at (c.in-Ok.ensures.ended told) in sym (rows_end (inv.rows told) ended.0);
+      has = inv.has before cs h;
+      moves = inv.since start before cs h m;
+    }
+
+pub returns-in_default-clause-moves : goal.returns-in_default-clause-moves
+returns-in_default-clause-moves g c = λ told start before cs h m.
+    let inv = c.loop-next.invariant in
+    let now = seen g.D.Device.state c.loop-next.rig in
+    moves_rows g.S.Service.allowance start (g.S.Service.size c.loop-next.service now.pool.shape
+    (before ++ (cs ++ inv.given))) g.S.Service.KIND c.args.kind c.loop-next.number _ _ before cs inv.given now
+    g.met.S.Service.rising inv.goes.sound.shape (inv.rows told)
+    (g.met.S.Service.size_most c.loop-next.service now.pool.shape (before ++ (cs ++ inv.given)))
+    (inv.since start before cs h m).within
 
 -- the service takes a row
 pub take-requires-clause-kind : goal.take-requires-clause-kind
@@ -118,7 +138,7 @@ take-requires-clause-other g c =
 pub returns-in_err-take-clause-goes : goal.returns-in_err-take-clause-goes
 returns-in_err-take-clause-goes g c =
     let inv = c.loop-next.invariant in
-    goes_within _ _ (seen g.D.Device.state c.args.rig.now) (seen g.D.Device.state c.loop-next.rig)
+    goes_on_within _ _ _ _ _ (seen g.D.Device.state c.args.rig.now) (seen g.D.Device.state c.loop-next.rig)
     (seen g.D.Device.state c.take.new.rig) inv.goes inv.within c.in_err-take.ensures.goes
 
 pub returns-in_err-take-clause-reads : goal.returns-in_err-take-clause-reads
@@ -137,17 +157,21 @@ returns-in_err-take-clause-stop g c =
     c.in_err-take.ensures.cause)
 
 pub returns-in_err-take-clause-moves : goal.returns-in_err-take-clause-moves
-returns-in_err-take-clause-moves g c = λ told start m.
+returns-in_err-take-clause-moves g c = λ told start before cs h m.
     let inv = c.loop-next.invariant in
     let v = c.in_err-take.ensures in
     let mid = seen g.D.Device.state c.loop-next.rig in
     let last = seen g.D.Device.state c.take.new.rig in
+    let row = c.in-Some.command in
     let counts = g.S.Service.counts c.loop-next.service in
-    let few = rows_fewer (inv.rows told) (rw c.in-Some.is at (c.in-Ok.ensures.taken told)) in
-    moves_more g.S.Service.allowance start (counts.n + 1) _ last g.met.S.Service.rising v.goes.sound.shape
-    (omega (arith, inv.counted, few))
-    (moves_call g.S.Service.allowance start (counts.n + 1) _ counts mid last (inv.since start m) v.goes.touches
-    v.moves)
+    let all = before ++ (cs ++ inv.given) ++ row ∷ [] in
+    let size = g.S.Service.size c.loop-next.service mid.pool.shape all in
+    moves_refused g.S.Service.allowance start size g.S.Service.KIND c.args.kind (c.loop-next.number + 1) _ _ before cs
+    inv.given row last g.met.S.Service.rising v.goes.sound.shape
+    (rows_more (inv.rows told) (rw c.in-Some.is at (c.in-Ok.ensures.taken told)))
+    (g.met.S.Service.size_most c.loop-next.service mid.pool.shape all)
+    (moves_call g.S.Service.allowance start size _ counts mid last (inv.since start before cs h m) v.goes.touches
+    (v.moves before (cs ++ inv.given) (inv.has before cs h)))
 
 pub loop-next-preserved : goal.loop-next-preserved
 loop-next-preserved g c =
@@ -163,9 +187,10 @@ loop-next-preserved g c =
     let n = v.takes.n in
     let long = length-append inv.given (command ∷ []) in
     record {
-      goes = goes_within held _ first mid last inv.goes inv.within v.goes;
-      free = serves_same mid.pool last.pool inv.free v.goes.frames;
+      goes = goes_on_within _ _ _ held _ first mid last inv.goes inv.within v.goes;
+      free = takes_shared _ _ mid.pool last.pool inv.free v.goes.frames;
       joins = v.joins ∙ inv.joins;
+      sizes = v.sizes ∙ inv.sizes;
       is = v.is;
       within = within_then first mid held _ _ inv.goes.touches inv.within v.takes.within;
       given = inv.given ++ command ∷ [];
@@ -179,7 +204,16 @@ loop-next-preserved g c =
       reads = reads_then _ _ _ _ _ _ _ inv.reads l.reads.reads;
       later = omega (arith, inv.later, l.reads.later);
       rows = λ told. rows_more (inv.rows told) (rw c.in-Some.is at (l.taken told));
-      since = λ start m.
-          moves_next g.S.Service.allowance g.S.Service.room start _ _ counts
-          (g.S.Service.counts c.take.new.self) mid last v.goes.touches v.takes v.moves (inv.since start m);
+      since = λ start before cs h m.
+          let all = before ++ (cs ++ inv.given) ++ command ∷ [] in
+          let more = before ++ (cs ++ (inv.given ++ command ∷ [])) in
+          let a = g.S.Service.size c.loop-next.service in
+          let b = g.S.Service.size c.take.new.self in
+          moves_at g.S.Service.allowance start (a mid.pool.shape all) (b last.pool.shape more)
+          (g.S.Service.counts c.take.new.self) last
+          (size_kept a b mid.pool.shape last.pool.shape all more v.sizes v.goes.touches.shape
+          (rows_joined before cs inv.given (command ∷ [])))
+          (moves_next g.S.Service.allowance g.S.Service.room start (a mid.pool.shape all) _ _ counts
+          (g.S.Service.counts c.take.new.self) mid last v.goes.touches v.takes
+          (v.moves before (cs ++ inv.given) (inv.has before cs h)) (inv.since start before cs h m));
     }

@@ -2,11 +2,10 @@ use Rattle.std.proofs.Common.{◌≡◌, ℕ, ◌+◌, ◌-◌, ◌*◌, ◌≤�
 use Rattle.em_io.specs.Feed.{rest}
 use Rattle.em_model.specs.declared.command.Command.{Command}
 use Rattle.em_space.specs.Held.{Within}
-use Rattle.em_space.specs.Queue.{CanServe}
-use Rattle.em_space.specs.Rig.{Goes}
 use Rattle.em_space.specs.Seen.{seen}
 use Rattle.em_lines.specs.Reads.{Reads}
-use Rattle.em_rows.specs.Moves.{MovesFrom}
+use Rattle.em_services.specs.Service.{CanTake, GoesOn}
+use Rattle.em_rows.specs.Moves.{MovesOwn}
 use Rattle.em_rows.proofs.RowLaws.{RowsGiven}
 use Rattle.em_rows.proofs.giving.give_rows.Given as goal
 
@@ -20,9 +19,10 @@ invariant-loop-next g l =
     let counts = g.S.Service.counts l.service in
     let held = g.S.Service.blocks l.fn.service first in
     record {
-      goes : Goes held first now;
-      free : CanServe now.pool;
+      goes : GoesOn (g.S.Service.areas l.fn.service) (g.S.Service.areas l.service) held first now;
+      free : CanTake (g.S.Service.areas l.service) now.pool;
       joins : g.S.Service.combiner l.service ≡ g.S.Service.combiner l.fn.service;
+      sizes : g.S.Service.size l.service ≡ g.S.Service.size l.fn.service;
       is : g.S.Service.IsService l.service now;
       within : Within first held (g.S.Service.blocks l.service now);
       given : List Command;
@@ -36,8 +36,9 @@ invariant-loop-next g l =
           l.feed (g.H.Shelf.stand l.shelf);
       later : g.H.Shelf.faults l.fn.shelf ≤ g.H.Shelf.faults l.shelf;
       rows : IsTrue g.H.Shelf.tells → RowsGiven l.fn.kind l.number text left given;
-      since : (start : ℕ) → MovesFrom g.S.Service.allowance start had first
-          → MovesFrom g.S.Service.allowance start counts now;
+      since : (start : ℕ) (before cs : List Command) → g.S.Service.Has l.fn.service first before cs
+          → MovesOwn g.S.Service start (before ++ cs) l.fn.service first
+          → MovesOwn g.S.Service start (before ++ (cs ++ given)) l.service now;
     }
 
 abbrev pub decreases-loop-next : goal.decreases-loop-next

@@ -1,6 +1,6 @@
 use Rattle.em_space.specs.Seen.{seen}
 use Rattle.em_services.proofs.Rules.{both_still}
-use Rattle.em_services.proofs.Syncing.{handed_are, synced_cause, synced_frames, synced_full, synced_gives, synced_goes, synced_has, synced_is, synced_items, synced_moves, synced_owes, synced_room, unsynced_full, unsynced_moves, unsynced_owes, unsynced_room}
+use Rattle.em_services.proofs.Syncing.{handed_are, synced_cause, synced_frames, synced_full, synced_gives, synced_goes, synced_has, synced_is, synced_items, synced_moves, synced_owes, synced_room, synced_within, unsynced_full, unsynced_goes, unsynced_moves, unsynced_owes, unsynced_room}
 use Rattle.em_services.proofs.batch_service.BatchService.sync.Goals as goal
 
 pub order_answers-requires : goal.order_answers-requires
@@ -41,6 +41,12 @@ returns-in-Ok-clause-moves g c = λ kind.
     c.sync.new.self c.in-Ok.handed c.in-Ok.ensures.syncs c.requires.is.0 (seen g.D.Device.state c.order_answers.new.rig)
     c.in-Ok.ensures.counts c.requires.sound c.order_answers.result c.order_answers.ensures.orders
 
+pub returns-in-Ok-clause-share : goal.returns-in-Ok-clause-share
+returns-in-Ok-clause-share g c = λ kind.
+    synced_within (seen g.D.Device.state c.args.rig.now) (seen g.D.Device.state c.sync.new.rig) c.args.self.now
+    c.sync.new.self c.in-Ok.handed c.in-Ok.ensures.syncs c.requires.is.0 (seen g.D.Device.state c.order_answers.new.rig)
+    c.in-Ok.ensures.counts c.requires.sound c.order_answers.result c.order_answers.ensures.orders
+
 pub returns-in-Ok-clause-full : goal.returns-in-Ok-clause-full
 returns-in-Ok-clause-full g c =
     synced_full (seen g.D.Device.state c.args.rig.now) (seen g.D.Device.state c.sync.new.rig) c.args.self.now
@@ -56,6 +62,11 @@ returns-in-Ok-clause-room g c =
 pub returns-in-Err-clause-moves : goal.returns-in-Err-clause-moves
 returns-in-Err-clause-moves g c = λ kind.
     unsynced_moves (seen g.D.Device.state c.args.rig.now) (seen g.D.Device.state c.sync.new.rig) c.args.self.now
+    c.sync.new.self c.in-Err.fault c.in-Err.ensures.syncs c.in-Err.ensures.counts c.requires.is.0 c.requires.sound
+
+pub returns-in-Err-clause-goes : goal.returns-in-Err-clause-goes
+returns-in-Err-clause-goes g c =
+    unsynced_goes (seen g.D.Device.state c.args.rig.now) (seen g.D.Device.state c.sync.new.rig) c.args.self.now
     c.sync.new.self c.in-Err.fault c.in-Err.ensures.syncs c.in-Err.ensures.counts c.requires.is.0 c.requires.sound
 
 pub returns-in-Err-clause-room : goal.returns-in-Err-clause-room

@@ -5,7 +5,7 @@ use Rattle.em_services.proofs.batch_service.BatchService.take.Goals as goal
 
 pub returns-clause-moves : goal.returns-clause-moves
 returns-clause-moves g c =
-    take_moves (seen g.D.Device.state c.args.rig.now) (seen g.D.Device.state c.give_batch.new.rig)
+    take_moves c.args.command (seen g.D.Device.state c.args.rig.now) (seen g.D.Device.state c.give_batch.new.rig)
     c.args.self.now c.give_batch.new.batch c.requires.sound c.give_batch.ensures.counts
 
 pub returns-clause-room : goal.returns-clause-room
