@@ -3,7 +3,7 @@
 
 tests/tools/adds.py --run            runs the program on the files that the gate tries
 tests/tools/adds.py --run FROM TO    on those of these numbers
-tests/tools/adds.py --early --run .. does the same, and runs `emtool map --early` on each file too
+tests/tools/adds.py --early --run .. does the same, and runs `emtool map --early` on each file too, as the gate does
 tests/tools/adds.py NUMBER FILE      writes the file of a number
 
 Each file has puts, dels, gets, adds and syncs of a few keys or of many, with values at both ends of the range. In the last 6 of each 26
@@ -241,4 +241,5 @@ def main(words):
         sys.exit(__doc__)
 
 
-main(sys.argv[1:])
+if __name__ == "__main__":
+    main(sys.argv[1:])

@@ -21,7 +21,7 @@ use Rattle.em_pqueue.specs.ExtQueue.{counts_of as ext_counts}
 use Rattle.em_pqueue.specs.contracts.queue.ExtQueueQueue.TheImpl.{ghosts as ext}
 use Rattle.em_pqueue.specs.declared.queue.ExtQueue.{ExtQueue}
 use Rattle.std.proofs.Math.Nat.{mul-le-mul_left}
-use Rattle.em_answers.specs.Limits.{Limits, asked_by, asked_of_file, queue_limits, syncs_in}
+use Rattle.em_answers.specs.Limits.{Limits, asked_by, asked_of_file, moves_size, queue_limits, syncs_in}
 use Rattle.em_answers.specs.FileDue.{output_text}
 use Rattle.em_ready.specs.Queues.{FailsToMake}
 use Rattle.em_answers.specs.Serve.{GivesUp, WithinCalls, IsAlone}
@@ -63,18 +63,19 @@ held_to moves most = record { moves = Some moves; room = Some most }
 
 -- A run within numbers that are at most the transfer cost and the room is within these, on a device that
 -- moved none before.
-pub ended_by_cost : {took : List ℕ → List ℕ → List ℕ} (apply : Combiner)
+pub ended_by_cost : {took : List ℕ → List ℕ → List ℕ} (apply : Combiner) (early : Bool)
     (size : ShapeNumbers → (text left : List ℕ) → ℕ) (tells : Bool) (kind : FileKind)
     (text : List ℕ) (f most : ShapeNumbers → ℕ → ℕ) (shape : ShapeNumbers)
     (blocks : ℕ) (old new : Outside) (s : Status)
     → Ended tells took (asked_by apply size (held_to f most) kind text) shape blocks old new s
-    → ((left : List ℕ) → size shape text left ≡ run_size kind text left)
+    → ((left : List ℕ) → size shape text left ≡ moves_size kind early shape text left)
     → ((n : ℕ) → f shape n ≤ cost shape n) → ((n : ℕ) → most shape n ≤ room shape n)
     → old.device.moves ≡ 0
-    → Ended tells took (asked_of_file apply kind text) shape blocks old new s
-ended_by_cost apply size tells kind text f most shape blocks old new s e same few small none =
+    → Ended tells took (asked_of_file apply early kind text) shape blocks old new s
+ended_by_cost apply early size tells kind text f most shape blocks old new s e same few small none =
     let left = (new.stand.slot First).left in
-    let n = run_size kind text left in
+    let n = moves_size kind early shape text left in
+    let run = run_size kind text left in
     let y = syncs_in kind text left in
     let within : (y + 1) * f shape n ≤ (y + 1) * cost shape n = mul-le-mul_left (y + 1) (few n) in
     let kept : IsTrue tells → IsTrue old.device.told → new.device.moves ≤ (y + 1) * cost shape n =
@@ -87,25 +88,25 @@ ended_by_cost apply size tells kind text f most shape blocks old new s e same fe
       prefix = e.prefix;
       full = e.full;
       paid = e.paid;
-      room = λ t d. if_less s (most shape n) (room shape n) (small n) (e.room t d);
+      room = λ t d. if_less s (most shape run) (room shape run) (small run) (e.room t d);
       moves = λ t d. let m = kept t d in omega (arith, m);
       damaged = e.damaged;
     }
 
 module _ (apply : Combiner) {H W : Type 0} {h : ShelfGhosts H} {w : SinkGhosts W} where
   -- So is the run of a command file.
-  pub runs_by_cost : (size : ShapeNumbers → (text left : List ℕ) → ℕ) (kind : FileKind)
+  pub runs_by_cost : (early : Bool) (size : ShapeNumbers → (text left : List ℕ) → ℕ) (kind : FileKind)
       (f most : ShapeNumbers → ℕ → ℕ) (s t : RigState)
       (shelf : H) (out : W) (shelf_after : H) (out_after : W) (end : Status)
       → RunsWithin apply size h w (held_to f most) kind s t shelf out shelf_after out_after end
-      → ((text left : List ℕ) → size s.pool.shape text left ≡ run_size kind text left)
+      → ((text left : List ℕ) → size s.pool.shape text left ≡ moves_size kind early s.pool.shape text left)
       → ((n : ℕ) → f s.pool.shape n ≤ cost s.pool.shape n)
       → ((n : ℕ) → most s.pool.shape n ≤ room s.pool.shape n)
       → ((n : ℕ) → most t.pool.shape n ≤ room t.pool.shape n)
       → s.device.moves ≡ 0
-      → Runs apply h w kind s t shelf out shelf_after out_after end
-  runs_by_cost size kind f most s t shelf out shelf_after out_after end r same few small last none = record {
-    ended = ended_by_cost apply size h.tells kind ((h.stand shelf).slot First).left f most s.pool.shape s.blocks
+      → Runs apply early h w kind s t shelf out shelf_after out_after end
+  runs_by_cost early size kind f most s t shelf out shelf_after out_after end r same few small last none = record {
+    ended = ended_by_cost apply early size h.tells kind ((h.stand shelf).slot First).left f most s.pool.shape s.blocks
         (outside h w s.device shelf out) (outside h w t.device shelf_after out_after) end r.ended
         (same ((h.stand shelf).slot First).left) few small none;
     caused = r.caused;
@@ -182,12 +183,12 @@ cost_some shape n =
     omega (arith, more)
 
 -- what a device says that is full before a queue was made
-new_fills : (apply : Combiner) (tells : Bool) (text : List ℕ) (old : Outside) (s t : RigState) (fault : EmFault)
+new_fills : (apply : Combiner) (early : Bool) (tells : Bool) (text : List ℕ) (old : Outside) (s t : RigState) (fault : EmFault)
     → FailsToMake s t fault → IsShape s.pool.shape → t.pool.shape ≡ s.pool.shape → s.used ≡ 0 → s.moves ≡ 0
-    → IfStopsFull (Em fault) (FillsRun tells (asked_of_file apply Queue text) old.stand.slot t)
-new_fills apply tells text old s t em.DeviceFault f is same used none = tt
-new_fills apply tells text old s t (em.Damaged block) f is same used none = tt
-new_fills apply tells text old s t (em.Full n) f is same used none =
+    → IfStopsFull (Em fault) (FillsRun tells (asked_of_file apply early Queue text) old.stand.slot t)
+new_fills apply early tells text old s t em.DeviceFault f is same used none = tt
+new_fills apply early tells text old s t (em.Damaged block) f is same used none = tt
+new_fills apply early tells text old s t (em.Full n) f is same used none =
     let frames = ap (λ (p : ShapeNumbers). p.frames) same in
     let cause = f.cause in
     let few = f.used in
@@ -205,14 +206,14 @@ new_fills apply tells text old s t (em.Full n) f is same used none =
     }
 
 -- No queue was made.
-pub ended_unmade : (apply : Combiner) {IsState : List ℕ → Type 0} {took : List ℕ → List ℕ → List ℕ}
+pub ended_unmade : (apply : Combiner) (early : Bool) {IsState : List ℕ → Type 0} {took : List ℕ → List ℕ → List ℕ}
     (rule : IsRule IsState took) (tells : Bool) (text : List ℕ) (old new : Outside)
     (s t : RigState) (fault : EmFault) → IsState old.output → new.output ≡ old.output
     → old.device ≡ s.device → new.device ≡ t.device → Sound s → FailsToMake s t fault
     → s.used ≡ 0 → s.moves ≡ 0
-    → Ended tells took (asked_of_file apply Queue text) s.pool.shape s.blocks old new (em_status fault)
-ended_unmade apply rule tells text old new s t fault ok same before after sound f used none =
-    let asked = asked_of_file apply Queue text in
+    → Ended tells took (asked_of_file apply early Queue text) s.pool.shape s.blocks old new (em_status fault)
+ended_unmade apply early rule tells text old new s t fault ok same before after sound f used none =
+    let asked = asked_of_file apply early Queue text in
     let first : old.device.moves ≡ s.moves =
     ap (λ (d : DeviceState). d.moves) before ∙ sound.moves_is in
     let last : new.device.moves ≡ t.moves =
@@ -221,7 +222,7 @@ ended_unmade apply rule tells text old new s t fault ok same before after sound 
     ended_stop tells asked old new s t f.goes.touches f.goes.sound before after
     (λ z d. let some = cost_some s.pool.shape (run_size Queue text (new.stand.slot First).left) in
     omega (arith, some, first, last, few)) (Em fault) (fault_counts 0 0) (fault_counts 0 0) f.cause
-    (new_fills apply tells text new s t fault f sound.shape f.goes.touches.shape used none) (record {
+    (new_fills apply early tells text new s t fault f sound.shape f.goes.touches.shape used none) (record {
       fault = λ z d. tt;
       part = λ z d. part-of (sent-nothing rule ok (output_text apply Queue text) same);
     })
@@ -242,21 +243,21 @@ pub queue_goes : {s t u : RigState} {q : ExtQueue} → IsNewQueue s t q → Give
 queue_goes n x = goes_given_up (makes_ext n) x
 
 -- and its run is within the transfer cost and the room.
-pub queue_runs : (apply : Combiner) {H W : Type 0} {h : ShelfGhosts H} {w : SinkGhosts W} {s t u : RigState}
+pub queue_runs : (apply : Combiner) (early : Bool) {H W : Type 0} {h : ShelfGhosts H} {w : SinkGhosts W} {s t u : RigState}
     {q : ExtQueue} {shelf : H} {out : W} {shelf_after : H} {out_after : W} {end : Status}
     → IsUnused s → s.moves ≡ 0 → IsNewQueue s t q → GivesUp ext q t u
     → RunsWithin apply (λ shape. run_size Queue) h w (queue_limits (Some tree_room)) Queue t u shelf out shelf_after out_after end
     → (IsTrue h.tells → IsTrue t.device.told → WithinCalls (Some queue_share) t.pool.shape
     (commands_taken Queue ((h.stand shelf).slot First).left ((h.stand shelf_after).slot First).left)
     u.moves)
-    → Runs apply h w Queue s u shelf out shelf_after out_after end
-queue_runs apply {s = s} {t = t} {u = u} {shelf = shelf} {out = out} {shelf_after = shelf_after}
+    → Runs apply early h w Queue s u shelf out shelf_after out_after end
+queue_runs apply early {s = s} {t = t} {u = u} {shelf = shelf} {out = out} {shelf_after = shelf_after}
     {out_after = out_after} {end = end} unused none n x r within =
     let sound = unused.sound in
     let f : ShapeNumbers → ℕ → ℕ = λ shape size. queue_share shape size size in
     let fits : (p : ShapeNumbers) → IsShape p → (n : ℕ) → tree_room p n ≤ room p n =
     λ p is n. queue_run_room p n n (tree_room p n) is (omega arith) (omega arith) in
-    runs_by_cost apply (λ shape. run_size Queue) Queue f tree_room s u shelf out shelf_after out_after end
+    runs_by_cost apply early (λ shape. run_size Queue) Queue f tree_room s u shelf out shelf_after out_after end
     (runs_before apply Queue f tree_room s t u shelf out shelf_after out_after end n.session.touches r
     (λ z d. let m = within z d in let e = x.sound.moves_is in omega (arith, m, e)))
     (λ text left. refl) (queue_few s.pool.shape sound.shape)
@@ -297,16 +298,16 @@ unmade_write (em.Full n) P e = cc
 unmade_write (em.Damaged block) P e = cc
 
 -- So is the run if no queue was made.
-pub unmade_runs : (apply : Combiner) {H W : Type 0} {h : ShelfGhosts H} {w : SinkGhosts W}
+pub unmade_runs : (apply : Combiner) (early : Bool) {H W : Type 0} {h : ShelfGhosts H} {w : SinkGhosts W}
     {IsState : List ℕ → Type 0} {s t : RigState} {shelf : H} {out : W} {fault : EmFault}
     → IsRule IsState w.took → IsState (w.state out) → IsUnused s → s.moves ≡ 0
     → StopsNewTrunk s t fault
-    → Runs apply h w Queue s t shelf out shelf out (em_status fault)
-unmade_runs apply {h = h} {w = w} {s = s} {t = t} {shelf = shelf} {out = out} {fault = fault} rule ok
+    → Runs apply early h w Queue s t shelf out shelf out (em_status fault)
+unmade_runs apply early {h = h} {w = w} {s = s} {t = t} {shelf = shelf} {out = out} {fault = fault} rule ok
     unused none x =
     let a = x.goes.touches in
     record {
-      ended = ended_unmade apply rule h.tells ((h.stand shelf).slot First).left
+      ended = ended_unmade apply early rule h.tells ((h.stand shelf).slot First).left
           (outside h w s.device shelf out) (outside h w t.device shelf out) s t fault ok refl refl refl
           unused.sound (fails_ext x) unused.used none;
       caused = record {

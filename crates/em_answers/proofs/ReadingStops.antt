@@ -14,7 +14,8 @@ use Rattle.em_space.proofs.Within.{touches_within}
 use Rattle.em_chain.specs.Effects.{Unmoved}
 use Rattle.em_answers.specs.Limits.{Limits}
 use Rattle.em_lines.specs.CommandLine.{good_commands}
-use Rattle.em_services.specs.Service.{GivesFrames, GoesOn, RisesBySize, ServiceCounts, size_of, FullOverRoom}
+use Rattle.em_map.specs.Areas.{KeepsAreas}
+use Rattle.em_services.specs.Service.{GivesFrames, RisesBySize, ServiceCounts, size_of, FullOverRoom}
 use Rattle.em_lines.specs.RunSize.{commands_taken, run_size}
 use Rattle.em_answers.specs.Reading.{FullAtSync, IsFilled, StandsAlone, StopsReading, SyncCause, service_limits, StopCause}
 use Rattle.em_ready.specs.Ready.{IsUnused}
@@ -118,7 +119,7 @@ command_full allowance room tells kind text left held c s u faults after (Em (em
 pub stops_command : {T H W : Type 0} (h : ShelfGhosts H) (w : SinkGhosts W)
     (allowance room : Option (ShapeNumbers → ℕ → ℕ)) {own after sized : ℕ} (kind : FileKind) (feed : Fed) (shelf shelf_after : H)
     (out mid out_after : W) (first held : List ℕ) (c : ServiceCounts) (s t u : RigState) (stop : Stop)
-    (result : Result T Stop) → IsErrAnd result (λ f. f ≡ stop) → IfSome room RisesBySize → GoesOn own after first s t
+    (result : Result T Stop) → IsErrAnd result (λ f. f ≡ stop) → IfSome room RisesBySize → KeepsAreas own after first s t
     → Touches held t u → StandsAlone allowance room sized held c t → w.faults out ≤ w.faults mid
     → SyncCause (w.faults mid) (w.faults out_after) t u stop → IfStopsFull stop (FullAtSync room held c t u)
     → (IsTrue h.tells
@@ -159,7 +160,7 @@ pub stops_answers : {H W : Type 0} (h : ShelfGhosts H) (w : SinkGhosts W)
     (allowance room : Option (ShapeNumbers → ℕ → ℕ)) {own after sized : ℕ} (kind : FileKind) (feed : Fed) (shelf shelf_after : H)
     (out out_after : W) (frames : ℕ) (held now : List ℕ)
     (c : ServiceCounts) (s t u v : RigState) (fault : EmFault) → IfSome room RisesBySize
-    → Touches [] s t → Within s [] held → GoesOn own after held t u → StandsAlone allowance room sized now c u
+    → Touches [] s t → Within s [] held → KeepsAreas own after held t u → StandsAlone allowance room sized now c u
     → GivesFrames frames after now u v → Pays c.unstored (2 * u.pool.shape.frames) u v → Cause u v fault
     → (IsTrue h.tells → c.n
     ≤ commands_taken kind (rest feed (h.stand shelf)) ((h.stand shelf_after).slot feed.slot).left)

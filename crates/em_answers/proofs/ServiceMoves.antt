@@ -15,7 +15,8 @@ use Rattle.em_chain.specs.Counts.{ceiling}
 use Rattle.em_lines.specs.CommandLine.{good_commands}
 use Rattle.em_lines.specs.RunSize.{commands_taken}
 use Rattle.em_lines.specs.declared.text.FileKind.{FileKind}
-use Rattle.em_services.specs.Service.{GoesOn, RisesBySize, ServiceCounts, WithinAllowance, syncs_for}
+use Rattle.em_map.specs.Areas.{KeepsAreas}
+use Rattle.em_services.specs.Service.{RisesBySize, ServiceCounts, WithinAllowance, syncs_for}
 use Rattle.em_answers.specs.Limits.{for_each, syncs_in, taken_commands, taken_size}
 use Rattle.em_answers.specs.Reading.{KeepsAllowance, StandsAlone, moves_within}
 use Rattle.em_answers.proofs.Sizes.{RisesByCommands, equal_size, size_of_all, size_of_front}
@@ -63,7 +64,7 @@ call_reads (Some f) room size kind text left held called syncs c s t u rises is 
 pub given_reads : (allowance room : Option (ShapeNumbers → ℕ → ℕ)) {own after : ℕ}
     (size : ShapeNumbers → List Command → ℕ) (kind : FileKind) (text left first held : List ℕ) (c : ServiceCounts)
     (s t : RigState) (given rest : List Command) → IfSome allowance RisesBySize → RisesByCommands size
-    → GoesOn own after first s t → StandsAlone allowance room (size s.pool.shape given) held c t
+    → KeepsAreas own after first s t → StandsAlone allowance room (size s.pool.shape given) held c t
     → good_commands kind text ≡ given ++ rest
     → c.n ≡ length (up_to_sync given ++ since_sync given)
     → c.syncs ≤ syncs_for kind (up_to_sync given ++ since_sync given) → c.n ≤ commands_taken kind text left
@@ -79,7 +80,7 @@ given_reads allowance room size kind text left first held c s t given rest rises
 pub command_reads : (allowance room : Option (ShapeNumbers → ℕ → ℕ)) {own after sized : ℕ}
     (size now : ShapeNumbers → List Command → ℕ) (kind : FileKind) (text left first held : List ℕ) (c : ServiceCounts)
     (s t u : RigState) (given : List Command) (d : Command) (rest : List Command) → IfSome allowance RisesBySize
-    → RisesByCommands size → now ≡ size → GoesOn own after first s t → StandsAlone allowance room sized held c t
+    → RisesByCommands size → now ≡ size → KeepsAreas own after first s t → StandsAlone allowance room sized held c t
     → good_commands kind text ≡ given ++ d ∷ rest
     → c.n ≡ length (up_to_sync given ++ since_sync given)
     → c.syncs ≤ syncs_for kind (up_to_sync given ++ since_sync given) → c.n + 1 ≤ commands_taken kind text left

@@ -1,5 +1,5 @@
 -- The runs of a map and of an interval list are within their transfer cost and the room.
-use Rattle.std.proofs.Common.{◌≡◌, ℕ, ◌+◌, ◌*◌, ◌≤◌, List, arith, Some}
+use Rattle.std.proofs.Common.{◌≡◌, ℕ, ◌+◌, ◌*◌, ◌≤◌, Bool, List, refl, arith, Some}
 use Rattle.std.proofs.Math.Nat.{mul-le-mul, mul-le-mul_left}
 use Rattle.em_record.specs.Cost.{blocks_of, cost, room}
 use Rattle.em_record.specs.Shape.{IsShape, ShapeNumbers, payload_of}
@@ -13,7 +13,7 @@ use Rattle.em_tree_cost.proofs.Wider.{blocks_wider, chain_most, floors_wider}
 use Rattle.em_lines.specs.declared.text.FileKind.TheVariants.{Map, Stab}
 use Rattle.em_ends.specs.declared.status.Status.{Status}
 use Rattle.em_ready.specs.Ready.{IsUnused}
-use Rattle.em_services.specs.BatchService.{map_share}
+use Rattle.em_services.specs.BatchService.{map_share, map_size}
 use Rattle.em_services.specs.Service.{size_of}
 use Rattle.em_services.proofs.BatchAnswers.{ceiling_share}
 use Rattle.em_answers.specs.FileRun.{Runs, RunsWithin}
@@ -39,15 +39,15 @@ map_few shape is n =
     let some : (q + 1) * 1 ≤ (q + 1) * f = mul-le-mul_left (q + 1) (omega arith) in
     omega (arith, other, chain, queue, some)
 
--- and so is the run.
-pub map_runs : {H W : Type 0} (apply : Combiner) (h : ShelfGhosts H) (w : SinkGhosts W) (s t : RigState) (shelf : H)
+-- and so is the run, with its adds joined early or not.
+pub map_runs : {H W : Type 0} (apply : Combiner) (early : Bool) (h : ShelfGhosts H) (w : SinkGhosts W) (s t : RigState) (shelf : H)
     (out : W) (shelf_after : H) (out_after : W) (end : Status) → IsUnused s → s.moves ≡ 0
-    → RunsWithin apply (taken_size (λ shape. size_of Map) Map) h w (service_limits (Some map_share) (Some room)) Map s t shelf out shelf_after out_after end
-    → Runs apply h w Map s t shelf out shelf_after out_after end
-map_runs apply h w s t shelf out shelf_after out_after end unused none r =
+    → RunsWithin apply (taken_size (map_size early) Map) h w (service_limits (Some map_share) (Some room)) Map s t shelf out shelf_after out_after end
+    → Runs apply early h w Map s t shelf out shelf_after out_after end
+map_runs apply early h w s t shelf out shelf_after out_after end unused none r =
     let sound = unused.sound in
-    runs_by_cost apply (taken_size (λ shape. size_of Map) Map) Map (λ shape size. map_share shape size + ceiling size (payload_of shape))
-    room s t shelf out shelf_after out_after end r (plain_size Map)
+    runs_by_cost apply early (taken_size (map_size early) Map) Map (λ shape size. map_share shape size + ceiling size (payload_of shape))
+    room s t shelf out shelf_after out_after end r (λ text left. refl)
     (map_few s.pool.shape sound.shape) (λ n. omega arith) (λ n. omega arith)
     (let moves = sound.moves_is in omega (arith, moves, none))
 
@@ -76,13 +76,13 @@ stab_joined first apply size h w limits s t shelf out shelf_after out_after end 
 }
 
 -- and so is the run, by any combiner.
-pub stab_runs : {H W : Type 0} (first apply : Combiner) (h : ShelfGhosts H) (w : SinkGhosts W) (s t : RigState) (shelf : H)
+pub stab_runs : {H W : Type 0} (first apply : Combiner) (early : Bool) (h : ShelfGhosts H) (w : SinkGhosts W) (s t : RigState) (shelf : H)
     (out : W) (shelf_after : H) (out_after : W) (end : Status) → IsUnused s → s.moves ≡ 0
     → RunsWithin first (taken_size (λ shape. size_of Stab) Stab) h w (service_limits (Some stab_share) (Some room)) Stab s t shelf out shelf_after out_after end
-    → Runs apply h w Stab s t shelf out shelf_after out_after end
-stab_runs first apply h w s t shelf out shelf_after out_after end unused none r =
+    → Runs apply early h w Stab s t shelf out shelf_after out_after end
+stab_runs first apply early h w s t shelf out shelf_after out_after end unused none r =
     let sound = unused.sound in
-    runs_by_cost apply (taken_size (λ shape. size_of Stab) Stab) Stab (λ shape size. stab_share shape size + ceiling size (payload_of shape))
+    runs_by_cost apply early (taken_size (λ shape. size_of Stab) Stab) Stab (λ shape size. stab_share shape size + ceiling size (payload_of shape))
     room s t shelf out shelf_after out_after end
     (stab_joined first apply (taken_size (λ shape. size_of Stab) Stab) h w (service_limits (Some stab_share) (Some room)) s t
     shelf out shelf_after out_after end r)

@@ -1,17 +1,20 @@
 -- The size of the commands of a service, beside that of all that were taken of a text.
-use Rattle.std.proofs.Common.{◌≡◌, ℕ, ◌+◌, ◌-◌, ◌≤◌, List, ◌++◌, length, take, refl, ap, sym, ◌∙◌, arith}
+use Rattle.std.proofs.Common.{◌≡◌, ℕ, ◌+◌, ◌-◌, ◌≤◌, Bool, false, List, ◌++◌, length, take, drop, refl, ap, sym, ◌∙◌, arith}
 use Rattle.std.proofs.Math.Seq.{take-append-add}
-use Rattle.std.proofs.lemmas.List.{length-take, take_all}
+use Rattle.std.proofs.lemmas.List.{length-take, take-append-drop, take_all}
 use Rattle.em_record.specs.Shape.{ShapeNumbers}
+use Rattle.em_frames.specs.Pool.{load_of}
 use Rattle.em_model.specs.Sync.{since_sync, up_to_sync}
 use Rattle.em_model.specs.declared.command.Command.{Command}
 use Rattle.em_model.proofs.SyncLaws.{sync_parts}
+use Rattle.em_map.proofs.Early.{joined_most, joined_rises}
 use Rattle.em_lines.specs.CommandLine.{good_commands}
 use Rattle.em_lines.specs.RunSize.{commands_taken, run_size}
 use Rattle.em_lines.specs.declared.text.FileKind.{FileKind}
 use Rattle.em_lines.specs.declared.text.FileKind.TheVariants.{Map, Queue, Stab}
+use Rattle.em_services.specs.BatchService.{map_size}
 use Rattle.em_services.specs.Service.{size_of}
-use Rattle.em_answers.specs.Limits.{taken_commands}
+use Rattle.em_answers.specs.Limits.{moves_size, taken_commands}
 use Rattle.em_answers.proofs.Answered.{pairs_counted}
 
 -- equal sizes of equal commands
@@ -71,3 +74,31 @@ plain_size Stab text left =
     let n = length_taken Stab text left in
     let pairs = pairs_counted (taken_commands Stab text left) in
     omega (arith, n, pairs)
+
+-- If adds aren't joined early, the moves of a run go by the size of the run,
+pub plain_moves : (kind : FileKind) (shape : ShapeNumbers) (text left : List ℕ)
+    → moves_size kind false shape text left ≡ run_size kind text left
+plain_moves Map shape text left = length_taken Map text left
+plain_moves Queue shape text left = refl
+plain_moves Stab shape text left = refl
+
+-- else by no greater one.
+pub moves_few : (kind : FileKind) (early : Bool) (shape : ShapeNumbers) (text left : List ℕ)
+    → moves_size kind early shape text left ≤ run_size kind text left
+moves_few Map early shape text left =
+    let few = joined_most early (load_of shape) (taken_commands Map text left) in
+    let n = length_taken Map text left in
+    omega (arith, few, n)
+moves_few Queue early shape text left = omega arith
+moves_few Stab early shape text left = omega arith
+
+-- Those of a map go by no lesser size if more commands were taken.
+pub map_rises : (early : Bool) (shape : ShapeNumbers) (text left less : List ℕ)
+    → commands_taken Map text left ≤ commands_taken Map text less
+    → moves_size Map early shape text left ≤ moves_size Map early shape text less
+map_rises early shape text left less h =
+    let n = length_taken Map text left in
+    size_of_front (map_size early) shape Map text less (taken_commands Map text left)
+    (drop (commands_taken Map text left) (good_commands Map text))
+    (λ p cs more. joined_rises early (load_of p) cs more)
+    (sym (take-append-drop (commands_taken Map text left) (good_commands Map text))) (omega (arith, n, h))

@@ -25,9 +25,11 @@ use Rattle.em_chain.proofs.Beside.{chain_kept}
 use Rattle.em_lines.specs.Kind.{IsOfKind}
 use Rattle.em_lines.specs.declared.text.FileKind.{FileKind}
 use Rattle.em_lines.specs.declared.text.FileKind.TheVariants as kind
-use Rattle.em_services.specs.Service.{FramesOut, FullOverRoom, GivesAtSync, GoesOn, ServiceCounts, TakesCommand, WithinAllowance, WithinRoom, list_moves, records_for, syncs_for}
+use Rattle.em_map.specs.Areas.{KeepsAreas}
+use Rattle.em_services.specs.Service.{FramesOut, FullOverRoom, GivesAtSync, ServiceCounts, TakesCommand, WithinAllowance, WithinRoom, list_moves, records_for, syncs_for}
 use Rattle.em_services.specs.declared.service.Service.{Ghosts as ServiceGhosts}
-use Rattle.em_services.proofs.Areas.{goes_on, goes_on_trans, goes_on_within, out_kept}
+use Rattle.em_map.proofs.Areas.{goes_on, goes_on_trans, goes_on_within}
+use Rattle.em_services.proofs.Areas.{out_kept}
 use Rattle.aig_text.proofs.Lines.{of_error}
 use Rattle.em_answers.specs.Answer.{text_at}
 use Rattle.em_answers.specs.Print.{KeepsBlocks, PrintCause, records_text}
@@ -64,7 +66,7 @@ frames_over v law x held s t has out goes =
 -- A service that held these areas and blocks gave a list at a sync.
 pub record GaveList {S R : Type 0} (v : ServiceGhosts S R) (x : S) (own : ℕ) (held : List ℕ) (a : ServiceCounts)
     (s m : RigState) (c : Chain) : Type 0 where
-  pub goes : GoesOn own (v.areas x) held s m
+  pub goes : KeepsAreas own (v.areas x) held s m
   pub is : v.IsService x m
   pub out : FramesOut v.frames (v.areas x) m.pool
   pub gives : GivesAtSync v.allowance v.room held (v.blocks x m) a (v.counts x) s m c
@@ -97,7 +99,7 @@ module _ {S R : Type 0} (v : ServiceGhosts S R) (law : StaysLaw v) {x : S} {own 
   pub printed_list : ChainStays m p c
   printed_list = chain_kept m p c k.goes g.gives.is
 
-  pub printed_goes : GoesOn own (v.areas x) held s p
+  pub printed_goes : KeepsAreas own (v.areas x) held s p
   printed_goes = goes_on_trans own (v.areas x) (v.areas x) held [] s m p g.goes (goes_on (v.areas x) [] m p k.goes)
       (λ z j u o. tt)
 
@@ -114,7 +116,7 @@ module _ {S R : Type 0} (v : ServiceGhosts S R) (law : StaysLaw v) {x : S} {own 
 
   -- and released.
   module _ {t : RigState} (d : Goes (chain_blocks p c) p t) where
-    pub released_goes : GoesOn own (v.areas x) held s t
+    pub released_goes : KeepsAreas own (v.areas x) held s t
     released_goes = goes_on_within own (v.areas x) (v.areas x) held (chain_blocks p c) s p t printed_goes list_within
         (goes_on (v.areas x) (chain_blocks p c) p t d)
 

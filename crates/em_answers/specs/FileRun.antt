@@ -1,5 +1,5 @@
 -- The run of a command file.
-use Rattle.std.specs.Prelude.{ℕ, List}
+use Rattle.std.specs.Prelude.{ℕ, Bool, List}
 use Rattle.em_record.specs.Shape.{ShapeNumbers}
 use Rattle.em_io.specs.declared.shelf.Shelf.{Ghosts as ShelfGhosts}
 use Rattle.em_io.specs.declared.shelf.Slot.TheVariants.{First}
@@ -7,9 +7,8 @@ use Rattle.em_io.specs.declared.sink.Sink.{Ghosts as SinkGhosts}
 use Rattle.em_model.specs.Map.{Combiner}
 use Rattle.em_space.specs.Rig.{RigState}
 use Rattle.em_ends.specs.declared.status.Status.{Status}
-use Rattle.em_lines.specs.RunSize.{run_size}
 use Rattle.em_lines.specs.declared.text.FileKind.{FileKind}
-use Rattle.em_answers.specs.Limits.{Limits, asked_by, by_cost}
+use Rattle.em_answers.specs.Limits.{Limits, asked_by, by_cost, moves_size}
 use Rattle.em_answers.specs.Reading.{KeepsRoom}
 use Rattle.em_ends.specs.Opens.{IsAllRead, ReadsFirst}
 use Rattle.em_ends.specs.Status.{OnDone, OnNoMemory, OnUsage}
@@ -34,8 +33,9 @@ pub record RunsWithin {H W : Type 0} (apply : Combiner) (size : ShapeNumbers →
   pub no_usage : OnUsage status ⊥
   pub no_memory : OnNoMemory status ⊥
 
--- such a run that is held to the transfer cost and the room
-abbrev pub Runs : {H W : Type 0} → Combiner → ShelfGhosts H → SinkGhosts W → FileKind → RigState → RigState → H
-    → W → H → W → Status → Type 0
-Runs apply h w kind s t shelf out shelf_after out_after status =
-    RunsWithin apply (λ shape. run_size kind) h w by_cost kind s t shelf out shelf_after out_after status
+-- such a run that is held to the transfer cost, by what joining the adds of a map early would leave or by all commands, and to
+-- the room
+abbrev pub Runs : {H W : Type 0} → Combiner → (early : Bool) → ShelfGhosts H → SinkGhosts W → FileKind → RigState → RigState
+    → H → W → H → W → Status → Type 0
+Runs apply early h w kind s t shelf out shelf_after out_after status =
+    RunsWithin apply (moves_size kind early) h w by_cost kind s t shelf out shelf_after out_after status

@@ -1,5 +1,5 @@
 -- What a command file asks of a run, by the limits of the structure that answers it.
-use Rattle.std.specs.Prelude.{ℕ, ◌+◌, ◌*◌, List, false, Option, Some, None, take}
+use Rattle.std.specs.Prelude.{ℕ, ◌+◌, ◌*◌, Bool, List, false, Option, Some, None, take}
 use Rattle.em_record.specs.Cost.{cost, room}
 use Rattle.em_record.specs.Shape.{ShapeNumbers}
 use Rattle.em_io.specs.Shelf.{SlotState}
@@ -13,6 +13,7 @@ use Rattle.em_lines.specs.RunSize.{commands_taken, run_size, syncs_taken}
 use Rattle.em_lines.specs.declared.text.FileKind.{FileKind}
 use Rattle.em_lines.specs.declared.text.FileKind.TheVariants.{Map, Queue, Stab}
 use Rattle.em_ends.specs.Asked.{Asked}
+use Rattle.em_services.specs.BatchService.{map_size}
 
 -- The most moves of a command file's run, for the end and for each sync that was taken, and the blocks that are enough
 -- for it, each if its structure keeps to a number. Both go by the shape and a size: the blocks by the size of the run, the
@@ -45,6 +46,13 @@ taken_commands kind text left = take (commands_taken kind text left) (good_comma
 abbrev pub taken_size : (ShapeNumbers → List Command → ℕ) → FileKind → ShapeNumbers → (text left : List ℕ) → ℕ
 taken_size size kind shape text left = size shape (taken_commands kind text left)
 
+-- The size by which the moves of a file's run go, by how far its text was read: of a map that of the commands that were
+-- taken, by whether adds are joined early; else the size of the run.
+abbrev pub moves_size : FileKind → (early : Bool) → ShapeNumbers → (text left : List ℕ) → ℕ
+moves_size Map early shape text left = taken_size (map_size early) Map shape text left
+moves_size Queue early shape text left = run_size Queue text left
+moves_size Stab early shape text left = run_size Stab text left
+
 -- a number by a size that has the shape as one by how far each slot was read: as often as syncs were taken, and once more
 abbrev pub for_each : Option (ShapeNumbers → ℕ → ℕ) → (syncs : (Slot → SlotState) → ℕ)
     → (size : ShapeNumbers → (Slot → SlotState) → ℕ) → Option (ShapeNumbers → (Slot → SlotState) → ℕ)
@@ -62,9 +70,9 @@ asked_by apply size limits kind text = record {
   room = sized limits.room (λ slots. run_size kind text (slots First).left);
 }
 
--- what a command file asks: its run is held to the transfer cost and the room
-abbrev pub asked_of_file : Combiner → FileKind → List ℕ → Asked
-asked_of_file apply kind text = asked_by apply (λ shape. run_size kind) by_cost kind text
+-- what a command file asks whose adds are joined so, early or not: its run is held to the transfer cost and the room
+abbrev pub asked_of_file : Combiner → (early : Bool) → FileKind → List ℕ → Asked
+asked_of_file apply early kind text = asked_by apply (moves_size kind early) by_cost kind text
 
 -- What the run of a queue is held to by itself: the room that it states, if it does. Of its moves its
 -- allowance tells.

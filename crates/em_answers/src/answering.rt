@@ -21,7 +21,7 @@ use em_lines::FileKind;
 use em_map::Batch;
 use em_pqueue::ExtQueue;
 use em_segment::Stab;
-use em_services::Service;
+use em_services::{MapRule, Service};
 use em_settle::{AddSettle, Combine, Settle};
 use em_space::{Queue, Rig};
 
@@ -83,9 +83,10 @@ pub fn run_queue<D: Device, H: Shelf, W: Sink, Q: Queue>(
     }
 }
 
-/// Answers the commands of a map file in the open slot, whose adds are joined by these rules.
+/// Answers the commands of a map file in the open slot, whose adds are joined by these rules, early or not.
 fn run_map<D: Device, H: Shelf, W: Sink, F: Fn(u64, u64) -> u64 + Drop>(
     settle: AddSettle<F>,
+    early: bool,
     rig: &mut Rig<'_, D>,
     shelf: &mut H,
     out: &mut W,
@@ -96,16 +97,17 @@ fn run_map<D: Device, H: Shelf, W: Sink, F: Fn(u64, u64) -> u64 + Drop>(
     requires none_moved { (seen D.state rig.old).moves ≡ 0 }
     requires ready { ((H.stand shelf.old).slot Slot.First).ready ≡ true }
     ensures goes { Goes [] (seen D.state rig.old) (seen D.state rig.new) }
-    ensures runs { Runs (apply_of settle.kind) H.Shelf W.Sink FileKind.Map
+    ensures runs { Runs (apply_of settle.kind) early H.Shelf W.Sink FileKind.Map
         (seen D.state rig.old) (seen D.state rig.new)
         shelf.old out.old shelf.new out.new result }
 {
-    run_service::<D, H, W, Batch<F>>(settle, rig, shelf, out)
+    run_service::<D, H, W, Batch<F>>(MapRule { settle, early }, rig, shelf, out)
 }
 
 /// The same by the closure of this combiner.
 fn run_combined<D: Device, H: Shelf, W: Sink>(
     combine: Combine,
+    early: bool,
     rig: &mut Rig<'_, D>,
     shelf: &mut H,
     out: &mut W,
@@ -115,36 +117,38 @@ fn run_combined<D: Device, H: Shelf, W: Sink>(
     requires none_moved { (seen D.state rig.old).moves ≡ 0 }
     requires ready { ((H.stand shelf.old).slot Slot.First).ready ≡ true }
     ensures goes { Goes [] (seen D.state rig.old) (seen D.state rig.new) }
-    ensures runs { Runs (apply_of combine) H.Shelf W.Sink FileKind.Map
+    ensures runs { Runs (apply_of combine) early H.Shelf W.Sink FileKind.Map
         (seen D.state rig.old) (seen D.state rig.new)
         shelf.old out.old shelf.new out.new result }
 {
     match combine {
         Combine::Sum => {
             let sum = AddSettle::new(|x: u64, y: u64| x.wrapping_add(y), Combine::Sum);
-            run_map(sum, rig, shelf, out)
+            run_map(sum, early, rig, shelf, out)
         }
         Combine::Max => {
             let greatest = AddSettle::new(|x: u64, y: u64| x.max(y), Combine::Max);
-            run_map(greatest, rig, shelf, out)
+            run_map(greatest, early, rig, shelf, out)
         }
         Combine::Min => {
             let least = AddSettle::new(|x: u64, y: u64| x.min(y), Combine::Min);
-            run_map(least, rig, shelf, out)
+            run_map(least, early, rig, shelf, out)
         }
         Combine::Xor => {
             let exclusive = AddSettle::new(|x: u64, y: u64| x ^ y, Combine::Xor);
-            run_map(exclusive, rig, shelf, out)
+            run_map(exclusive, early, rig, shelf, out)
         }
     }
 }
 
 /// Answers the commands of the open slot, on a rig of which no block is or was in use. The adds of a map file are joined
-/// by this combiner.
+/// by this combiner. With `early` the moves are held to what joining each run of adds leaves of the commands; the answers are
+/// the same.
 #[tactic(auto, using(crate::proofs::Moves::queue_alone, crate::proofs::Moves::queue_serves))]
 pub fn run_open<D: Device, H: Shelf, W: Sink>(
     kind: FileKind,
     combine: Combine,
+    early: bool,
     rig: &mut Rig<'_, D>,
     shelf: &mut H,
     out: &mut W,
@@ -154,11 +158,11 @@ pub fn run_open<D: Device, H: Shelf, W: Sink>(
     requires none_moved { (seen D.state rig.old).moves ≡ 0 }
     requires ready { ((H.stand shelf.old).slot Slot.First).ready ≡ true }
     ensures goes { Goes [] (seen D.state rig.old) (seen D.state rig.new) }
-    ensures runs { Runs (apply_of combine) H.Shelf W.Sink kind (seen D.state rig.old) (seen D.state rig.new)
-        shelf.old out.old shelf.new out.new result }
+    ensures runs { Runs (apply_of combine) early H.Shelf W.Sink kind
+        (seen D.state rig.old) (seen D.state rig.new) shelf.old out.old shelf.new out.new result }
 {
     match kind {
-        FileKind::Map => run_combined(combine, rig, shelf, out),
+        FileKind::Map => run_combined(combine, early, rig, shelf, out),
         FileKind::Queue => match ExtQueue::new(rig) {
             Ok(queue) => run_queue(rig, queue, shelf, out),
             Err(fault) => status_of(Stop::Em(fault)),

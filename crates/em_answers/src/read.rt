@@ -23,7 +23,8 @@ ghost use Rattle.em_answers.specs.Print.{records_text};
 ghost use Rattle.em_answers.specs.Reading.{FullAtSync, KeepsAllowance, KeepsRoom, StandsAlone, StopsReading, SyncCause, TookCommands, moves_within, service_limits, ReadsAll};
 ghost use Rattle.em_answers.specs.Serve.{Answers as AnswersAll};
 ghost use Rattle.em_ends.specs.Stop.{IfStopsFull, Prints};
-ghost use Rattle.em_services.specs.Service.{CanSync, GoesOn, TakesCommand, WithinAllowance, WithinRoom, records_for, syncs_for};
+ghost use Rattle.em_map.specs.Areas.{KeepsAreas};
+ghost use Rattle.em_services.specs.Service.{CanSync, TakesCommand, WithinAllowance, WithinRoom, records_for, syncs_for};
 
 use crate::print::{Answers, print_answers};
 use em_chain::discard;
@@ -57,7 +58,7 @@ fn answer_sync<D: Device, W: Sink, S: Service>(
     requires free { CanSync (S.areas service.old) (seen D.state rig.old).pool }
     requires few { (S.counts service.old).n < 2 ^ 40 }
     requires kind { IsOfKind S.KIND variants.Sync }
-    ensures goes { GoesOn (S.areas service.old) (S.areas service.new)
+    ensures goes { KeepsAreas (S.areas service.old) (S.areas service.new)
         (S.blocks service.old (seen D.state rig.old)) (seen D.state rig.old) (seen D.state rig.new) }
     ensures joins { S.combiner service.new ≡ S.combiner service.old }
     ensures sizes { S.size service.new ≡ S.size service.old }
@@ -109,7 +110,7 @@ fn give<D: Device, W: Sink, S: Service>(
     requires free { CanSync (S.areas service.old) (seen D.state rig.old).pool }
     requires few { (S.counts service.old).n < 2 ^ 40 }
     requires kind { IsOfKind S.KIND command }
-    ensures goes { GoesOn (S.areas service.old) (S.areas service.new)
+    ensures goes { KeepsAreas (S.areas service.old) (S.areas service.new)
         (S.blocks service.old (seen D.state rig.old)) (seen D.state rig.old) (seen D.state rig.new) }
     ensures joins { S.combiner service.new ≡ S.combiner service.old }
     ensures sizes { S.size service.new ≡ S.size service.old }
@@ -169,7 +170,7 @@ fn read_all<D: Device, H: Shelf, W: Sink, S: Service>(
     requires free { CanSync (S.areas service.old) (seen D.state rig.old).pool }
     requires ready { ((H.stand shelf.old).slot feed.old.slot).ready ≡ true }
     requires place { feed.old.place ≡ 0 }
-    ensures goes { GoesOn (S.areas service.old) (S.areas service.new)
+    ensures goes { KeepsAreas (S.areas service.old) (S.areas service.new)
         (S.blocks service.old (seen D.state rig.old)) (seen D.state rig.old) (seen D.state rig.new) }
     ensures joins { S.combiner service.new ≡ S.combiner service.old }
     ensures sizes { S.size service.new ≡ S.size service.old }

@@ -13,7 +13,7 @@ use Rattle.em_settle.specs.declared.step.Step.{Step}
 use Rattle.em_settle.proofs.Keys.{key_at}
 use Rattle.em_settle.proofs.States.{left_at, answers_same, same_answers}
 use Rattle.em_settle.specs.Add.{add_step_of, IsAssociative}
-use Rattle.em_combine.specs.Joining.{is_add, are_joined, join_two, joined_from, joined, SameOutcome, CameInTurn, JoinsLoad}
+use Rattle.em_combine.specs.Joining.{is_add, may_join, join_two, joined_from, joined, SameOutcome, CameInTurn, JoinsLoad}
 use Rattle.em_combine.proofs.Counts.{joined_length}
 use Rattle.em_combine.proofs.Outcomes.{is_joined, one_key, step_of_add, joined_same, one_step}
 use Rattle.em_combine.proofs.Turns.{order_by_key, turn_same, turn_joined}
@@ -34,7 +34,7 @@ module _ (apply : ℕ → ℕ → ℕ) (assoc : IsAssociative apply) where
       }
 
   -- what is stored under each key after one add for two
-  stored_two : (m : Stored) (x y : Record) → are_joined x y ≡ true → (q : Record)
+  stored_two : (m : Stored) (x y : Record) → may_join x y ≡ true → (q : Record)
       → with_op map_key_of (add_step_of apply) m (join_two apply x y) q
       ≡ with_op map_key_of (add_step_of apply) (with_op map_key_of (add_step_of apply) m x) y q
   stored_two m x y t q =
@@ -57,7 +57,7 @@ module _ (apply : ℕ → ℕ → ℕ) (assoc : IsAssociative apply) where
       (cases_Bool (has_key map_key_of q y))
 
   -- what one add for two and those after it answer
-  answers_two : (m : Stored) (x y : Record) (zs : List Record) → are_joined x y ≡ true
+  answers_two : (m : Stored) (x y : Record) (zs : List Record) → may_join x y ≡ true
       → answers_to map_key_of (add_step_of apply) m (join_two apply x y ∷ zs)
       ≡ answers_to map_key_of (add_step_of apply) m (x ∷ y ∷ zs)
   answers_two m x y zs t =
@@ -82,14 +82,14 @@ module _ (apply : ℕ → ℕ → ℕ) (assoc : IsAssociative apply) where
   answers_from m x [] = refl
   answers_from m x (y ∷ ys) =
       let step = add_step_of apply in ⊎_elim
-      (λ (t : are_joined x y ≡ true).
+      (λ (t : may_join x y ≡ true).
       ap (answers_to map_key_of step m) (cond-true _ _ _ t)
       ∙ (answers_from m (join_two apply x y) ys ∙ answers_two m x y ys t))
-      (λ (f : are_joined x y ≡ false).
+      (λ (f : may_join x y ≡ false).
       ap (answers_to map_key_of step m) (cond-false _ _ _ f)
       ∙ ap (λ (rs : List Record). option_to_list (step (m (map_key_of x)) x).answer ++ rs)
       (answers_from (with_op map_key_of step m x) y ys))
-      (cases_Bool (are_joined x y))
+      (cases_Bool (may_join x y))
 
   answers_joined : (m : Stored) (ys : List Record)
       → answers_to map_key_of (add_step_of apply) m (joined apply ys)

@@ -11,7 +11,7 @@ use Rattle.em_settle.specs.States.{stored_after}
 use Rattle.em_settle.specs.declared.step.Step.{Step}
 use Rattle.em_settle.proofs.Keys.{first_of_key, none_of_key}
 use Rattle.em_settle.specs.Add.{add_step_of, added, IsAssociative}
-use Rattle.em_combine.specs.Joining.{is_add, are_joined, join_two, joined_from, joined, answers_of_key, SameOutcome}
+use Rattle.em_combine.specs.Joining.{is_add, may_join, join_two, joined_from, joined, answers_of_key, SameOutcome}
 
 -- the parts of a test of two
 pub both : (p q : Bool) → (p && q) ≡ true → (p ≡ true) × (q ≡ true)
@@ -24,7 +24,7 @@ pub record Joined (x y : Record) : Type 0 where
   pub first : is_add x ≡ true
   pub second : is_add y ≡ true
 
-pub is_joined : (x y : Record) → are_joined x y ≡ true → Joined x y
+pub is_joined : (x y : Record) → may_join x y ≡ true → Joined x y
 is_joined x y e =
     let p = both (x.a == y.a) (is_add x && is_add y) e in
     let q = both (is_add x) (is_add y) p.1 in
@@ -78,7 +78,7 @@ module _ (apply : ℕ → ℕ → ℕ) (assoc : IsAssociative apply) where
   added_twice (Some r) k m n = assoc r.d m n
 
   -- One add does what two do.
-  pub one_step : (x y : Record) → are_joined x y ≡ true → (old : Option Record)
+  pub one_step : (x y : Record) → may_join x y ≡ true → (old : Option Record)
       → add_step_of apply old (join_two apply x y) ≡ add_step_of apply (add_step_of apply old x).stored y
   one_step x y t old =
       let step = add_step_of apply in
@@ -91,7 +91,7 @@ module _ (apply : ℕ → ℕ → ℕ) (assoc : IsAssociative apply) where
       ∙ sym (step_of_add apply (step old x).stored y p.second)))
 
   -- And so do those after it.
-  pub join_same : (x y : Record) (zs : List Record) → are_joined x y ≡ true
+  pub join_same : (x y : Record) (zs : List Record) → may_join x y ≡ true
       → SameOutcome (add_step_of apply) (join_two apply x y ∷ zs) (x ∷ y ∷ zs)
   join_same x y zs t =
       let step = add_step_of apply in
@@ -108,7 +108,7 @@ module _ (apply : ℕ → ℕ → ℕ) (assoc : IsAssociative apply) where
       }
 
   -- the same of each key's operations
-  join_by_key : (q x y : Record) (zs : List Record) → are_joined x y ≡ true
+  join_by_key : (q x y : Record) (zs : List Record) → may_join x y ≡ true
       → SameOutcome (add_step_of apply) (of_key map_key_of q (join_two apply x y ∷ zs))
       (of_key map_key_of q (x ∷ y ∷ zs))
   join_by_key q x y zs t =
@@ -165,14 +165,14 @@ module _ (apply : ℕ → ℕ → ℕ) (assoc : IsAssociative apply) where
       let P : List Record → Type 0 = λ ls.
       SameOutcome step (of_key map_key_of q ls) (of_key map_key_of q (x ∷ y ∷ ys)) in
       ⊎_elim
-      (λ (t : are_joined x y ≡ true).
+      (λ (t : may_join x y ≡ true).
       let j = join_two apply x y in
       subst P (sym (cond-true _ _ _ t))
       (same_trans step _ _ _ (joined_from_same q j ys) (join_by_key q x y ys t)))
-      (λ (f : are_joined x y ≡ false).
+      (λ (f : may_join x y ≡ false).
       subst P (sym (cond-false _ _ _ f))
       (more_by_key q x (joined_from apply y ys) (y ∷ ys) (joined_from_same q y ys)))
-      (cases_Bool (are_joined x y))
+      (cases_Bool (may_join x y))
 
   pub joined_same : (q : Record) (xs : List Record)
       → SameOutcome (add_step_of apply) (of_key map_key_of q (joined apply xs)) (of_key map_key_of q xs)

@@ -19,7 +19,7 @@ use Rattle.em_settle.specs.Rising.{AllAbove, Rises}
 use Rattle.em_settle.proofs.Keys.{key_is, first_of_key, none_of_key, of_key_append}
 use Rattle.em_settle.proofs.Sorts.{sorted_same}
 use Rattle.em_settle.specs.Add.{IsAddOp}
-use Rattle.em_combine.specs.Joining.{are_joined, join_two, joined_from, joined, IsBefore, IsAfter, NumbersRise, CameInTurn}
+use Rattle.em_combine.specs.Joining.{may_join, join_two, joined_from, joined, IsBefore, IsAfter, NumbersRise, CameInTurn}
 use Rattle.em_combine.proofs.Outcomes.{is_joined, one_key}
 
 -- a record that was put in its place stands among the same records
@@ -131,7 +131,7 @@ turn_same xs ys e h q = subst NumbersRise (e q) (h q)
 
 module _ (apply : ℕ → ℕ → ℕ) where
   -- what is said of two adds of a key is said of the one for both
-  two_of : (P : List Record → Type 0) (q x y : Record) (ys : List Record) → are_joined x y ≡ true
+  two_of : (P : List Record → Type 0) (q x y : Record) (ys : List Record) → may_join x y ≡ true
       → ((zs : List Record) → P (x ∷ y ∷ zs) → P (join_two apply x y ∷ zs))
       → P (of_key map_key_of q (x ∷ y ∷ ys)) → P (of_key map_key_of q (join_two apply x y ∷ ys))
   two_of P q x y ys t keep h =
@@ -173,13 +173,13 @@ module _ (apply : ℕ → ℕ → ℕ) where
   before_joined n q x [] h = h
   before_joined n q x (y ∷ ys) h =
       let P : List Record → Type 0 = λ zs. IsBefore n (of_key map_key_of q zs) in ⊎_elim
-      (λ (t : are_joined x y ≡ true).
+      (λ (t : may_join x y ≡ true).
       subst P (sym (cond-true _ _ _ t)) (before_joined n q (join_two apply x y) ys
       (two_of (IsBefore n) q x y ys t (λ zs b. (b.1.0, b.1.1)) h)))
-      (λ (f : are_joined x y ≡ false).
+      (λ (f : may_join x y ≡ false).
       subst P (sym (cond-false _ _ _ f)) (more_of (IsBefore n) q x (y ∷ ys) (joined_from apply y ys)
       (λ b. (b.0, before_joined n q y ys b.1)) (before_joined n q y ys) h))
-      (cases_Bool (are_joined x y))
+      (cases_Bool (may_join x y))
 
   -- and rise
   rises_joined : (q x : Record) (ys : List Record) → NumbersRise (of_key map_key_of q (x ∷ ys))
@@ -187,13 +187,13 @@ module _ (apply : ℕ → ℕ → ℕ) where
   rises_joined q x [] h = h
   rises_joined q x (y ∷ ys) h =
       let P : List Record → Type 0 = λ zs. NumbersRise (of_key map_key_of q zs) in ⊎_elim
-      (λ (t : are_joined x y ≡ true).
+      (λ (t : may_join x y ≡ true).
       subst P (sym (cond-true _ _ _ t)) (rises_joined q (join_two apply x y) ys
       (two_of NumbersRise q x y ys t (λ zs r. r.1) h)))
-      (λ (f : are_joined x y ≡ false).
+      (λ (f : may_join x y ≡ false).
       subst P (sym (cond-false _ _ _ f)) (more_of NumbersRise q x (y ∷ ys) (joined_from apply y ys)
       (λ r. (before_joined x.b q y ys r.0, rises_joined q y ys r.1)) (rises_joined q y ys) h))
-      (cases_Bool (are_joined x y))
+      (cases_Bool (may_join x y))
 
   -- A joined list is in turn as the list was.
   pub turn_joined : (xs : List Record) → CameInTurn xs → CameInTurn (joined apply xs)
@@ -206,13 +206,13 @@ module _ (apply : ℕ → ℕ → ℕ) where
   all_from P keep x [] h k = All-cons P x [] h (All-nil P)
   all_from P keep x (y ∷ ys) h k =
       let Q : List Record → Type 0 = All P in ⊎_elim
-      (λ (t : are_joined x y ≡ true).
+      (λ (t : may_join x y ≡ true).
       subst Q (sym (cond-true _ _ _ t))
       (all_from P keep (join_two apply x y) ys (keep x y h (All-head P y ys k)) (All-tail P y ys k)))
-      (λ (f : are_joined x y ≡ false).
+      (λ (f : may_join x y ≡ false).
       subst Q (sym (cond-false _ _ _ f))
       (All-cons P x _ h (all_from P keep y ys (All-head P y ys k) (All-tail P y ys k))))
-      (cases_Bool (are_joined x y))
+      (cases_Bool (may_join x y))
 
   pub all_joined : (P : Record → Type 0) → ((x y : Record) → P x → P y → P (join_two apply x y))
       → (xs : List Record) → All P xs → All P (joined apply xs)

@@ -34,8 +34,8 @@ others [] = 0
 others (x ∷ xs) = cond (is_add x) 0 1 + others xs
 
 -- both are adds of one key
-abbrev pub are_joined : Record → Record → Bool
-are_joined x y = (x.a == y.a) && (is_add x && is_add y)
+abbrev pub may_join : Record → Record → Bool
+may_join x y = (x.a == y.a) && (is_add x && is_add y)
 
 -- one add for two: it has the number of the second
 abbrev pub join_two : (ℕ → ℕ → ℕ) → Record → Record → Record
@@ -45,7 +45,7 @@ join_two apply x y = record { a = y.a; b = y.b; c = 3; d = apply x.d y.d }
 abbrev pub joined_from : (ℕ → ℕ → ℕ) → Record → List Record → List Record
 joined_from apply x [] = x ∷ []
 joined_from apply x (y ∷ ys) =
-    cond (are_joined x y) (joined_from apply (join_two apply x y) ys) (x ∷ joined_from apply y ys)
+    cond (may_join x y) (joined_from apply (join_two apply x y) ys) (x ∷ joined_from apply y ys)
 
 -- a list in which adds of one key that stand next to each other become one
 abbrev pub joined : (ℕ → ℕ → ℕ) → List Record → List Record

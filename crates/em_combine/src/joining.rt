@@ -7,14 +7,14 @@
 //! ```
 ghost use Rattle.std.specs.Prelude.{◌≡◌, ◌+◌, ◌<◌, ◌≤◌, length, take};
 ghost use Rattle.em_settle.specs.Add.{apply_of};
-ghost use Rattle.em_combine.specs.Joining.{are_joined as joins, join_two as two_joined, joined};
+ghost use Rattle.em_combine.specs.Joining.{may_join as joins, join_two as two_joined, joined};
 ghost use Rattle.em_combine.specs.Front.{JoinsNext};
 
 use em_record::Record;
 use em_settle::{AddSettle, Settle};
 
 /// Whether both are adds of one key.
-fn are_joined(first: Record, second: Record) -> bool
+fn may_join(first: Record, second: Record) -> bool
     ensures { result ≡ joins first second }
 {
     first.a == second.a && (first.c == 3 && second.c == 3)
@@ -49,7 +49,7 @@ fn join_next<F: Fn(u64, u64) -> u64 + Drop>(
     ensures { JoinsNext (apply_of settle.now.kind) records.old records.new kept next result }
 {
     let last = records[kept];
-    if are_joined(last, next) {
+    if may_join(last, next) {
         records[kept] = join_two(settle, last, next);
         return kept;
     }

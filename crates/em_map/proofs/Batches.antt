@@ -1,51 +1,53 @@
--- The calls of a batch, from those of its tree.
-use Rattle.std.specs.Prelude.{◌≡◌, Bool, ℕ, ◌+◌, ◌-◌, ◌<◌, ◌≤◌, ◌^◌, max, List, [], ◌∷◌, ◌++◌, IsTrue, Result, Ok, Err, None, option_to_list}
+-- The calls of a batch that doesn't join adds early, from those of its tree; and a new batch.
+use Rattle.std.specs.Prelude.{◌≡◌, Bool, true, false, ℕ, ◌+◌, ◌-◌, ◌<◌, ◌≤◌, ◌^◌, max, List, [], ◌∷◌, ◌++◌, length, IsTrue, Option, None, IfErr, IfSome, Result, Ok, Err, option_to_list}
 use Rattle.std.proofs.Common.{sym, ap, subst, ◌∙◌, refl, arith}
+use Rattle.std.proofs.lemmas.Bool.{true≢false}
 use Rattle.std.specs.List.Sorted.{IsPermutation}
-use Rattle.std.proofs.lemmas.List.{length-append}
-use Rattle.std.proofs.lemmas.List.Sorted.{IsPermutation-refl, IsPermutation-trans}
+use Rattle.std.proofs.lemmas.List.Sorted.{IsPermutation-refl}
 use Rattle.em_record.specs.declared.record.Record.{Record}
 use Rattle.em_model.specs.Map.{Combiner}
-use Rattle.em_model.specs.MapAnswers.{answers_after}
-use Rattle.em_model.specs.Sync.{syncs_of}
 use Rattle.em_model.specs.declared.command.Command.{Command}
-use Rattle.em_model.specs.declared.command.Command.TheVariants.{Put, Add, Del, Get, Sync, Push, Pop, Interval, Stab}
-use Rattle.em_model.proofs.SyncLaws.{syncs-append}
 use Rattle.em_settle.specs.Add.{IsAddOp, add_step_of}
 use Rattle.em_settle.specs.Keys.{of_key, record_at}
 use Rattle.em_settle.specs.Map.{IsMapKept, map_key_of}
-use Rattle.em_space.specs.Rig.{RigState, Sound, Touches}
+use Rattle.em_settle.specs.States.{stored_after}
+use Rattle.em_frames.specs.Pool.{PoolCounts, SameFrames, load_of}
+use Rattle.em_space.specs.Rig.{IfFull, RigState, Sound, Touches}
 use Rattle.em_space.specs.declared.fault.EmFault.{EmFault}
-use Rattle.em_chain.specs.Chain.{chain_items}
-use Rattle.em_chain.specs.declared.chain.Chain.{Chain}
 use Rattle.em_tree_cost.specs.Books.{TreeCounts, count_push}
-use Rattle.em_tree_model.specs.Meaning.{nothing, tree_answers, tree_contents}
+use Rattle.em_tree_model.specs.Meaning.{tree_answers}
 use Rattle.em_tree_model.specs.Owed.{owed}
 use Rattle.em_tree_model.specs.Ranges.{IsTree, least_record}
 use Rattle.em_tree_model.specs.Tree.{Tree, stored_at, stored_in, waiting_at, waiting_in}
 use Rattle.em_tree_model.proofs.Paths.{in_leaf, on_path}
 use Rattle.em_tree_model.proofs.RowPlaces.{all_keys}
 use Rattle.em_tree_model.proofs.Takes.{nothing_owed}
-use Rattle.em_settle.specs.States.{stored_after}
-use Rattle.em_tree.specs.Calls.{ChangesTrunk, CountsCall, FinishCosts, FinishesTrunk, IsNewTrunk, PushesOp}
+use Rattle.em_tree.specs.Calls.{ChangesTrunk, CountsCall, IsNewTrunk, PushesOp}
+use Rattle.em_tree.specs.Pushing.{NeedsMore}
 use Rattle.em_trunk.specs.Meaning.{IsLater}
 use Rattle.em_trunk.specs.Trunk.{given_by, model_of}
-use Rattle.em_map.specs.Batch.{BatchCosts, CountsCommand, FinishesBatch, HasCommands, IsBatch, IsNewBatch, TakesTo, contents_after, rule_of, trunk_of}
-use Rattle.em_map.specs.Commands.{map_op, map_ops, ops_after}
+use Rattle.em_trunk.specs.declared.trunk.Trunk.{Trunk}
+use Rattle.em_combine.specs.Gather.{GatherState}
+use Rattle.em_map.specs.Areas.{SharesAreas}
+use Rattle.em_map.specs.Batch.{CommandNeedsMore, CountsCommand, HasArea, IsBatch, IsLoad, IsNewBatch, TakesCommand, TakesTo, areas_in, areas_of, entered_of, gathered_in, ops_in, rule_of, trunk_of}
+use Rattle.em_map.specs.Commands.{map_op}
 use Rattle.em_map.specs.Contents.{UpTo, WaitsUpTo, key_record}
+use Rattle.em_map.specs.Early.{gathered_after, joined_size, left_of}
+use Rattle.em_map.specs.Loading.{CountsPushes, EntersTree}
 use Rattle.em_map.specs.declared.batch.Batch.{Batch}
-use Rattle.em_map.proofs.Contents.{answers_follow}
+use Rattle.em_map.proofs.Early.{left_one}
 use Rattle.em_map.proofs.Numbers.{waits_below, waits_next}
-use Rattle.em_map.proofs.Ordered.{in_order_of}
-use Rattle.em_map.proofs.Pushed.{all_next, answers_next, contents_both, contents_next, ops_next}
-use Rattle.em_map.proofs.Rules.{commands_by, same_rule}
-use Rattle.em_map.proofs.Shares.{within_batch}
+use Rattle.em_map.proofs.Stands.{Stands, batch_is, stands_entered, stands_is, stands_next}
+use Rattle.em_map.proofs.Taken.{counts_command, has_entered}
 
 -- The next operation is above all that waits for its key, and above the stored record.
-pub next_later : {F : Type 0} {s : RigState} (b : Batch F) (op : Record) → IsBatch s b → op.b ≡ b.calls + 1
+pub next_later : {F : Type 0} {s : RigState} (b : Batch F) (op : Record) → IsBatch s b → b.load ≡ None → op.b ≡ b.calls + 1
     → IsTrue s.device.told → IsLater map_key_of (model_of s (trunk_of b)) op
-next_later {s = s} b op is e told =
-    let below = waits_below b.calls op e (model_of s (trunk_of b)) (is.waits told) in
+next_later {s = s} b op is none e told =
+    let zero : length (gathered_in b) ≡ 0 = ap (λ (l : Option GatherState). length (ops_in l)) none in
+    let n : entered_of b ≡ b.calls = omega (arith, zero) in
+    let below = waits_below b.calls op e (model_of s (trunk_of b))
+    (subst (λ k. WaitsUpTo k (model_of s (trunk_of b))) n (is.waits told)) in
     record { waiting = below.0; stored = below.1 }
 
 -- A tree in which nothing is stored or waits.
@@ -81,148 +83,212 @@ told_before : {held : List ℕ} {s t : RigState} → Touches held s t → IsTrue
     → IsTrue s.device.told
 told_before touches told = subst (λ (z : Bool). IsTrue z) touches.told told
 
+-- not both
+not_both : (x : Bool) → x ≡ true → x ≡ false → ⊥
+not_both x e f = true≢false (sym e ∙ f)
+
+-- no area came or went
+pub shares_as : (before after : ℕ) (p q : PoolCounts) → after ≡ before → SameFrames p q → SharesAreas before after p q
+shares_as before after p q e f = record {
+  shape = f.shape;
+  free = f.free;
+  areas = omega (arith, f.free_areas, e);
+  rack = f.rack;
+  peak = f.peak;
+}
+
 -- A new tree is that of a batch with no command.
-pub is_new : {F : Type 0} {s t : RigState} (b : Batch F) → b.calls ≡ 0 → b.syncs ≡ 0
+pub is_new : {F : Type 0} {s t : RigState} (b : Batch F) → b.calls ≡ 0 → b.syncs ≡ 0 → b.load ≡ None
     → IsNewTrunk map_key_of IsAddOp IsMapKept s t (trunk_of b) → IsNewBatch s t b
-is_new {s = s} {t = t} b e f n =
+is_new {s = s} {t = t} b e f none n =
     let model = model_of t (trunk_of b) in
     let back : IsTrue t.device.told → IsTrue s.device.told = told_before n.session.touches in
     let is : IsTrue t.device.told → IsTree map_key_of model least_record None =
     λ told. (n.is.running.stands told).is in
+    let none_pushed : (trunk_of b).pushed ≡ 0 = ap (λ (c : TreeCounts). c.n) n.counts in
+    let no_ops : gathered_in b ≡ [] = ap ops_in none in
+    let zero : length (gathered_in b) ≡ 0 = ap (λ (xs : List Record). length xs) no_ops in
+    let due : IsTrue t.device.told → tree_answers map_key_of (add_step_of (rule_of b)) (given_by t (trunk_of b)) model ≡ [] =
+    λ told. ap (λ zs. zs ++ owed map_key_of (add_step_of (rule_of b)) model) (n.given (back told))
+    ∙ nothing_owed map_key_of (add_step_of (rule_of b)) model (n.waiting (back told)) in
     record {
-      is = record {
+      is = batch_is t b (record {
         is = n.is;
-        pushed = let k = ap (λ (c : TreeCounts). c.n) n.counts in omega (arith, k, e, f);
+        pushed = omega (arith, none_pushed, zero, e, f);
         longest = let k = ap (λ (c : TreeCounts). c.k) n.counts in omega (arith, k);
         few = omega (arith, e);
         settled = ap (λ (c : TreeCounts). c.y) n.counts ∙ sym f;
         unreset = ap (λ (c : TreeCounts). c.z) n.counts;
-        waits = λ told. subst (λ k. WaitsUpTo k model) (sym e)
+        waits = λ told. subst (λ k. WaitsUpTo k model) (let k : 0 ≡ b.calls - length (gathered_in b) = omega (arith, e) in k)
             (no_numbers (rule_of b) model (is told) (n.stored (back told)) (n.waiting (back told)));
-      };
+        answers = λ told. let none_due = ap (λ (rs : List Record). length rs) (due told) in omega (arith, none_due);
+      }) (λ plain. none) (λ plain. omega (arith, none_pushed, e, f)) (subst (λ (l : Option GatherState). IfSome l (HasArea t)) (sym none) tt)
+          (subst (λ (l : Option GatherState). IfSome l (IsLoad t (entered_of b))) (sym none) tt);
       tree = n;
       none = record {
         calls = omega (arith, e);
         syncs = omega (arith, f);
-        contents = λ told. no_contents (rule_of b) model (is told) (n.stored (back told)) (n.waiting (back told));
-        answers = λ told. no_answers (rule_of b) model (is told) (n.stored (back told)) (n.waiting (back told))
-            (given_by t (trunk_of b)) (n.given (back told));
-      };
-    }
-
--- a command with an operation is no sync
-op_no_sync : (n : ℕ) (c : Command) (op : Record) → map_op n c ≡ op ∷ [] → syncs_of (c ∷ []) ≡ 0
-op_no_sync n (Put k v) op e = refl
-op_no_sync n (Add k v) op e = refl
-op_no_sync n (Del k) op e = refl
-op_no_sync n (Get k) op e = refl
-op_no_sync n Sync op e = absurd (cc)
-op_no_sync n (Push k v) op e = refl
-op_no_sync n Pop op e = refl
-op_no_sync n (Interval low high) op e = refl
-op_no_sync n (Stab point) op e = refl
-
--- what a push leaves of a tree's numbers
-module _ {F : Type 0} {s t : RigState} (b d : Batch F) (is : IsBatch s b)
-    (c : CountsCall (count_push 0) s t (trunk_of b) (trunk_of d)) where
-  pushed_more : (trunk_of d).pushed ≡ (trunk_of b).pushed + 1
-  pushed_more = ap (λ (z : TreeCounts). z.n) c.counts
-
-  settled_same : (trunk_of d).settled ≡ b.syncs
-  settled_same = ap (λ (z : TreeCounts). z.y) c.counts ∙ is.settled
-
-  none_reset : (trunk_of d).resets ≡ 0
-  none_reset = ap (λ (z : TreeCounts). z.z) c.counts ∙ is.unreset
-
-  longest_more : (trunk_of d).longest ≤ b.calls + 1
-  longest_more =
-      let e : (trunk_of d).longest ≡ max (trunk_of b).longest ((trunk_of b).since + 1) =
-      ap (λ (z : TreeCounts). z.k) c.counts in
-      omega (arith, e, is.longest, is.is.running.numbers.since_most)
-
-  -- The numbers of a call that gives a command.
-  pub counts_command : Sound s → d.calls ≡ b.calls + 1 → d.syncs ≡ b.syncs → CountsCommand s t b d
-  counts_command sound e f = record {
-    calls = e;
-    syncs = f;
-    tree = c;
-    share = λ told. within_batch s.pool.shape (trunk_of d).pushed d.calls (trunk_of d).longest
-        (trunk_of d).resets (trunk_of d).settled d.syncs (trunk_of d).spent d.syncs sound.shape
-        (omega (arith, pushed_more, is.pushed, e)) (omega (arith, longest_more, e)) none_reset
-        (omega (arith, settled_same, f)) (c.share told).within (omega arith);
-  }
-
-  -- What such a call did.
-  pub takes_command : (command : Command) (op : Record) → b.calls < 2 ^ 40 → d.tree.settle ≡ b.tree.settle
-      → d.calls ≡ b.calls + 1 → d.syncs ≡ b.syncs → map_op (b.calls + 1) command ≡ op ∷ [] → op.b ≡ b.calls + 1
-      → (r : Result (Unit {0}) EmFault)
-      → PushesOp map_key_of (add_step_of (rule_of b)) IsAddOp IsMapKept op s t (trunk_of b) (trunk_of d) r
-      → TakesTo command s t b d r
-  takes_command command op few rule e f ops number (Ok x) p =
-      let back : IsTrue t.device.told → IsTrue s.device.told = told_before p.session.touches in
-      let old = model_of s (trunk_of b) in
-      let new = model_of t (trunk_of d) in
-      record {
-        is = record {
-          is = p.is;
-          pushed = omega (arith, pushed_more, is.pushed, e, f);
-          longest = omega (arith, longest_more, e);
-          few = omega (arith, few, e);
-          settled = settled_same ∙ sym f;
-          unreset = none_reset;
-          waits = λ told. subst (λ n. WaitsUpTo n new) (sym e)
-              (waits_next (rule_of b) b.calls op number old new
-              (p.meaning (back told)).advances (is.waits (back told)));
+        closed = [];
+        unclosed = [];
+        parts = refl;
+        gathered = no_ops;
+        tree = record {
+          contents = λ told. no_contents (rule_of b) model (is told) (n.stored (back told)) (n.waiting (back told));
+          answers = λ told. no_answers (rule_of b) model (is told) (n.stored (back told)) (n.waiting (back told))
+              (given_by t (trunk_of b)) (n.given (back told));
         };
-        tree = subst (λ zs. ChangesTrunk map_key_of (add_step_of (rule_of b)) IsAddOp IsMapKept zs s t (trunk_of b)
-            (trunk_of d)) (sym ops) p;
-        commands = λ before cs h.
-            let all : map_ops (before ++ (cs ++ command ∷ [])) ≡ map_ops (before ++ cs) ++ op ∷ [] =
-            all_next before cs command b.calls h.calls ∙ ap (λ zs. map_ops (before ++ cs) ++ zs) ops in
-            let next : ops_after before (cs ++ command ∷ []) ≡ ops_after before cs ++ op ∷ [] =
-            ops_next before cs command b.calls h.calls ∙ ap (λ zs. ops_after before cs ++ zs) ops in
-            commands_by t d (rule_of b) (same_rule b d rule) before (cs ++ command ∷ [])
-            (omega (arith, e, h.calls, length-append cs (command ∷ [])))
-            (omega (arith, f, h.syncs, syncs-append cs (command ∷ []), op_no_sync (b.calls + 1) command op ops))
-            (λ told. contents_next (rule_of b) nothing (tree_contents map_key_of (add_step_of (rule_of b)) old)
-            (tree_contents map_key_of (add_step_of (rule_of b)) new) [] [] (map_ops (before ++ cs)) (op ∷ [])
-            (map_ops (before ++ (cs ++ command ∷ [])))
-            (h.contents (back told)) all (p.meaning (back told)).contents)
-            (λ told. answers_next (rule_of b) (contents_after (rule_of b) before)
-            (tree_contents map_key_of (add_step_of (rule_of b)) old)
-            (tree_contents map_key_of (add_step_of (rule_of b)) new)
-            (tree_answers map_key_of (add_step_of (rule_of b)) (given_by s (trunk_of b)) old)
-            (tree_answers map_key_of (add_step_of (rule_of b)) (given_by t (trunk_of d)) new) (ops_after before cs)
-            (op ∷ []) (ops_after before (cs ++ command ∷ []))
-            (λ q. h.contents (back told) q ∙ contents_both (rule_of b) before cs q) next (h.answers (back told))
-            (p.meaning (back told)).answers);
-      }
-  takes_command command op few rule e f ops number (Err fault) p = p
-
--- The answers of a batch that was finished.
-pub finishes_batch : {F : Type 0} (s t : RigState) (b : Batch F) (r : Result Chain EmFault)
-    → FinishesTrunk map_key_of (add_step_of (rule_of b)) s t (trunk_of b) r → FinishesBatch s t b r
-finishes_batch s t b (Ok c) f =
-    let all : IsTrue s.device.told → (before cs : List Command) → HasCommands s b before cs
-    → IsPermutation (answers_after (rule_of b) before cs) (chain_items t c) = λ told before cs h.
-    subst (λ zs. IsPermutation zs (chain_items t c)) (answers_follow (rule_of b) before cs)
-    (IsPermutation-trans _ _ _ (h.answers told) (f.answers told)) in
-    record {
-      tree = f;
-      answers = all;
-      ordered = λ told before cs h. in_order_of (rule_of b) before cs (chain_items t c) (all told before cs h);
+        loads = no_ops ∙ none_held b.early (load_of t.pool.shape);
+        size = let left = ap left_of no_ops in let size = none_sized b.early (load_of t.pool.shape) in
+            omega (arith, none_pushed, f, left, size);
+      };
+      areas = ap areas_in none;
     }
-finishes_batch s t b (Err fault) f = f
+  where
+    none_held : (early : Bool) (load : ℕ) → [] ≡ gathered_after early load []
+    none_held true load = refl
+    none_held false load = refl
 
--- All calls of a batch that was finished are within its share.
-pub batch_costs : {F : Type 0} {s t : RigState} (b : Batch F) → Sound s → IsBatch s b
-    → FinishCosts s t (trunk_of b) → BatchCosts s t b
-batch_costs {s = s} {t = t} b sound is f = record {
-  later = f.later;
-  share = λ told.
-      let all = within_batch s.pool.shape (trunk_of b).pushed b.calls (trunk_of b).longest (trunk_of b).resets
-      ((trunk_of b).settled + 1) b.syncs ((trunk_of b).spent + (t.moves - s.moves)) b.syncs sound.shape
-      (omega (arith, is.pushed)) is.longest is.unreset (omega (arith, is.settled)) (f.share told).within
-      (omega arith) in
-      omega (arith, all);
+    none_sized : (early : Bool) (load : ℕ) → joined_size early load [] ≡ 0
+    none_sized true load = refl
+    none_sized false load = refl
+
+-- One push is the load of one operation.
+pub one_pushed : {s t : RigState} (v w : Trunk) → CountsCall (count_push 0) s t v w → CountsPushes 1 s t v w
+one_pushed v w c =
+    let n : w.pushed ≡ v.pushed + 1 = ap (λ (z : TreeCounts). z.n) c.counts in
+    let k : w.longest ≡ max v.longest (v.since + 1) = ap (λ (z : TreeCounts). z.k) c.counts in
+    record {
+      pushed = omega (arith, n);
+      longest = omega (arith, k);
+      resets = ap (λ (z : TreeCounts). z.z) c.counts;
+      settled = ap (λ (z : TreeCounts). z.y) c.counts;
+      spent = c.spent;
+      share = c.share;
+    }
+
+-- The next operation entered the tree alone.
+pub one_enters : (apply : Combiner) (n : ℕ) (op : Record) (s t : RigState) (v w : Trunk) → op.b ≡ n + 1
+    → (IsTrue s.device.told → WaitsUpTo n (model_of s v))
+    → ChangesTrunk map_key_of (add_step_of apply) IsAddOp IsMapKept (op ∷ []) s t v w
+    → EntersTree apply (n + 1) (op ∷ []) s t v w
+one_enters apply n op s t v w number waits p = record {
+  is = p.is;
+  session = p.session;
+  frames = p.frames;
+  pays = p.pays;
+  loses = p.loses;
+  contents = λ told. (p.meaning told).contents;
+  answers = λ told. (p.meaning told).answers;
+  waits = λ told. waits_next apply n op number (model_of s v) (model_of t w) (p.meaning told).advances (waits told);
 }
+
+-- What a push of a batch that doesn't join adds early did.
+module _ {F : Type 0} (s t : RigState) (b d : Batch F) (i : IsBatch s b) (plain : b.early ≡ false) (few : b.calls < 2 ^ 40)
+    (c : CountsCall (count_push 0) s t (trunk_of b) (trunk_of d)) (rule : d.tree.settle ≡ b.tree.settle)
+    (calls : d.calls ≡ b.calls + 1) (syncs : d.syncs ≡ b.syncs) (early : d.early ≡ b.early) (load : d.load ≡ None)
+    (sound : Sound s) (op : Record) (number : op.b ≡ b.calls + 1) where
+  none : b.load ≡ None
+  none = i.plain plain
+
+  no_ops : gathered_in b ≡ []
+  no_ops = ap ops_in none
+
+  alone : gathered_in b ++ op ∷ [] ≡ op ∷ []
+  alone = ap (λ xs. xs ++ op ∷ []) no_ops
+
+  left : left_of (gathered_in b ++ op ∷ []) ≡ 1
+  left = ap left_of alone ∙ left_one op
+
+  one_more : (trunk_of d).pushed ≡ (trunk_of b).pushed + 1
+  one_more = ap (λ (z : TreeCounts). z.n) c.counts
+
+  pub counts_alone : (command : Command) → map_op (b.calls + 1) command ≡ op ∷ [] → CountsCommand command s t b d
+  counts_alone command ops = counts_command command op 1 s s t b d sound i ops (one_pushed (trunk_of b) (trunk_of d) c)
+      refl refl refl (omega (arith, left)) (omega (arith, i.pushed)) calls syncs early sound (λ e. c)
+
+  module _ (p : ChangesTrunk map_key_of (add_step_of (rule_of b)) IsAddOp IsMapKept (op ∷ []) s t (trunk_of b) (trunk_of d))
+    where
+      zero : length (gathered_in b) ≡ 0
+      zero = ap (λ (xs : List Record). length xs) no_ops
+
+      waits_all : IsTrue s.device.told → WaitsUpTo b.calls (model_of s (trunk_of b))
+      waits_all told = subst (λ k. WaitsUpTo k (model_of s (trunk_of b)))
+          (let n : entered_of b ≡ b.calls = omega (arith, zero) in n) (i.waits told)
+
+      enters : EntersTree (rule_of b) (b.calls + 1) (op ∷ []) s t (trunk_of b) (trunk_of d)
+      enters = one_enters (rule_of b) b.calls op s t (trunk_of b) (trunk_of d) number waits_all p
+
+      -- the batch with the number counted
+      abbrev counted : Batch F
+      counted = record b { calls = b.calls + 1 }
+
+      alone_is : IsBatch t d
+      alone_is =
+          let next : Stands s counted ((gathered_in b) ++ op ∷ []) =
+          stands_next s b counted (gathered_in b) op refl refl refl few (stands_is s b i) in
+          let one : Stands s counted (op ∷ []) = subst (λ (xs : List Record). Stands s counted xs) alone next in
+          let is : Stands t d [] = stands_entered s t counted d (op ∷ []) 1 one enters (one_pushed (trunk_of b) (trunk_of d) c)
+          one_more (omega arith) rule calls syncs in
+          let no_load : gathered_in d ≡ [] = ap ops_in load in
+          batch_is t d (subst (λ (xs : List Record). Stands t d xs) (sym no_load) is) (λ e. load)
+          (λ e. omega (arith, one_more, calls, syncs, i.alone plain))
+          (subst (λ (l : Option GatherState). IfSome l (HasArea t)) (sym load) tt)
+          (subst (λ (l : Option GatherState). IfSome l (IsLoad t (entered_of d))) (sym load) tt)
+
+      pub takes_alone : (command : Command) → map_op (b.calls + 1) command ≡ op ∷ [] → TakesCommand command s t b d
+      takes_alone command ops = record {
+        is = alone_is;
+        session = p.session;
+        frames = shares_as (areas_of b) (areas_of d) s.pool t.pool (ap areas_in load ∙ sym (ap areas_in none)) p.frames;
+        areas = λ e. absurd (not_both b.early e plain);
+        tree = λ e. subst (λ (zs : List Record). ChangesTrunk map_key_of (add_step_of (rule_of b)) IsAddOp IsMapKept zs s t
+            (trunk_of b) (trunk_of d)) (sym ops) p;
+        pays = p.pays;
+        loses = p.loses;
+        commands = λ before cs h. has_entered s t b d rule early p.session.touches.shape command op ops calls syncs before cs h
+            s (trunk_of b) (b.calls + 1) h.tree
+            (subst (λ (xs : List Record). EntersTree (rule_of b) (b.calls + 1) xs s t (trunk_of b) (trunk_of d)) (sym alone)
+            enters)
+            (omega (arith, one_more, left)) (ap ops_in load) (λ e. absurd (not_both b.early e plain));
+      }
+
+-- the same by the result
+pub takes_plain : {F : Type 0} (s t : RigState) (b d : Batch F) (i : IsBatch s b) (plain : b.early ≡ false)
+    (few : b.calls < 2 ^ 40) (c : CountsCall (count_push 0) s t (trunk_of b) (trunk_of d)) (rule : d.tree.settle ≡ b.tree.settle)
+    (calls : d.calls ≡ b.calls + 1) (syncs : d.syncs ≡ b.syncs) (early : d.early ≡ b.early) (load : d.load ≡ None)
+    (sound : Sound s) (op : Record) (number : op.b ≡ b.calls + 1) (r : Result (Unit {0}) EmFault)
+    → PushesOp map_key_of (add_step_of (rule_of b)) IsAddOp IsMapKept op s t (trunk_of b) (trunk_of d) r
+    → (command : Command) → map_op (b.calls + 1) command ≡ op ∷ [] → TakesTo command s t b d r
+takes_plain s t b d i plain few c rule calls syncs early load sound op number (Ok x) p command ops =
+    takes_alone s t b d i plain few c rule calls syncs early load sound op number p command ops
+takes_plain s t b d i plain few c rule calls syncs early load sound op number (Err fault) p command ops = record {
+  goes = record {
+    sound = p.goes.sound;
+    touches = p.goes.touches;
+    frames = shares_as (areas_of b) (areas_of d) s.pool t.pool (ap areas_in load ∙ sym (ap areas_in (i.plain plain)))
+        p.goes.frames;
+  };
+  frames = record {
+    tree = p.frames;
+    area = subst (λ (l : Option GatherState). IfSome l (HasArea t)) (sym load) tt;
+  };
+  pays = p.pays;
+  cause = p.cause;
+}
+
+-- The tree's number after a push is at most that of the commands.
+pub push_few : {F : Type 0} (s : RigState) (b : Batch F) → IsBatch s b
+    → max (trunk_of b).longest ((trunk_of b).since + 1) ≤ b.calls + 1
+push_few s b i =
+    let n = i.longest in
+    let p = i.pushed in
+    let k = i.is.running.numbers.since_most in
+    omega (arith, n, p, k)
+
+-- What is said of a push that was full.
+pub alone_needs : {F : Type 0} (s : RigState) (b : Batch F) → b.early ≡ false → (r : Result (Unit {0}) EmFault)
+    → IfErr r (λ fault. IfFull fault (λ _. NeedsMore s (trunk_of b)))
+    → IfErr r (λ fault. IfFull fault (λ _. CommandNeedsMore b.early s (trunk_of b) (length (gathered_in b))))
+alone_needs s b plain r h =
+    subst (λ (x : Bool). IfErr r (λ fault. IfFull fault (λ _. CommandNeedsMore x s (trunk_of b) (length (gathered_in b)))))
+    (sym plain) h

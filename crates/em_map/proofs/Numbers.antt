@@ -24,13 +24,13 @@ below_next : (x op : Record) → x.a ≡ op.a → x.b < op.b → is_below x op �
 below_next x op e h = rw (e, tied_itself nat_cmp_total op.a, less x.b op.b h) refl
 
 -- records with numbers up to n are below an operation of a greater number
-all_below : (n : ℕ) (op : Record) → n < op.b → (xs : List Record) → UpTo op.a n xs → AllUnder xs op
+pub all_below : (n : ℕ) (op : Record) → n < op.b → (xs : List Record) → UpTo op.a n xs → AllUnder xs op
 all_below n op h [] u = tt
 all_below n op h (x ∷ xs) u =
     (below_next x op u.0.0 (omega (arith, u.0.1, h)), all_below n op h xs u.1)
 
 -- numbers up to n are up to any greater one
-wider : (k m n : ℕ) → m ≤ n → (xs : List Record) → UpTo k m xs → UpTo k n xs
+pub wider : (k m n : ℕ) → m ≤ n → (xs : List Record) → UpTo k m xs → UpTo k n xs
 wider k m n h [] u = tt
 wider k m n h (x ∷ xs) u = ((u.0.0, omega (arith, u.0.1, h)), wider k m n h xs u.1)
 
@@ -49,7 +49,7 @@ back_of k n [] ys u = u
 back_of k n (x ∷ xs) ys u = back_of k n xs ys u.1
 
 -- the operations of a key have its first word
-of_word : (k n : ℕ) (op : Record) → op.b ≤ n → UpTo k n (of_key map_key_of (key_record k) (op ∷ []))
+pub of_word : (k n : ℕ) (op : Record) → op.b ≤ n → UpTo k n (of_key map_key_of (key_record k) (op ∷ []))
 of_word k n op h = ⊎_elim
     (λ (t : has_key map_key_of (key_record k) op ≡ true).
     subst (UpTo k n) (sym (first_of_key map_key_of (key_record k) op [] t))
@@ -78,40 +78,47 @@ left_after apply k n old [] u v = u
 left_after apply k n old (op ∷ ops) u v =
     left_after apply k n (add_step_of apply old op).stored ops (left_by apply k n old op u v.0.0) v.1
 
--- An operation with the next number was pushed.
-module _ (apply : Combiner) (n : ℕ) (op : Record) (next : op.b ≡ n + 1) (t u : Tree)
-    (a : (q : Record) → Advances map_key_of (add_step_of apply) t u (op ∷ []) q) (w : WaitsUpTo n t) where
-  -- what waited and came
-  came : (k : ℕ) → UpTo k (n + 1) ((a (key_record k)).first ++ waiting_at map_key_of u (key_record k))
-  came k = subst (UpTo k (n + 1)) (a (key_record k)).parts
-      (together k (n + 1) (waiting_at map_key_of t (key_record k)) (of_key map_key_of (key_record k) (op ∷ []))
-      (wider k n (n + 1) (omega arith) (waiting_at map_key_of t (key_record k)) (w.waiting k))
-      (of_word k (n + 1) op (omega (arith, next))))
+-- Operations were pushed. What waits for a key and what is stored under it has numbers up to m still, if those of the key
+-- have: some of it was settled, and the others wait.
+pub moved_on : (apply : Combiner) (k m : ℕ) (pushed : List Record) (t u : Tree)
+    → Advances map_key_of (add_step_of apply) t u pushed (key_record k)
+    → UpTo k m (waiting_at map_key_of t (key_record k))
+    → UpTo k m (option_to_list (stored_at map_key_of t (key_record k)))
+    → UpTo k m (of_key map_key_of (key_record k) pushed)
+    → UpTo k m (waiting_at map_key_of u (key_record k))
+    × UpTo k m (option_to_list (stored_at map_key_of u (key_record k)))
+moved_on apply k m pushed t u a waiting stored come =
+    let here = waiting_at map_key_of t (key_record k) in
+    let left = waiting_at map_key_of u (key_record k) in
+    let all : UpTo k m (a.first ++ left) =
+    subst (UpTo k m) a.parts (together k m here (of_key map_key_of (key_record k) pushed) waiting come) in (
+      back_of k m a.first left all,
+      subst (λ (r : Option Record). UpTo k m (option_to_list r)) (sym a.left)
+          (left_after apply k m (stored_at map_key_of t (key_record k)) a.first stored (front_of k m a.first left all)),
+    )
 
-  pub waits_next : WaitsUpTo (n + 1) u
-  waits_next = record {
-    waiting = λ k. back_of k (n + 1) (a (key_record k)).first (waiting_at map_key_of u (key_record k)) (came k);
-    stored = λ k. subst (λ r. UpTo k (n + 1) (option_to_list r)) (sym (a (key_record k)).left)
-        (left_after apply k (n + 1) (stored_at map_key_of t (key_record k)) (a (key_record k)).first
-        (wider k n (n + 1) (omega arith) (option_to_list (stored_at map_key_of t (key_record k))) (w.stored k))
-        (front_of k (n + 1) (a (key_record k)).first (waiting_at map_key_of u (key_record k)) (came k)));
-  }
+-- the same of all keys
+pub all_moved_on : (apply : Combiner) (n m : ℕ) (pushed : List Record) (t u : Tree) → n ≤ m
+    → ((q : Record) → Advances map_key_of (add_step_of apply) t u pushed q) → WaitsUpTo n t
+    → ((k : ℕ) → UpTo k m (of_key map_key_of (key_record k) pushed)) → WaitsUpTo m u
+all_moved_on apply n m pushed t u h a w come =
+    let at : (k : ℕ) → UpTo k m (waiting_at map_key_of u (key_record k))
+    × UpTo k m (option_to_list (stored_at map_key_of u (key_record k))) =
+    λ k. moved_on apply k m pushed t u (a (key_record k))
+    (wider k n m h (waiting_at map_key_of t (key_record k)) (w.waiting k))
+    (wider k n m h (option_to_list (stored_at map_key_of t (key_record k))) (w.stored k)) (come k) in
+    record { waiting = λ k. (at k).0; stored = λ k. (at k).1 }
+
+-- An operation with the next number was pushed.
+pub waits_next : (apply : Combiner) (n : ℕ) (op : Record) → op.b ≡ n + 1 → (t u : Tree)
+    → ((q : Record) → Advances map_key_of (add_step_of apply) t u (op ∷ []) q) → WaitsUpTo n t → WaitsUpTo (n + 1) u
+waits_next apply n op next t u a w =
+    all_moved_on apply n (n + 1) (op ∷ []) t u (omega arith) a w (λ k. of_word k (n + 1) op (omega (arith, next)))
 
 -- No operation was pushed, but a number was passed over.
-module _ (apply : Combiner) (n : ℕ) (t u : Tree) (a : (q : Record) → Advances map_key_of (add_step_of apply) t u [] q) (w : WaitsUpTo n t) where
-  rest : (k : ℕ) → UpTo k (n + 1) ((a (key_record k)).first ++ waiting_at map_key_of u (key_record k))
-  rest k = subst (UpTo k (n + 1)) (a (key_record k)).parts
-      (together k (n + 1) (waiting_at map_key_of t (key_record k)) []
-      (wider k n (n + 1) (omega arith) (waiting_at map_key_of t (key_record k)) (w.waiting k)) tt)
-
-  pub waits_still : WaitsUpTo (n + 1) u
-  waits_still = record {
-    waiting = λ k. back_of k (n + 1) (a (key_record k)).first (waiting_at map_key_of u (key_record k)) (rest k);
-    stored = λ k. subst (λ r. UpTo k (n + 1) (option_to_list r)) (sym (a (key_record k)).left)
-        (left_after apply k (n + 1) (stored_at map_key_of t (key_record k)) (a (key_record k)).first
-        (wider k n (n + 1) (omega arith) (option_to_list (stored_at map_key_of t (key_record k))) (w.stored k))
-        (front_of k (n + 1) (a (key_record k)).first (waiting_at map_key_of u (key_record k)) (rest k)));
-  }
+pub waits_still : (apply : Combiner) (n : ℕ) (t u : Tree)
+    → ((q : Record) → Advances map_key_of (add_step_of apply) t u [] q) → WaitsUpTo n t → WaitsUpTo (n + 1) u
+waits_still apply n t u a w = all_moved_on apply n (n + 1) [] t u (omega arith) a w (λ k. tt)
 
 -- What waits for the next operation's key, and what is stored under it, is below the operation.
 pub waits_below : (n : ℕ) (op : Record) → op.b ≡ n + 1 → (t : Tree) → WaitsUpTo n t

@@ -1,5 +1,5 @@
 -- The moves of a tree that was settled at each sync, and finished at most once, are within a batch's share.
-use Rattle.std.proofs.Common.{◌≡◌, ℕ, ◌+◌, ◌*◌, ◌≤◌, refl, subst, arith}
+use Rattle.std.proofs.Common.{◌≡◌, ℕ, ◌+◌, ◌*◌, ◌≤◌, refl, subst, ◌∙◌, arith, IsTrue}
 use Rattle.std.proofs.Math.Nat.{mul-le-mul, mul-le-mul_left, mul-le-mul_right}
 use Rattle.em_record.specs.Cost.{blocks_of}
 use Rattle.em_record.specs.Shape.{IsShape, ShapeNumbers}
@@ -7,6 +7,9 @@ use Rattle.em_tree_cost.specs.Fusing.{synced_share}
 use Rattle.em_tree_cost.specs.Shares.{batch_share, floors_of, tree_share}
 use Rattle.em_tree_cost.proofs.Fusing.{synced_within}
 use Rattle.em_tree_cost.proofs.Rising.{div_ceil_rises, floors_rise}
+use Rattle.em_space.specs.Rig.{RigState, Sound}
+use Rattle.em_trunk.specs.declared.trunk.Trunk.{Trunk}
+use Rattle.em_map.specs.Loading.{CountsPushes}
 
 -- more operations and settlings allow no fewer moves
 settlings_rise : (shape : ShapeNumbers) (m n k y x : ℕ) → m ≤ n → y ≤ x
@@ -30,6 +33,18 @@ within_batch shape p n k z y x spent more is h l none few share few_more =
     let u : x * 1 ≤ x * (blocks_of shape n + 1) = mul-le-mul_left x (omega arith) in
     let m : more ≤ 24 * (x + 1) * (blocks_of shape n + 1) = omega (arith, few_more, u) in
     synced_within shape n k x spent more is l (omega (arith, s, rises)) m
+
+-- Pushes into the tree of such a batch, at most n of them: all moves so far are within the share of a size N.
+pub pushes_within : (n N syncs : ℕ) (s t : RigState) (v w : Trunk) → Sound s → CountsPushes n s t v w
+    → v.since ≤ v.longest → v.longest ≤ v.pushed → v.resets ≡ 0 → v.settled ≡ syncs → v.pushed + n ≤ N
+    → IsTrue s.device.told → w.spent + syncs ≤ synced_share s.pool.shape N syncs
+pushes_within n N syncs s t v w sound c since longest none settled few told =
+    let pushed = c.pushed in
+    let most = c.longest in
+    let k = c.settled in
+    within_batch s.pool.shape w.pushed N w.longest w.resets w.settled syncs w.spent syncs sound.shape
+    (omega (arith, pushed, few)) (omega (arith, most, since, longest, few)) (c.resets ∙ none)
+    (omega (arith, k, settled)) (c.share told).within (omega arith)
 
 -- a batch without a sync
 pub unsynced_share : (shape : ShapeNumbers) (n : ℕ) → synced_share shape n 0 ≡ batch_share shape n

@@ -1,3 +1,7 @@
+pub mod Areas
 pub mod Commands
 pub mod Contents
+pub mod Early
+pub mod Loading
 pub mod Batch
+pub mod Gathering

@@ -21,7 +21,8 @@ use Rattle.em_services.specs.Service.{MakesService, RisesBySize, WithinAllowance
 use Rattle.em_services.specs.SizeLaws.{size_rises}
 use Rattle.em_services.specs.declared.service.Service.{Ghosts as ServiceGhosts}
 use Rattle.em_services.proofs.AnswerOrder.{records_few}
-use Rattle.em_services.proofs.Areas.{goes_on_nothing, goes_on_within, within_more}
+use Rattle.em_map.proofs.Areas.{goes_on_nothing, goes_on_within}
+use Rattle.em_services.proofs.Areas.{within_more}
 use Rattle.em_rows.specs.Answered.{GivesRows, MovesBySize}
 use Rattle.em_rows.specs.Moves.{MovesOwn, MovesTo, MovesWithRows, TakesRows}
 use Rattle.em_rows.specs.Taken.{IsRow}

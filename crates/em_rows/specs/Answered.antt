@@ -15,7 +15,8 @@ use Rattle.em_ends.specs.Stop.{Faults}
 use Rattle.em_ends.specs.declared.status.Malform.TheVariants.{Text, Aig}
 use Rattle.em_ends.specs.declared.stop.Stop.{Stop}
 use Rattle.em_ends.specs.declared.stop.Stop.TheVariants.{Fault, Read, Write, Em}
-use Rattle.em_services.specs.Service.{GoesOn, records_for, size_of}
+use Rattle.em_map.specs.Areas.{KeepsAreas}
+use Rattle.em_services.specs.Service.{records_for, size_of}
 use Rattle.em_services.specs.declared.service.Service.{Ghosts as ServiceGhosts}
 use Rattle.em_answers.specs.Reading.{moves_within}
 use Rattle.em_rows.specs.Moves.{MovesWithRows, TakesRows}
@@ -73,7 +74,7 @@ TextsCause tells plan a b faults after old new (Em fault) = Cause old new fault
 -- before. Its moves are within what it is allowed for the size of all.
 pub record GivesRows {S R : Type 0} (v : ServiceGhosts S R) (tells : Bool) (commands : List Command) (x y : S)
     (s t : RigState) (result : Result (Unit {0}) Stop) : Type 0 where
-  pub goes : GoesOn (v.areas x) (v.areas y) (v.blocks x s) s t
+  pub goes : KeepsAreas (v.areas x) (v.areas y) (v.blocks x s) s t
   pub joins : v.combiner y ≡ v.combiner x
   pub sizes : v.size y ≡ v.size x
   pub frames : v.HasItsFrames y t

@@ -6,7 +6,8 @@ ghost use Rattle.em_space.specs.Held.{Within};
 ghost use Rattle.em_space.specs.Rig.{Sound};
 ghost use Rattle.em_space.specs.Seen.{seen};
 ghost use Rattle.em_lines.specs.Reads.{Reads};
-ghost use Rattle.em_services.specs.Service.{CanTake, GoesOn};
+ghost use Rattle.em_map.specs.Areas.{KeepsAreas};
+ghost use Rattle.em_services.specs.Service.{CanTake};
 ghost use Rattle.em_rows.specs.Answered.{Fits};
 ghost use Rattle.em_rows.specs.Moves.{MovesWithRows, TakesRows};
 ghost use Rattle.em_rows.specs.Rows.{rows_in};
@@ -39,7 +40,7 @@ pub fn give_rows<D: Device, H: Shelf, S: Service>(
     requires few { (S.counts service.old).n ≤ 2 ^ 39 }
     requires ready { ((H.stand shelf.old).slot feed.old.slot).ready ≡ true }
     requires place { feed.old.place ≡ 0 }
-    ensures goes { GoesOn (S.areas service.old) (S.areas service.new)
+    ensures goes { KeepsAreas (S.areas service.old) (S.areas service.new)
         (S.blocks service.old (seen D.state rig.old)) (seen D.state rig.old) (seen D.state rig.new) }
     ensures joins { S.combiner service.new ≡ S.combiner service.old }
     ensures sizes { S.size service.new ≡ S.size service.old }

@@ -20,7 +20,7 @@ fn failing_at(part: &str, call: u64) -> (Failing, Stop) {
 fn texts_of(job: Job) -> (&'static [u8], &'static [u8], &'static [u8]) {
     match job {
         Job::Pairs => (b"7 1\n3 8\n", b"", b"7 1\n3 8\n"),
-        Job::Counts => (b"7\n7\n", b"7\n8\n", b"2\n0\n"),
+        Job::Counts { .. } => (b"7\n7\n", b"7\n8\n", b"2\n0\n"),
         Job::Windows => (b"2 5\n", b"2\n5\n", b"0 0\n1 0\n"),
     }
 }
@@ -57,20 +57,23 @@ fn is_so(alloc: Global, row: &str) -> Result<bool, Fail> {
 
 /// A row has the job, the part that fails, and how many of its first 20 calls stop the run, at least and at most. The shelf opens
 /// each file, reads its bytes by threes, and then finds its end. The output takes two bytes a call.
-const ROWS: [&str; 9] = [
+const ROWS: [&str; 12] = [
     // The list of the pairs is one block, which is stored and read.
     "pairs|device|2|2",
     // The lists of intervals and of stabs are a block each, which is stored and read.
     "windows|device|4|20",
     // The root and the leaf of the new tree are stored.
     "counts|device|2|20",
+    "early|device|2|20",
     // 8 bytes.
     "pairs|shelf|5|5",
     // 4 bytes in each file.
     "counts|shelf|8|8",
+    "early|shelf|8|8",
     "windows|shelf|8|8",
     "pairs|output|4|4",
     "counts|output|2|2",
+    "early|output|2|2",
     "windows|output|4|4",
 ];
 

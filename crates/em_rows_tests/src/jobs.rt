@@ -11,6 +11,7 @@ use em_frames::Device;
 use em_io::{Feed, Shelf, Sink, Slot};
 use em_map::Batch;
 use em_rows::{Columns, Plan, RowKind, answer_rows, list_rows, print_rows};
+use em_services::MapRule;
 use em_settle::{AddSettle, Combine, Settle};
 use em_space::Rig;
 
@@ -19,8 +20,8 @@ use em_space::Rig;
 pub enum Job {
     /// Reads the pairs of `a` into a list, and prints it.
     Pairs,
-    /// Prints for each number of `b` how often it stands in `a`.
-    Counts,
+    /// Prints for each number of `b` how often it stands in `a`, by a map whose adds are joined early or not.
+    Counts { early: bool },
     /// Prints for each moment of `b` the windows of `a` that hold it.
     Windows,
 }
@@ -44,9 +45,10 @@ fn print_pairs<D: Device, H: Shelf, W: Sink>(
     print_rows(Columns::Pair, rig, &pairs, out)
 }
 
-/// Prints for each number of `b` how often it stands in `a`, by a map that joins as `sum` does.
+/// Prints for each number of `b` how often it stands in `a`, by a map that joins as `sum` does, early or not.
 fn print_joined<D: Device, H: Shelf, W: Sink, F: Fn(u64, u64) -> u64 + Drop>(
     sum: AddSettle<F>,
+    early: bool,
     rig: &mut Rig<'_, D>,
     shelf: &mut H,
     out: &mut W,
@@ -62,7 +64,8 @@ fn print_joined<D: Device, H: Shelf, W: Sink, F: Fn(u64, u64) -> u64 + Drop>(
         second: RowKind::Asked,
         columns: Columns::Value,
     };
-    answer_rows::<D, H, W, Batch<F>>(sum, plan, rig, "a", "b", shelf, out)
+    let rule = MapRule { settle: sum, early };
+    answer_rows::<D, H, W, Batch<F>>(rule, plan, rig, "a", "b", shelf, out)
 }
 
 /// Does a job, on a rig of which no block is or was in use.
@@ -79,9 +82,9 @@ pub fn run_job<D: Device, H: Shelf, W: Sink>(
 {
     match job {
         Job::Pairs => print_pairs(rig, shelf, out),
-        Job::Counts => {
+        Job::Counts { early } => {
             let sum = AddSettle::new(|x: u64, y: u64| x.wrapping_add(y), Combine::Sum);
-            print_joined(sum, rig, shelf, out)
+            print_joined(sum, early, rig, shelf, out)
         }
         Job::Windows => print_holding(rig, "a", "b", shelf, out),
     }

@@ -8,7 +8,8 @@ use std::test::Fail;
 pub fn job_of(word: &str) -> Job {
     match word {
         "pairs" => Job::Pairs,
-        "counts" => Job::Counts,
+        "counts" => Job::Counts { early: false },
+        "early" => Job::Counts { early: true },
         _ => Job::Windows,
     }
 }
@@ -42,7 +43,7 @@ fn is_so(alloc: Global, row: &str) -> Result<bool, Fail> {
 }
 
 /// A row has the job, the text `a`, the text `b`, and what is printed or the message of the stop. The pairs have no `b`.
-const ROWS: [&str; 31] = [
+const ROWS: [&str; 36] = [
     // As they came, also if a key comes again. The last line may have no newline.
     "pairs|10 2\n7 1\n10 0\n||10 2\n7 1\n10 0\n",
     "pairs|3 4||3 4\n",
@@ -74,6 +75,12 @@ const ROWS: [&str; 31] = [
     "counts|7\n8\n|7\n8\n\n|line 3: a number is missing",
     "counts|missing|7\n|a file could not be read",
     "counts|7\n|missing|a file could not be read",
+    // The same if adds are joined early: of each number of the first file one add is left, and the gets.
+    "early|7\n8\n7\n|8\n9\n7|1\n0\n2\n",
+    "early||5\n|0\n",
+    "early|5\n||",
+    "early|7\n1 2\n|7\nx\n|line 2: not a number",
+    "early|7\n|missing|a file could not be read",
     // The moment 3 is held by 0 to 3 and 3 to 3, and the moment 9 by none. Moments print in the order of their lines.
     "windows|0 3\n3 3\n4 8\n|3\n9\n0\n|0 0\n0 1\n2 0\n",
     "windows|5 4\n|x\n|line 1: the low end is above the high end",
@@ -88,6 +95,44 @@ fn rows_are_as_they_say(rt: HostRuntime) -> Result<(), Fail> {
     for row in ROWS {
         number = number.saturating_add(1);
         assert!(rt; is_so(rt.alloc(), row)?, "row {number}");
+    }
+    Ok(())
+}
+
+/// So many lines of the number 7.
+fn sevens(alloc: Global, lines: u64) -> Result<Vec<u8>, Fail> {
+    let mut text = Vec::new(alloc);
+    for _ in 0..lines {
+        text.push(b'7')?;
+        text.push(b'\n')?;
+    }
+    Ok(text)
+}
+
+/// Adds of one number, and what is printed for the gets of it and of another one. A load has 1024 commands at the smallest shape: the
+/// gets stand in the load of the adds, are cut by its end, or stand in the next one, with adds before them or not.
+const LOADS: [(u64, &str); 6] = [
+    (1022, "1022\n0\n"),
+    (1023, "1023\n0\n"),
+    (1024, "1024\n0\n"),
+    (1025, "1025\n0\n"),
+    (2047, "2047\n0\n"),
+    (2048, "2048\n0\n"),
+];
+
+#[test]
+fn adds_of_one_number_are_joined_early(rt: HostRuntime) -> Result<(), Fail> {
+    for (lines, wanted) in LOADS {
+        let text = sevens(rt.alloc(), lines)?;
+        let texts: (Option<&[u8]>, Option<&[u8]>) = (Some(text.as_slice()), Some(b"7\n8\n"));
+        let told = run(
+            rt.alloc(),
+            Job::Counts { early: true },
+            4096,
+            texts,
+            [NO_CALL; 3],
+        )?;
+        assert!(rt; ends_with(rt.alloc(), &told, wanted)?, "{lines} lines");
     }
     Ok(())
 }

@@ -25,12 +25,12 @@ use Rattle.em_words.specs.declared.job.Task.TheVariants.{Answer}
 use Rattle.em_ends.proofs.Opening.{on_end, on_done}
 
 -- The same end, as seen from before the file was opened.
-pub ended_as : {took : List ℕ → List ℕ → List ℕ} (apply : Combiner) (tells : Bool) (kind : FileKind) (x y : List ℕ)
+pub ended_as : {took : List ℕ → List ℕ → List ℕ} (apply : Combiner) (early tells : Bool) (kind : FileKind) (x y : List ℕ)
     (shape : ShapeNumbers) (blocks : ℕ) (old mid new : Outside) (status : Status)
     → mid.device ≡ old.device → mid.output ≡ old.output → (IsTrue tells → x ≡ y)
-    → Ended tells took (asked_of_file apply kind x) shape blocks mid new status
-    → Ended tells took (asked_of_file apply kind y) shape blocks old new status
-ended_as {took} apply tells kind x y shape blocks old mid new status device output e r =
+    → Ended tells took (asked_of_file apply early kind x) shape blocks mid new status
+    → Ended tells took (asked_of_file apply early kind y) shape blocks old new status
+ended_as {took} apply early tells kind x y shape blocks old mid new status device output e r =
     let back : IsTrue old.device.told → IsTrue mid.device.told =
     λ d. subst (λ (v : DeviceState). IsTrue v.told) (sym device) d in
     record {
@@ -47,33 +47,33 @@ ended_as {took} apply tells kind x y shape blocks old mid new status device outp
           (r.prefix t (back d)));
       full = r.full;
       paid = r.paid;
-      room = λ t d. subst (λ (z : List ℕ). IfEndsFull status (λ used. IfSome (asked_of_file apply kind z).room
+      room = λ t d. subst (λ (z : List ℕ). IfEndsFull status (λ used. IfSome (asked_of_file apply early kind z).room
           (λ f. used < f shape new.stand.slot))) (e t) (r.room t (back d));
-      moves = λ t d. subst (λ (z : List ℕ). IfSome (asked_of_file apply kind z).moves
+      moves = λ t d. subst (λ (z : List ℕ). IfSome (asked_of_file apply early kind z).moves
           (λ f. new.device.moves ≤ old.device.moves + f shape new.stand.slot)) (e t)
-          (subst (λ (v : DeviceState). IfSome (asked_of_file apply kind x).moves
+          (subst (λ (v : DeviceState). IfSome (asked_of_file apply early kind x).moves
           (λ f. new.device.moves ≤ v.moves + f shape new.stand.slot)) device (r.moves t (back d)));
       damaged = subst (λ (v : DeviceState). IfEndsDamaged status
           (λ at. IsFalse v.told × (at < blocks))) device r.damaged;
     }
 
 -- So are the most blocks that it had in use.
-pub most_as : (apply : Combiner) (tells : Bool) (kind : FileKind) (x y : List ℕ) (s t : RigState) (slots : Slot → SlotState)
+pub most_as : (apply : Combiner) (early tells : Bool) (kind : FileKind) (x y : List ℕ) (s t : RigState) (slots : Slot → SlotState)
     → Touches [] s t → (IsTrue tells → x ≡ y)
     → KeepsTextRoom by_cost.room tells kind x (slots First).left t
-    → KeepsRoom (asked_of_file apply kind y) tells s t slots
-most_as apply tells kind x y s t slots touches e most = λ z d.
+    → KeepsRoom (asked_of_file apply early kind y) tells s t slots
+most_as apply early tells kind x y s t slots touches e most = λ z d.
     let few : t.most ≤ room t.pool.shape (run_size kind x (slots First).left) = most z (touches.told ∙ d) in
     subst (λ (v : List ℕ). t.most ≤ room s.pool.shape (run_size kind v (slots First).left)) (e z)
     (subst (λ (p : ShapeNumbers). t.most ≤ room p (run_size kind x (slots First).left)) touches.shape few)
 
 -- A command file was opened.
-module _ (tells told : Bool) (kind : FileKind) (combine : Combine) (name : List ℕ) (a b : Stand) (fresh : IsFresh a)
+module _ (tells told : Bool) (kind : FileKind) (combine : Combine) (early : Bool) (name : List ℕ) (a b : Stand) (fresh : IsFresh a)
     (leaves : Leaves First a b)
     (lost : IsTrue tells → (b.slot First).lost ≡ ((a.slot First).lost || is_none (a.text First name)))
   where
     abbrev names : Slot → Option (List ℕ)
-    names = names_of (Answer kind combine) name []
+    names = names_of (Answer kind combine early) name []
 
     -- it is lost only if it isn't there
     lost_first : IsTrue tells → (b.slot First).lost ≡ true → is_none (a.text First name) ≡ true
@@ -81,7 +81,7 @@ module _ (tells told : Bool) (kind : FileKind) (combine : Combine) (name : List 
         sym (ap (λ (x : Bool). x || is_none (a.text First name)) fresh.first.lost) ∙ sym (lost t) ∙ l
 
     -- It isn't there, or the shelf failed.
-    pub opens_missing : OpensNamed (Answer kind combine) tells told names a b ReadFault
+    pub opens_missing : OpensNamed (Answer kind combine early) tells told names a b ReadFault
     opens_missing = record {
       texts = leaves.text;
       others = others;
@@ -115,7 +115,7 @@ module _ (tells told : Bool) (kind : FileKind) (combine : Combine) (name : List 
       some_text : IsTrue tells → IsSome (a.text First name)
       some_text t = rw (whole t) refl
 
-      pub opens_file : (s : Status) → OpensNamed (Answer kind combine) tells told names a c s
+      pub opens_file : (s : Status) → OpensNamed (Answer kind combine early) tells told names a c s
       opens_file s = record {
         texts = reads.leaves.text ∙ leaves.text;
         others = others;

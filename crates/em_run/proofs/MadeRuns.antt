@@ -56,9 +56,9 @@ shelf_made task start count kind shelf k e = e ∙ ap (λ (x : GenKind). record 
 asked_made : (task : Task) (start count : ℕ)
     → asked_of task (texts_in (stand_of (made_shelf task start count)) (names_of task [] []))
     ≡ asked_of task (made_texts task start count)
-asked_made (Answer Map combine) start count = refl
-asked_made (Answer Queue combine) start count = refl
-asked_made (Answer Stab combine) start count = refl
+asked_made (Answer Map combine early) start count = refl
+asked_made (Answer Queue combine early) start count = refl
+asked_made (Answer Stab combine early) start count = refl
 asked_made (Eval uninit wide) start count = refl
 
 -- the outside of the task's run: the shelf and the tally never fail

@@ -22,7 +22,8 @@ use Rattle.em_lines.specs.CommandLine.{good_commands}
 use Rattle.em_eval.specs.EvalSize.{circuit_read, eval_cost, given_of, passes_read, rounds_of, steps_after, steps_read}
 use Rattle.em_run.specs.Made.{read_whole}
 use Rattle.em_lines.specs.RunSize.{commands_taken, run_size}
-use Rattle.em_answers.specs.Limits.{syncs_in}
+use Rattle.em_answers.specs.Limits.{moves_size, syncs_in}
+use Rattle.em_answers.proofs.Sizes.{map_rises}
 use Rattle.em_model.proofs.SyncLaws.{syncs-take}
 use Rattle.std.proofs.Math.Nat.{mul-le-mul}
 use Rattle.em_words.specs.declared.job.Task.{Task}
@@ -92,16 +93,24 @@ syncs_rise Map text left less h = syncs-take (commands_taken Map text left) (com
 syncs_rise Queue text left less h = omega arith
 syncs_rise Stab text left less h = omega arith
 
+-- nor is the size by which its moves go any smaller, whether adds are joined early or not
+moved_rises : (kind : FileKind) (early : Bool) (shape : ShapeNumbers) (text left less : List ℕ)
+    → length less ≤ length left → moves_size kind early shape text left ≤ moves_size kind early shape text less
+moved_rises Map early shape text left less h = map_rises early shape text left less (taken_rises Map text left less h)
+moved_rises Queue early shape text left less h = size_rises Queue text left less h
+moved_rises Stab early shape text left less h = size_rises Stab text left less h
+
 -- the transfer cost of a whole file is no less
-file_rises : (kind : FileKind) (shape : ShapeNumbers) (text left : List ℕ)
-    → (syncs_in kind text left + 1) * cost shape (run_size kind text left)
-    ≤ (syncs_in kind text [] + 1) * cost shape (run_size kind text [])
-file_rises kind shape text left =
-    let more = cost_rises shape (run_size kind text left) (run_size kind text [])
-    (size_rises kind text left [] (omega arith)) in
+file_rises : (kind : FileKind) (early : Bool) (shape : ShapeNumbers) (text left : List ℕ)
+    → (syncs_in kind text left + 1) * cost shape (moves_size kind early shape text left)
+    ≤ (syncs_in kind text [] + 1) * cost shape (moves_size kind early shape text [])
+file_rises kind early shape text left =
+    let few = moves_size kind early shape text left in
+    let many = moves_size kind early shape text [] in
+    let more = cost_rises shape few many (moved_rises kind early shape text left [] (omega arith)) in
     let syncs = syncs_rise kind text left [] (omega arith) in
-    mul-le-mul {n₁ = syncs_in kind text left + 1} {m₁ = cost shape (run_size kind text left)}
-    {n₂ = syncs_in kind text [] + 1} {m₂ = cost shape (run_size kind text [])} (omega (arith, syncs)) more
+    mul-le-mul {n₁ = syncs_in kind text left + 1} {m₁ = cost shape few}
+    {n₂ = syncs_in kind text [] + 1} {m₂ = cost shape many} (omega (arith, syncs)) more
 
 -- more steps take no fewer rounds
 more_rounds : (wide : Bool) (few many : ℕ) → few ≤ many → rounds_of wide few ≤ rounds_of wide many
@@ -137,7 +146,7 @@ eval_rises wide start shape circuit stimulus slots =
 pub most_rises : (task : Task) (texts : Slot → List ℕ) (shape : ShapeNumbers)
     (slots : Slot → SlotState) → IfSome (asked_of task texts).room
     (λ f. f shape slots ≤ f shape (λ slot. read_whole))
-most_rises (Answer kind combine) texts shape slots =
+most_rises (Answer kind combine early) texts shape slots =
     let text = texts First in
     room_rises shape (run_size kind text (slots First).left) (run_size kind text [])
     (size_rises kind text (slots First).left [] (omega arith))
@@ -150,6 +159,7 @@ most_rises (Eval uninit wide) texts shape slots =
 pub moves_rise : (task : Task) (texts : Slot → List ℕ) (shape : ShapeNumbers)
     (slots : Slot → SlotState) → IfSome (asked_of task texts).moves
     (λ f. f shape slots ≤ f shape (λ slot. read_whole))
-moves_rise (Answer kind combine) texts shape slots = file_rises kind shape (texts First) (slots First).left
+moves_rise (Answer kind combine early) texts shape slots =
+    file_rises kind early shape (texts First) (slots First).left
 moves_rise (Eval uninit wide) texts shape slots =
     eval_rises wide (start_of uninit) shape (texts First) (texts Second) slots

@@ -17,9 +17,9 @@ use Rattle.em_lines.specs.declared.text.FileKind.TheVariants.{Map, Queue, Stab}
 
 -- the kind of the texts that are made for a task
 abbrev pub kind_for : Task → GenKind
-kind_for (Answer Map combine) = gen.Map
-kind_for (Answer Queue combine) = gen.Queue
-kind_for (Answer Stab combine) = gen.Stab
+kind_for (Answer Map combine early) = gen.Map
+kind_for (Answer Queue combine early) = gen.Queue
+kind_for (Answer Stab combine early) = gen.Stab
 kind_for (Eval uninit wide) = gen.Eval
 
 -- the texts that are made for a task, by slot

@@ -20,18 +20,18 @@ use Rattle.em_settle.specs.Add.{apply_of}
 
 -- what a task asks, by the text of each slot
 abbrev pub asked_of : Task → (Slot → List ℕ) → Asked
-asked_of (Answer kind combine) texts = asked_of_file (apply_of combine) kind (texts First)
+asked_of (Answer kind combine early) texts = asked_of_file (apply_of combine) early kind (texts First)
 asked_of (Eval uninit wide) texts =
     asked_of_eval wide (start_of uninit) (texts First) (texts Second)
 
 -- the name of each slot's file, if the task opens the slot, by the words of its operands
 abbrev pub names_of : Task → List ℕ → List ℕ → Slot → Option (List ℕ)
-names_of (Answer kind combine) first second = by_slot (Some first) None
+names_of (Answer kind combine early) first second = by_slot (Some first) None
 names_of (Eval uninit wide) first second = by_slot (Some first) (Some second)
 
 -- the first fault of a circuit for a task
 abbrev pub fault_for : Task → List ℕ → Option (AigKind × ℕ)
-fault_for (Answer kind combine) text = None
+fault_for (Answer kind combine early) text = None
 fault_for (Eval uninit wide) text = job_fault wide (start_of uninit) text
 
 -- What a run does to the shelf, as `OpensSlots`: the second slot, that of a stimulus, is opened only if the

@@ -20,11 +20,12 @@ use em_settle::Combine;
 use em_space::Rig;
 use em_words::{Origin, Task};
 
-/// Answers the command file of this name and kind, whose adds are joined by this combiner, on an open rig of
-/// which no block is or was in use.
+/// Answers the command file of this name and kind, whose adds are joined by this combiner, with `early` also before they
+/// enter the structure that answers them, on an open rig of which no block is or was in use.
 pub fn run_file<D: Device, H: Shelf, W: Sink>(
     kind: FileKind,
     combine: Combine,
+    early: bool,
     rig: &mut Rig<'_, D>,
     shelf: &mut H,
     name: &str,
@@ -35,14 +36,14 @@ pub fn run_file<D: Device, H: Shelf, W: Sink>(
     requires none_moved { (seen D.state rig.old).moves ≡ 0 }
     requires fresh { IsFresh (H.stand shelf.old) }
     ensures goes { Goes [] (seen D.state rig.old) (seen D.state rig.new) }
-    ensures runs { RunsTask H.Shelf W.Sink (Task.Answer kind combine)
-        (names_of (Task.Answer kind combine) name.now []) (seen D.state rig.old) (seen D.state rig.new)
-        shelf.old out.old shelf.new out.new result }
+    ensures runs { RunsTask H.Shelf W.Sink (Task.Answer kind combine early)
+        (names_of (Task.Answer kind combine early) name.now []) (seen D.state rig.old)
+        (seen D.state rig.new) shelf.old out.old shelf.new out.new result }
 {
     let Ok(()) = shelf.open(Slot::First, name) else {
         return Status::ReadFault;
     };
-    run_open(kind, combine, rig, shelf, out)
+    run_open(kind, combine, early, rig, shelf, out)
 }
 
 /// Runs a task over the files of these names, on an open rig of which no block is or was in use. A
@@ -64,7 +65,11 @@ pub fn run_task<D: Device, H: Shelf, W: Sink>(
         (seen D.state rig.old) (seen D.state rig.new) shelf.old out.old shelf.new out.new result }
 {
     match task {
-        Task::Answer { kind, combine } => run_file(kind, combine, rig, shelf, first, out),
+        Task::Answer {
+            kind,
+            combine,
+            early,
+        } => run_file(kind, combine, early, rig, shelf, first, out),
         Task::Eval { uninit, wide } => run_eval(uninit, wide, rig, shelf, first, second, out),
     }
 }

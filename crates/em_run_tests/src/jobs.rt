@@ -114,6 +114,29 @@ fn a_map_is_answered_in_its_room(rt: HostRuntime) -> Result<(), Fail> {
     Ok(())
 }
 
+/// Of 2,000 adds to one key, 1,024 fill a load, which leaves one add of them; the others leave one more. So with the get three
+/// records enter the tree, and take one block. Without joining 2,001 records take 16 blocks.
+#[test]
+fn adds_joined_early_take_few_blocks(rt: HostRuntime) -> Result<(), Fail> {
+    let mut text = Vec::new(rt.alloc());
+    for _ in 0..2000 {
+        for byte in b"add 1 1\n" {
+            text.push(*byte)?;
+        }
+    }
+    for byte in b"get 1\n" {
+        text.push(*byte)?;
+    }
+    let words = "map --early --block=128 --frames=64 a";
+    let Some((done, out, most)) = run_words(&rt, words, &text, b"")? else {
+        return Ok(assert!(rt; false, "these words name a job"));
+    };
+    assert!(rt; done);
+    assert!(rt; out.bytes() == b"2000\n".as_slice());
+    assert!(rt; most <= 8, "{most} blocks");
+    Ok(())
+}
+
 /// Words that name no job run none.
 #[test]
 fn no_job_is_run_for_other_words(rt: HostRuntime) -> Result<(), Fail> {

@@ -1,92 +1,18 @@
 -- The frames and areas of a service, over its calls and beside it, and the size by which its moves are counted.
-use Rattle.std.proofs.Common.{◌≡◌, ℕ, ◌+◌, ◌*◌, ◌++◌, ◌∷◌, ◌≤◌, List, [], length, refl, ap, subst, ◌∙◌, arith, IsTrue, IfSome, Option, Some, None}
+use Rattle.std.proofs.Common.{◌≡◌, ℕ, ◌+◌, ◌*◌, ◌++◌, ◌∷◌, ◌≤◌, List, [], length, refl, ap, subst, ◌∙◌, arith, IfSome, Option, Some, None}
 use Rattle.std.proofs.Math.Nat.{mul-le-mul_left}
 use Rattle.std.proofs.lemmas.List.{length-append}
 use Rattle.em_record.specs.Shape.{IsShape, ShapeNumbers, fan_of}
-use Rattle.em_frames.specs.Pool.{GivenFrames, LentFrames, PoolCounts, SameFrames, singles_of}
+use Rattle.em_frames.specs.Pool.{LentFrames, PoolCounts, SameFrames, singles_of}
 use Rattle.em_model.specs.declared.command.Command.{Command}
 use Rattle.em_space.specs.Held.{Within}
 use Rattle.em_space.specs.Queue.{CanServe}
-use Rattle.em_space.specs.Rig.{Goes, InUse, RigState, Sound, Touches}
-use Rattle.em_space.specs.Free.{Off}
-use Rattle.em_space.proofs.Steps.{goes_nothing, touches_trans, touches_wider}
+use Rattle.em_space.specs.Rig.{Goes, RigState, Touches}
 use Rattle.em_space.proofs.Within.{touches_within, within_none, within_then}
 use Rattle.em_ready.specs.Ready.{IsReady}
-use Rattle.em_services.specs.Service.{CanAnswer, CanSync, CanTake, FramesOut, GivenWithAreas, GivesFrames, GoesOn, RisesBySize, SharesAreas, WithinAllowance}
-
--- What is free and what is held, after no call at all,
-pub shares_nothing : (own : ℕ) (p : PoolCounts) → SharesAreas own own p p
-shares_nothing own p = record { shape = refl; free = refl; areas = refl; rack = refl; peak = omega arith }
-
--- one call after another,
-pub shares_then : (before middle after : ℕ) (p q r : PoolCounts) → SharesAreas before middle p q
-    → SharesAreas middle after q r → SharesAreas before after p r
-shares_then before middle after p q r x y = record {
-  shape = y.shape ∙ x.shape;
-  free = y.free ∙ x.free;
-  areas = omega (arith, x.areas, y.areas);
-  rack = y.rack ∙ x.rack;
-  peak = omega (arith, x.peak, y.peak);
-}
-
--- and after a call that lent none: a service holds as many areas as before, and as many are free.
-pub shares_same : (own : ℕ) (p q : PoolCounts) → SameFrames p q → SharesAreas own own p q
-shares_same own p q f = record {
-  shape = f.shape;
-  free = f.free;
-  areas = omega (arith, f.free_areas);
-  rack = f.rack;
-  peak = f.peak;
-}
-
-pub same_shared : (own : ℕ) (p q : PoolCounts) → SharesAreas own own p q → SameFrames p q
-same_shared own p q x = record {
-  shape = x.shape;
-  free = x.free;
-  rack = x.rack;
-  free_areas = omega (arith, x.areas);
-  peak = x.peak;
-}
-
--- A call on a service that holds as many areas as before,
-pub goes_on : (own : ℕ) (held : List ℕ) (s t : RigState) → Goes held s t → GoesOn own own held s t
-goes_on own held s t g = record {
-  sound = g.sound;
-  touches = g.touches;
-  frames = shares_same own s.pool t.pool g.frames;
-}
-
-pub goes_alike : (own : ℕ) (held : List ℕ) (s t : RigState) → GoesOn own own held s t → Goes held s t
-goes_alike own held s t g = record {
-  sound = g.sound;
-  touches = g.touches;
-  frames = same_shared own s.pool t.pool g.frames;
-}
-
--- no call at all,
-pub goes_on_nothing : (own : ℕ) (held : List ℕ) (s : RigState) → Sound s → GoesOn own own held s s
-goes_on_nothing own held s sound =
-    let none = goes_nothing s sound in
-    record {
-      sound = sound;
-      touches = touches_wider held [] s s none.touches (λ z k u o. tt);
-      frames = shares_nothing own s.pool;
-    }
-
--- and one call after another: what the second may change was held by the first, or wasn't in use before it.
-pub goes_on_trans : (before middle after : ℕ) (held now : List ℕ) (s t u : RigState) → GoesOn before middle held s t
-    → GoesOn middle after now t u
-    → (IsTrue s.device.told → (k : ℕ) → InUse s k → Off k held → Off k now) → GoesOn before after held s u
-goes_on_trans before middle after held now s t u x y apart = record {
-  sound = y.sound;
-  touches = touches_trans held now s t u x.touches y.touches apart;
-  frames = shares_then before middle after s.pool t.pool u.pool x.frames y.frames;
-}
-
-pub goes_on_within : (before middle after : ℕ) (held now : List ℕ) (s t u : RigState) → GoesOn before middle held s t
-    → Within s held now → GoesOn middle after now t u → GoesOn before after held s u
-goes_on_within before middle after held now s t u x w y =
-    goes_on_trans before middle after held now s t u x y (λ z k i o. w.off z k i o)
+use Rattle.em_map.specs.Areas.{GivenWithAreas, KeepsAreas, SharesAreas}
+use Rattle.em_map.proofs.Areas.{given_after}
+use Rattle.em_services.specs.Service.{CanAnswer, CanSync, CanTake, FramesOut, GivesFrames, RisesBySize, WithinAllowance}
 
 -- The frames of a sync are those of the answers and more, and these are those of a command and more.
 pub sync_answers : (own : ℕ) (p : PoolCounts) → CanSync own p → CanAnswer own p
@@ -137,27 +63,6 @@ out_kept frames own p q o f = record {
   areas = λ some. let out = o.areas some in omega (arith, out, f.free_areas);
 }
 
--- Frames that a service with no area gave back,
-pub given_singles : (frames : ℕ) (p q : PoolCounts) → GivenFrames frames p q → GivenWithAreas frames 0 p q
-given_singles frames p q g = record {
-  shape = g.shape;
-  free = g.free;
-  rack = g.rack;
-  free_areas = omega (arith, g.free_areas);
-  peak = g.peak;
-}
-
--- and those that came back after calls that shared them.
-pub given_after : (frames before after : ℕ) (p q r : PoolCounts) → SharesAreas before after p q
-    → GivenWithAreas frames after q r → GivenWithAreas frames before p r
-given_after frames before after p q r x g = record {
-  shape = g.shape ∙ x.shape;
-  free = omega (arith, x.free, g.free);
-  rack = g.rack ∙ x.rack;
-  free_areas = omega (arith, x.areas, g.free_areas);
-  peak = omega (arith, x.peak, g.peak);
-}
-
 -- A new service holds no area: all that was lent to it came back.
 pub lent_back : (frames own : ℕ) (p q r : PoolCounts) → LentFrames frames p q → own ≡ 0 → GivenWithAreas frames own q r
     → SameFrames p r
@@ -192,7 +97,7 @@ answers_after_calls frames before after p q r ready l few x =
 
 -- A service was made with no area, took calls, and was ended: as much is free as before.
 pub service_ended : (frames before after : ℕ) (held now : List ℕ) (s t u v : RigState) → Touches [] s t
-    → LentFrames frames s.pool t.pool → before ≡ 0 → Within s [] held → GoesOn before after held t u
+    → LentFrames frames s.pool t.pool → before ≡ 0 → Within s [] held → KeepsAreas before after held t u
     → Within t held now → GivesFrames frames after now u v → Goes [] s v
 service_ended frames before after held now s t u v made lent none fresh calls within gives = record {
   sound = gives.sound;
@@ -204,7 +109,7 @@ service_ended frames before after held now s t u v made lent none fresh calls wi
 
 -- The same if it was given up.
 pub service_left : (frames before after : ℕ) (held : List ℕ) (s t u v : RigState) → Touches [] s t
-    → LentFrames frames s.pool t.pool → before ≡ 0 → Within s [] held → GoesOn before after held t u
+    → LentFrames frames s.pool t.pool → before ≡ 0 → Within s [] held → KeepsAreas before after held t u
     → GivesFrames frames after [] u v → Goes [] s v
 service_left frames before after held s t u v made lent none fresh calls gives =
     service_ended frames before after held [] s t u v made lent none fresh calls

@@ -1,26 +1,29 @@
 -- A batch as a service: what its calls leave.
-use Rattle.std.proofs.Common.{◌+◌, ◌*◌, List, [], ◌∷◌, ◌++◌, ap, arith, Some, Result, Ok, Err, OnOk, OnErr, IfOk, IfErr, ◌≡◌, ◌≤◌, length, IsTrue}
+use Rattle.std.proofs.Common.{ℕ, ◌+◌, ◌*◌, Bool, List, [], ◌∷◌, ◌++◌, ap, sym, ◌∙◌, refl, arith, Some, Result, Ok, Err, OnOk, OnErr, IfOk, IfErr, ◌≡◌, ◌≤◌, length, IsTrue}
+use Rattle.em_frames.specs.Pool.{PoolCounts}
+use Rattle.em_lines.specs.Kind.{IsOfKind}
+use Rattle.em_lines.specs.declared.text.FileKind.TheVariants.{Map}
 use Rattle.em_model.specs.declared.command.Command.{Command}
-use Rattle.em_space.specs.Queue.{Pays}
+use Rattle.em_model.specs.declared.command.Command.TheVariants.{Put, Add, Del, Get, Sync, Push, Pop, Interval, Stab}
+use Rattle.em_space.specs.Queue.{CanServe, Pays}
 use Rattle.em_space.specs.Rig.{Cause, Goes, RigState, Sound}
 use Rattle.em_space.specs.declared.fault.EmFault.{EmFault}
 use Rattle.em_space.proofs.Paying.{pays_more}
 use Rattle.em_chain.specs.Effects.{Unmoved}
 use Rattle.em_tree.specs.Calls.{StopsNewTrunk}
-use Rattle.em_trunk.specs.Lists.{LeavesTrunk}
-use Rattle.em_map.specs.Batch.{BatchHasFrames, CountsCommand, HasCommands, IsNewBatch, TakesTo, batch_blocks, batch_spent, trunk_of}
+use Rattle.em_map.specs.Areas.{KeepsAreas}
+use Rattle.em_map.specs.Batch.{BatchHasFrames, BatchOver, BatchWithin, CountsCommand, HasCommands, IsNewBatch, LeavesBatch, TakesTo, answers_room, areas_of, batch_blocks, batch_spent, trunk_of}
 use Rattle.em_map.specs.declared.batch.Batch.{Batch}
-use Rattle.em_services.specs.BatchService.{IsGivenBatch, answers_share, batch_counts, map_share}
-use Rattle.em_services.proofs.Areas.{given_singles, goes_on, one_more, shares_same, within_equal}
-use Rattle.em_services.specs.BatchLaws.{n_is}
+use Rattle.em_services.specs.BatchLaws.{few_areas}
+use Rattle.em_services.specs.BatchService.{IsGivenBatch, answers_share, batch_counts, entered_size, map_share, map_size}
+use Rattle.em_services.specs.Service.{CanAnswer, CanSync, CanTake, GivesFrames, MakesService, TakesCommand, WithinAllowance, FullOverRoom, WithinRoom}
+use Rattle.em_services.proofs.Areas.{answer_takes, sync_takes, take_serves}
+use Rattle.em_services.proofs.BatchSizes.{batch_room, entered_grows, entered_later}
 use Rattle.em_services.proofs.Moves.{call_moves, first_within, made_spends, share_at, take_spends, times_rise}
-use Rattle.em_services.specs.Service.{GivesFrames, GoesOn, MakesService, TakesCommand, WithinAllowance, FullOverRoom, WithinRoom}
 use Rattle.em_services.proofs.OrderedBatch.{share_some}
 use Rattle.em_record.specs.Cost.{room}
-use Rattle.em_trunk.specs.Room.{FullOverRoom as TreeFullOverRoom, WithinRoom as TreeWithinRoom}
 use Rattle.em_tree_cost.specs.Shares.{batch_share, tree_room}
-use Rattle.em_map.proofs.Rooms.{given_blocks}
-use Rattle.em_ready.proofs.RoomLaws.{commands_room, over_used, room_some, two_missing}
+use Rattle.em_ready.proofs.RoomLaws.{over_used, room_some, two_missing}
 
 -- A batch was made,
 pub made : {F : Type 0} (s t : RigState) (result : Result (Batch F) EmFault) → IfOk result (IsNewBatch s t)
@@ -34,7 +37,7 @@ made s t (Ok b) n = record {
   syncs = n.none.syncs;
   pays = pays_more n.tree.pays (omega arith);
   used = λ z. let used = n.tree.loses z in omega (arith, used);
-  spent = made_spends (trunk_of b).spent b.syncs (answers_share s.pool.shape b.calls) s.moves t.moves n.tree.spent;
+  spent = made_spends (trunk_of b).spent b.syncs (answers_share s.pool.shape (entered_size b)) s.moves t.moves n.tree.spent;
 }
 made s t (Err fault) n = tt
 
@@ -77,7 +80,24 @@ pub made_none : {F : Type 0} (s t : RigState) (result : Result (Batch F) EmFault
 made_none s t (Ok b) n = n.none
 made_none s t (Err fault) n = tt
 
--- or it wasn't.
+-- It holds no area, and its size is that of its rule,
+pub made_areas : {F : Type 0} (s t : RigState) (result : Result (Batch F) EmFault) → IfOk result (IsNewBatch s t)
+    → IfOk result (λ b. areas_of b ≡ 0)
+made_areas s t (Ok b) n = n.areas
+made_areas s t (Err fault) n = tt
+
+pub made_size : {F : Type 0} (early : Bool) (result : Result (Batch F) EmFault) → IfOk result (λ b. b.early ≡ early)
+    → IfOk result (λ b. map_size b.early ≡ map_size early)
+made_size early (Ok b) e = ap map_size e
+made_size early (Err fault) e = tt
+
+-- by which it joins adds early or not,
+pub made_early : {F : Type 0} (early is : Bool) (result : Result (Batch F) EmFault) → early ≡ is
+    → IfOk result (λ b. b.early ≡ is) → IfOk result (λ b. b.early ≡ early)
+made_early early is (Ok b) e h = h ∙ sym e
+made_early early is (Err fault) e h = tt
+
+-- or it wasn't made.
 pub unmade_goes : {F : Type 0} (s t : RigState) (result : Result (Batch F) EmFault)
     → IfErr result (StopsNewTrunk s t) → OnErr result (Goes [] s t)
 unmade_goes s t (Ok b) h = tt
@@ -94,62 +114,77 @@ pub unmade_cause : {F : Type 0} (s t : RigState) (result : Result (Batch F) EmFa
 unmade_cause s t (Ok b) h = tt
 unmade_cause s t (Err fault) h = h.cause
 
--- A command was given to it, with at most the moves of its share,
-counted_moves : {F : Type 0} (s t : RigState) (b d : Batch F) → Sound s → CountsCommand s t b d
-    → WithinAllowance (Some map_share) ((batch_counts b).n + 1) (batch_counts b).syncs (batch_counts b).spent s t
-counted_moves s t b d sound n = λ z.
-    let share = share_at s.pool.shape (batch_spent d) d.calls (b.calls + 1) d.syncs b.syncs n.calls n.syncs (n.share z) in
-    let spent = n.tree.spent in
-    let syncs = n.syncs in
-    call_moves s.pool.shape (b.calls + 1) b.calls b.syncs b.syncs (batch_spent b) (batch_spent d) 0 s.moves t.moves
-    sound.shape (omega arith) (omega arith) (omega (arith, spent, syncs)) share (omega arith)
+-- The frames of a command, of a sync and of the answers are those of a call on its tree, beside the area that it may hold.
+pub take_free : {F : Type 0} (b : Batch F) (p : PoolCounts) → CanTake (areas_of b) p → CanServe p
+take_free b p c = take_serves (areas_of b) p (few_areas b) c
 
-pub take_moves : {F : Type 0} (c : Command) (s t : RigState) (b d : Batch F) → Sound s → CountsCommand s t b d
+pub sync_free : {F : Type 0} (b : Batch F) (p : PoolCounts) → CanSync (areas_of b) p → CanServe p
+sync_free b p c = take_free b p (sync_takes (areas_of b) p c)
+
+pub answers_free : {F : Type 0} (b : Batch F) (p : PoolCounts) → CanAnswer (areas_of b) p → CanServe p
+answers_free b p c = take_free b p (answer_takes (areas_of b) p c)
+
+-- A map's command that is no sync is one of four.
+pub no_other : (c : Command) → IsOfKind Map c → (c ≡ Sync → ⊥) → ((x y : ℕ) → c ≡ Put x y → ⊥)
+    → ((x : ℕ) → c ≡ Del x → ⊥) → ((x y : ℕ) → c ≡ Add x y → ⊥) → ((x : ℕ) → c ≡ Get x → ⊥) → ⊥
+no_other (Put key value) kind sync put del add get = put key value refl
+no_other (Del key) kind sync put del add get = del key refl
+no_other (Add key value) kind sync put del add get = add key value refl
+no_other (Get key) kind sync put del add get = get key refl
+no_other Sync kind sync put del add get = sync refl
+no_other (Push key value) kind sync put del add get = kind
+no_other Pop kind sync put del add get = kind
+no_other (Interval low high) kind sync put del add get = kind
+no_other (Stab point) kind sync put del add get = kind
+
+-- A command was given to it, by which its size is counted as before,
+pub take_size : {F : Type 0} (c : Command) (s t : RigState) (b d : Batch F) → CountsCommand c s t b d
+    → map_size d.early ≡ map_size b.early
+take_size c s t b d n = ap map_size n.early
+
+-- with at most the moves of its share,
+pub take_moves : {F : Type 0} (c : Command) (s t : RigState) (b d : Batch F) → Sound s → CountsCommand c s t b d
     → (before cs : List Command) → HasCommands s b before cs
-    → WithinAllowance (Some map_share) (length (before ++ cs ++ c ∷ [])) (batch_counts b).syncs
+    → WithinAllowance (Some map_share) (map_size b.early s.pool.shape (before ++ cs ++ c ∷ [])) (batch_counts b).syncs
     (batch_counts b).spent s t
-take_moves c s t b d sound n before cs h =
-    within_equal (Some map_share) (b.calls + 1) (length (before ++ cs ++ c ∷ [])) (batch_counts b).syncs
-    (batch_counts b).spent s t (one_more b.calls before cs c (n_is b s before cs h)) (counted_moves s t b d sound n)
+take_moves c s t b d sound n before cs h = λ z.
+    let size = map_size b.early s.pool.shape (before ++ cs ++ c ∷ []) in
+    let share = share_at s.pool.shape (batch_spent d) size size d.syncs b.syncs refl n.syncs (n.joined z before cs h) in
+    let moves = n.moves in
+    call_moves s.pool.shape size (entered_size b) b.syncs b.syncs (batch_spent b) (batch_spent d) 0 s.moves t.moves
+    sound.shape (entered_later s b before cs h (c ∷ [])) (omega arith) (omega (arith, moves)) share (omega arith)
 
 -- and at most the blocks of its room,
 module _ {F : Type 0} (s t : RigState) (b : Batch F) (i : IsGivenBatch s b) (sound : Sound s) where
-  own_room : IsTrue s.device.told → tree_room s.pool.shape (b.calls + 1) + (trunk_of b).answers.blocks
+  own_room : IsTrue s.device.told → tree_room s.pool.shape (b.calls + 1) + answers_room s b (b.calls + 1)
       ≤ room s.pool.shape (b.calls + 1)
-  own_room z =
-      let given = given_blocks s b i.before i.since i.is i.has z sound.shape in
-      commands_room s.pool.shape b.calls (b.calls + 1) (trunk_of b).answers.blocks sound.shape
-      (omega arith) given
+  own_room z = batch_room s b (b.calls + 1) i sound.shape z (omega arith)
 
-  pub take_room : (IsTrue s.device.told → TreeWithinRoom (b.calls + 1) s t (trunk_of b))
+  pub take_room : (IsTrue s.device.told → BatchWithin (b.calls + 1) s t b)
       → WithinRoom (Some room) ((batch_counts b).n + 1) (batch_blocks s b) s t
   take_room w = λ z.
       let most = (w z).most in
       let own = own_room z in record { is = omega (arith, most, own) }
 
   pub take_full : {T : Type 0} (result : Result T EmFault)
-      → IfErr result (λ fault. IsTrue s.device.told → TreeFullOverRoom (b.calls + 1) s (trunk_of b) fault)
+      → IfErr result (λ fault. IsTrue s.device.told → BatchOver (b.calls + 1) s b fault)
       → IfErr result (Cause s t) → t.blocks ≡ s.blocks
       → IfErr result (FullOverRoom (Some room) ((batch_counts b).n + 1) (batch_blocks s b) s)
   take_full (Ok x) over cause same = tt
   take_full (Err fault) over cause same = λ z.
       over_used fault (length (batch_blocks s b)) s.used
-      (tree_room s.pool.shape (b.calls + 1) + (trunk_of b).answers.blocks)
+      (tree_room s.pool.shape (b.calls + 1) + answers_room s b (b.calls + 1))
       (room s.pool.shape (b.calls + 1)) s t (over z).full cause same (own_room z)
 
 -- or the call gave up.
 module _ {F : Type 0} (T : Type 0) (c : Command) (s t : RigState) (b d : Batch F) where
   pub take_goes : (result : Result T EmFault) → TakesTo c s t b d result
-      → GoesOn 0 0 (batch_blocks s b) s t
-  take_goes (Ok x) h = record {
-    sound = h.tree.session.sound;
-    touches = h.tree.session.touches;
-    frames = shares_same 0 s.pool t.pool h.tree.frames;
-  }
-  take_goes (Err fault) h = goes_on 0 (batch_blocks s b) s t h.goes
+      → KeepsAreas (areas_of b) (areas_of d) (batch_blocks s b) s t
+  take_goes (Ok x) h = record { sound = h.session.sound; touches = h.session.touches; frames = h.frames }
+  take_goes (Err fault) h = h.goes
 
   pub take_frames : (result : Result T EmFault) → TakesTo c s t b d result → BatchHasFrames t d
-  take_frames (Ok x) h = h.is.is.running.frames
+  take_frames (Ok x) h = record { tree = h.is.is.running.frames; area = h.is.area }
   take_frames (Err fault) h = h.frames
 
   pub take_is : (result : Result T EmFault) → TakesTo c s t b d result → IsGivenBatch s b
@@ -167,24 +202,25 @@ module _ {F : Type 0} (T : Type 0) (c : Command) (s t : RigState) (b d : Batch F
   take_has (Ok x) h = h.commands
   take_has (Err fault) h = tt
 
-  pub takes : (result : Result T EmFault) → TakesTo c s t b d result → CountsCommand s t b d → Sound s
+  pub takes : (result : Result T EmFault) → TakesTo c s t b d result → CountsCommand c s t b d → IsGivenBatch s b
+      → Sound s
       → OnOk result (TakesCommand (Some map_share) (Some room) 0 (batch_blocks s b) (batch_blocks t d)
       (batch_counts b) (batch_counts d) s t)
-  takes (Ok x) h n sound = record {
-    within = h.tree.session.within;
+  takes (Ok x) h n i sound = record {
+    within = h.session.within;
     n = n.calls;
     syncs = let syncs = n.syncs in omega (arith, syncs);
-    pays = h.tree.pays;
-    used = λ z. h.tree.loses z;
+    pays = h.pays;
+    used = λ z. h.loses z;
     spent = λ z.
-        let spent = n.tree.spent in
-        let syncs = n.syncs in
-        let calls = n.calls in
-        take_spends b.syncs d.syncs (answers_share s.pool.shape b.calls) (answers_share s.pool.shape d.calls)
-        (batch_spent b) (batch_spent d) s.moves t.moves syncs (omega (arith, spent, syncs))
-        (times_rise s.pool.shape b.calls d.calls b.syncs sound.shape (omega (arith, calls)));
+        let moves = n.moves in
+        let grows = entered_grows s t b d h.frames.shape n.early i.before i.since c i.has
+        (h.commands i.before i.since i.has) in
+        take_spends b.syncs d.syncs (answers_share s.pool.shape (entered_size b))
+        (answers_share s.pool.shape (entered_size d)) (batch_spent b) (batch_spent d) s.moves t.moves n.syncs
+        (omega (arith, moves)) (times_rise s.pool.shape (entered_size b) (entered_size d) b.syncs sound.shape grows);
   }
-  takes (Err fault) h n sound = tt
+  takes (Err fault) h n i sound = tt
 
   pub take_owes : (result : Result T EmFault) → TakesTo c s t b d result
       → OnErr result (Pays (batch_counts b).unstored s.pool.shape.frames s t)
@@ -197,15 +233,11 @@ module _ {F : Type 0} (T : Type 0) (c : Command) (s t : RigState) (b d : Batch F
   take_cause (Err fault) h = h.cause
 
 -- It was abandoned.
-pub left_gives : (s t : RigState) → LeavesTrunk s t → GivesFrames 2 0 [] s t
-left_gives s t l = record {
-  sound = l.sound;
-  touches = l.touches;
-  frames_are = given_singles 2 s.pool t.pool l.frames;
-}
+pub left_gives : {F : Type 0} (s t : RigState) (b : Batch F) → LeavesBatch s t b → GivesFrames 2 (areas_of b) [] s t
+left_gives s t b l = record { sound = l.sound; touches = l.touches; frames_are = l.frames }
 
-pub left_unmoved : (s t : RigState) → LeavesTrunk s t → Unmoved s t
-left_unmoved s t l = record {
+pub left_unmoved : {F : Type 0} (s t : RigState) (b : Batch F) → LeavesBatch s t b → Unmoved s t
+left_unmoved s t b l = record {
   device = ap (λ (x : RigState). x.device) l.same;
   spare = ap (λ (x : RigState). x.spare) l.same;
   same = record {

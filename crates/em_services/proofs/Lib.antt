@@ -1,6 +1,7 @@
 pub mod AnswerOrder
 pub mod Areas
 pub mod BatchAnswers
+pub mod BatchSizes
 pub mod Batching
 pub mod InOrder
 pub mod Moves

@@ -27,12 +27,13 @@ lists_within y z a b extra later rise more =
 synced_times : (shape : ShapeNumbers) (n y : ℕ) → synced_share shape n y ≡ (y + 1) * batch_share shape n
 synced_times shape n y = omega arith
 
--- as often as there were syncs, by more commands
+-- as often as there were syncs, for a greater size
 pub times_rise : (shape : ShapeNumbers) (m n y : ℕ) → IsShape shape → m ≤ n
     → y * answers_share shape m ≤ y * answers_share shape n
 times_rise shape m n y is h = mul-le-mul_left y (answers_rise shape m n is h)
 
--- All moves so far of a batch that had k commands and y syncs, and the lists of these, are within what it is allowed then.
+-- All moves so far of a batch with y syncs, and the lists of these, given at sizes up to k, are within what it is allowed for
+-- a size.
 pub call_moves : (shape : ShapeNumbers) (n k y z old new extra first last : ℕ) → IsShape shape → k ≤ n → y ≤ z
     → last + old ≤ first + new + extra → new ≤ synced_share shape n z → extra ≤ answers_share shape n
     → old + y * answers_share shape k + last ≤ first + (z + 1) * map_share shape n

@@ -27,7 +27,7 @@ use Rattle.em_tree_walk.proofs.Losses.{writer_length}
 use Rattle.em_model.specs.MapAnswers.{answers_after}
 use Rattle.std.proofs.Math.Seq.{drop-append_seam, take-append_seam}
 use Rattle.em_services.proofs.AnswerOrder.{records_few}
-use Rattle.em_services.proofs.Areas.{given_singles}
+use Rattle.em_map.proofs.Areas.{given_singles}
 use Rattle.em_settle.specs.Add.{apply_of}
 
 -- the blocks of a list are those that its commands fill

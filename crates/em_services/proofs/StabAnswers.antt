@@ -26,7 +26,8 @@ use Rattle.em_segment.proofs.StabCalls.{stab_few}
 use Rattle.em_segment.proofs.StabLaws.{StabStays, stab_beside, stab_frames_stay}
 use Rattle.em_tree_cost.specs.Shares.{queue_share, stab_share, stab_room, tree_room}
 use Rattle.em_ready.specs.Queues.{FailsToMake, MakesQueue}
-use Rattle.em_services.specs.Service.{CanAnswer, GivenWithAreas, GivesFrames, LeavesAnswers, WithinAllowance, FullOverRoom, WithinRoom}
+use Rattle.em_map.specs.Areas.{GivenWithAreas}
+use Rattle.em_services.specs.Service.{CanAnswer, GivesFrames, LeavesAnswers, WithinAllowance, FullOverRoom, WithinRoom}
 use Rattle.em_services.specs.StabService.{stab_counts}
 use Rattle.em_tree_cost.proofs.Rising.{tree_room_rises}
 use Rattle.em_ready.proofs.RoomLaws.{finish_room, stabs_room, two_missing, when_full}

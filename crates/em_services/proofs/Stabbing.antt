@@ -13,10 +13,12 @@ use Rattle.em_chain.specs.declared.writer.Writer.{Writer}
 use Rattle.em_segment.specs.Stabs.{HasCommands, IsNewStab, IsStab, LeavesStab, StabHasFrames, TakeCosts, TakesTo, stab_blocks, FullOverRoom as StabFullOverRoom, stab_account, stab_len}
 use Rattle.em_segment.specs.declared.stab.Stab.{Stab}
 use Rattle.em_tree_cost.specs.Shares.{stab_share, stab_room}
-use Rattle.em_services.specs.Service.{GivesFrames, GoesOn, MakesService, TakesCommand, WithinAllowance, FullOverRoom, WithinRoom}
+use Rattle.em_map.specs.Areas.{KeepsAreas}
+use Rattle.em_services.specs.Service.{GivesFrames, MakesService, TakesCommand, WithinAllowance, FullOverRoom, WithinRoom}
 use Rattle.em_services.specs.StabLaws.{rising}
 use Rattle.em_services.specs.StabService.{stab_counts}
-use Rattle.em_services.proofs.Areas.{given_singles, goes_on, one_more, within_more}
+use Rattle.em_map.proofs.Areas.{given_singles, goes_on}
+use Rattle.em_services.proofs.Areas.{one_more, within_more}
 use Rattle.em_model.specs.StabAnswers.{stab_pairs}
 use Rattle.em_record.specs.Cost.{room}
 use Rattle.em_tree_walk.proofs.Losses.{writer_length}
@@ -135,7 +137,7 @@ take_full s v (Err fault) sound i over = λ z.
 -- or the call gave up.
 module _ (T : Type 0) (c : Command) (s t : RigState) (v w : Stab) where
   pub take_goes : (result : Result T EmFault) → TakesTo c s t v w result
-      → GoesOn 0 0 (stab_blocks s v) s t
+      → KeepsAreas 0 0 (stab_blocks s v) s t
   take_goes (Ok x) h = goes_on 0 (stab_blocks s v) s t (runs_goes h.runs)
   take_goes (Err fault) h = goes_on 0 (stab_blocks s v) s t h.stops.goes
 

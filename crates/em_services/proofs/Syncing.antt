@@ -1,5 +1,5 @@
 -- A sync of a batch, and its answers in order.
-use Rattle.std.proofs.Common.{◌≡◌, ℕ, ◌+◌, ◌*◌, ◌≤◌, ◌<◌, List, [], ◌∷◌, ◌++◌, length, length-append, ap, sym, subst, ◌∙◌, arith, IsTrue, Some, Result, Ok, Err, OnOk, OnErr, IfOk, IfErr}
+use Rattle.std.proofs.Common.{◌≡◌, ℕ, ◌+◌, ◌*◌, ◌≤◌, ◌<◌, List, [], ◌∷◌, ◌++◌, length, length-append, ap, sym, subst, refl, ◌∙◌, arith, IsTrue, Some, Result, Ok, Err, OnOk, OnErr, IfOk, IfErr}
 use Rattle.em_record.specs.Cost.{room}
 use Rattle.em_record.proofs.Order.{length_order}
 use Rattle.em_record.specs.Shape.{ShapeNumbers, fan_of, payload_of}
@@ -13,7 +13,7 @@ use Rattle.em_space.specs.Rig.{Cause, RigState, Sound, Touches}
 use Rattle.em_space.specs.declared.fault.EmFault.{EmFault}
 use Rattle.em_space.proofs.Paying.{pays_more, pays_then}
 use Rattle.em_space.proofs.Sessions.{session_as, session_others, session_then}
-use Rattle.em_space.proofs.Steps.{cause_after, same_frames_then}
+use Rattle.em_space.proofs.Steps.{cause_after}
 use Rattle.em_space.proofs.Apart.{off_left}
 use Rattle.em_space.proofs.Within.{touches_within}
 use Rattle.em_chain.specs.Chain.{chain_blocks, chain_items}
@@ -22,23 +22,22 @@ use Rattle.em_chain.specs.declared.chain.Chain.{Chain}
 use Rattle.em_chain.proofs.Counts.{packed_blocks}
 use Rattle.em_chain.proofs.Readers.{length_items}
 use Rattle.em_plain.specs.Room.{StaysWithin}
-use Rattle.em_tree.specs.Calls.{StopsTrunk}
 use Rattle.em_tree_cost.specs.Shares.{tree_room}
 use Rattle.em_tree_cost.proofs.Rising.{queue_share_rises, tree_room_rises}
 use Rattle.em_tree_walk.proofs.Losses.{chain_length}
-use Rattle.em_trunk.specs.Room.{FullOverRoom as TreeFullOverRoom, WithinRoom as TreeWithinRoom}
-use Rattle.em_map.specs.Batch.{BatchHasFrames, CountsSync, HasCommands, SyncedBatch, batch_blocks, batch_spent, batch_unstored, rule_of, trunk_of}
+use Rattle.em_map.specs.Areas.{KeepsAreas, SharesAreas}
+use Rattle.em_map.specs.Batch.{BatchHasFrames, BatchOver, BatchWithin, CountsSync, HasCommands, StopsBatch, SyncedBatch, answers_room, areas_of, batch_blocks, batch_spent, batch_unstored, rule_of}
 use Rattle.em_map.specs.declared.batch.Batch.{Batch}
-use Rattle.em_map.proofs.Rooms.{given_blocks, held_blocks, none_given}
-use Rattle.em_map.proofs.Stays.{BatchStays, batch_beside, batch_frames_stay}
-use Rattle.em_ready.proofs.RoomLaws.{commands_room, over_used, room_rises, when_full}
-use Rattle.em_services.specs.BatchService.{AreAnswers, IsGivenBatch, OrdersAnswers, answers_share, batch_counts, map_share, ordering_moves, ordering_room}
+use Rattle.em_map.proofs.Rooms.{held_blocks, none_given}
+use Rattle.em_map.proofs.Stays.{BatchStays, batch_beside}
+use Rattle.em_ready.proofs.RoomLaws.{over_used, room_rises, when_full}
+use Rattle.em_services.specs.BatchService.{AreAnswers, IsGivenBatch, OrdersAnswers, answers_share, batch_counts, entered_size, map_share, map_size, ordering_moves, ordering_room}
 use Rattle.em_services.specs.InOrder.{lists_room}
-use Rattle.em_services.specs.Service.{CanSync, FullOverRoom, GivesAtSync, GoesOn, WithinAllowance, WithinRoom}
-use Rattle.em_services.specs.BatchLaws.{n_is}
+use Rattle.em_services.specs.Service.{CanSync, FramesOut, FullOverRoom, GivesAtSync, WithinAllowance, WithinRoom}
+use Rattle.em_services.specs.BatchLaws.{frames_stay}
 use Rattle.em_services.proofs.AnswerOrder.{answers_lack, answers_most}
-use Rattle.em_services.proofs.Areas.{goes_on, one_more, shares_same, within_equal}
 use Rattle.em_services.proofs.BatchAnswers.{ceiling_share}
+use Rattle.em_services.proofs.BatchSizes.{answers_later, batch_room, entered_all, entered_later}
 use Rattle.em_services.proofs.Moves.{call_moves, share_at, sync_spends, times_rise, two_rooms, within_map}
 use Rattle.em_services.proofs.SyncRoom.{sync_room}
 
@@ -49,16 +48,15 @@ list_more order blocks most all few h = omega (arith, few, h)
 list_less : (order most all : ℕ) → order + 3 * most ≤ all → order ≤ all
 list_less order most all h = omega (arith, h)
 
--- What its tree holds while it is settled is within the room of a command more.
+-- What a batch holds while it is settled is within the room of a command more.
 own_room : {F : Type 0} (s : RigState) (b : Batch F) → IsGivenBatch s b → Sound s → IsTrue s.device.told
-    → tree_room s.pool.shape b.calls + (trunk_of b).answers.blocks ≤ room s.pool.shape (b.calls + 1)
+    → tree_room s.pool.shape b.calls + answers_room s b b.calls ≤ room s.pool.shape (b.calls + 1)
 own_room s b i sound z =
-    let given = given_blocks s b i.before i.since i.is i.has z sound.shape in
-    let one = commands_room s.pool.shape b.calls b.calls (trunk_of b).answers.blocks sound.shape (omega arith) given in
+    let one = batch_room s b b.calls i sound.shape z (omega arith) in
     let more = room_rises s.pool.shape b.calls (b.calls + 1) (omega arith) in
     omega (arith, one, more)
 
--- The tree was settled, and handed out the answers: no more of them than commands,
+-- The tree was settled, and handed out the answers: no more of them than commands, and within their size,
 module _ {F : Type 0} (s m : RigState) (b d : Batch F) (c : Chain) (f : SyncedBatch s m b d c) (i : IsGivenBatch s b) where
   told_m : IsTrue s.device.told → IsTrue m.device.told
   told_m z = f.session.touches.told ∙ z
@@ -70,16 +68,23 @@ module _ {F : Type 0} (s m : RigState) (b d : Batch F) (c : Chain) (f : SyncedBa
       let calls = i.has.calls in
       omega (arith, n, l, calls)
 
+  handed_size : IsTrue s.device.told → (before cs : List Command) → HasCommands s b before cs
+      → c.count ≤ map_size b.early s.pool.shape (before ++ cs ++ Sync ∷ [])
+  handed_size z before cs h =
+      let n = length_items m c f.chain (told_m z) in
+      let l = answers_later s b before cs h (chain_items m c) (Sync ∷ []) (f.ordered z before cs h) in
+      omega (arith, n, l)
+
   -- which can be put in order,
-  pub handed_are : CanSync 0 s.pool → AreAnswers m c
+  pub handed_are : CanSync (areas_of b) s.pool → AreAnswers m c
   handed_are free = record {
     sound = f.session.sound;
     free = record {
       singles = let e = ap fan_of f.frames.shape in omega (arith, e, f.frames.free, free.singles);
-      areas = omega (arith, f.frames.free_areas, free.areas);
+      areas = omega (arith, f.frames.areas, free.areas);
       rack = f.frames.rack ∙ free.rack;
     };
-    areas = omega (arith, f.frames.free_areas, free.areas);
+    areas = omega (arith, f.frames.areas, free.areas);
     is = f.chain;
     few = λ z.
         let n = handed_count (sym f.session.touches.told ∙ z) in
@@ -100,15 +105,14 @@ module _ {F : Type 0} (s m : RigState) (b d : Batch F) (c : Chain) (f : SyncedBa
       omega (arith, used, own, parts)
 
   -- The queue's moves, those of both lists, and those of reading and releasing the second one.
-  order_share : (n : ℕ) → b.calls ≤ n → IsTrue s.device.told
+  order_share : (n : ℕ) → c.count ≤ n → IsTrue s.device.told
       → ordering_moves m c + 3 * ceiling c.count (payload_of m.pool.shape) ≤ answers_share s.pool.shape n
-  order_share n more z =
-      let few = handed_count z in
+  order_share n few z =
       let low = f.session.sound.shape.block_low in
       let blocks = handed_blocks z in
-      let most = ceiling_share m.pool.shape c.count n (omega (arith, few, more)) (omega (arith, low)) in
+      let most = ceiling_share m.pool.shape c.count n few (omega (arith, low)) in
       let queue = queue_share_rises m.pool.shape (2 * c.count) (2 * n) (2 * c.count) (2 * n)
-      (omega (arith, few, more)) (omega (arith, few, more)) in
+      (omega (arith, few)) (omega (arith, few)) in
       rw (← f.frames.shape) (omega (arith, blocks, most, queue))
 
   calls_one : d.calls ≤ b.calls + 1
@@ -147,30 +151,46 @@ module _ {F : Type 0} (s m : RigState) (b d : Batch F) (c : Chain) (f : SyncedBa
     order_frames (Ok e) o = o.frames
     order_frames (Err fault) o = o.goes.frames
 
-    pub synced_goes : (result : Result Chain EmFault) → OrdersAnswers m t c result → GoesOn 0 0 (batch_blocks s b) s t
+    -- its area came back, and no other is out
+    order_shares : (result : Result Chain EmFault) → OrdersAnswers m t c result
+        → SharesAreas (areas_of b) (areas_of d) s.pool t.pool
+    order_shares result o =
+        let same = order_frames result o in
+        record {
+          shape = same.shape ∙ f.frames.shape;
+          free = same.free ∙ f.frames.free;
+          areas = let none = f.areas in omega (arith, none, f.frames.areas, same.free_areas);
+          rack = same.rack ∙ f.frames.rack;
+          peak = omega (arith, f.frames.peak, same.peak);
+        }
+
+    pub synced_goes : (result : Result Chain EmFault) → OrdersAnswers m t c result
+        → KeepsAreas (areas_of b) (areas_of d) (batch_blocks s b) s t
     synced_goes result o = record {
       sound = order_sound result o;
       touches = touches_within s m t (batch_blocks s b) (chain_blocks m c) f.session.touches
           (record { off = λ z j u k. off_left j (chain_blocks m c) (batch_blocks m d) (f.session.within.off z j u k) })
           (order_touches result o);
-      frames = shares_same 0 s.pool t.pool (same_frames_then s.pool m.pool t.pool f.frames (order_frames result o));
+      frames = order_shares result o;
     }
 
     -- its two frames are out
-    frames_out : (result : Result Chain EmFault) → OrdersAnswers m t c result
-        → t.pool.free + 2 ≤ singles_of t.pool.shape
+    frames_out : (result : Result Chain EmFault) → OrdersAnswers m t c result → FramesOut 2 (areas_of d) t.pool
     frames_out result o =
         let out = f.is.is.running.frames.out in
         let same = order_frames result o in
         let shape = ap singles_of same.shape in
-        omega (arith, out, same.free, shape)
+        let none = f.areas in
+        record { is = omega (arith, out, same.free, shape); areas = λ some. absurd (omega (arith, none, some)) }
 
     pub synced_frames : (result : Result Chain EmFault) → OrdersAnswers m t c result → BatchHasFrames t d
-    synced_frames result o = batch_frames_stay (chain_blocks m c) m t d (order_touches result o) (frames_out result o)
-        f.is.is.running.frames
+    synced_frames result o = frames_stay d (chain_blocks m c) m t
+        (record { tree = f.is.is.running.frames; area = f.is.area }) (order_touches result o) (frames_out result o)
 
     beside : (result : Result Chain EmFault) → OrdersAnswers m t c result → BatchStays m t d
-    beside result o = batch_beside (chain_blocks m c) m t d (order_touches result o) (frames_out result o) f.is
+    beside result o =
+        let out = frames_out result o in
+        batch_beside (chain_blocks m c) m t d (order_touches result o) out.is out.areas f.is
         (λ z. session_others (chain_blocks m c) (batch_blocks m d) f.session (sym f.session.touches.told ∙ z))
 
     pub synced_is : (result : Result Chain EmFault) → OrdersAnswers m t c result → OnOk result (IsGivenBatch t d)
@@ -213,17 +233,26 @@ module _ {F : Type 0} (s m : RigState) (b d : Batch F) (c : Chain) (f : SyncedBa
         let all : e.blocks ≡ ceiling c.count (payload_of m.pool.shape) = blocks ∙ shape ∙ fill in
         omega (arith, all)
 
+    -- all its commands entered the tree
+    entered_is : (before cs : List Command) → HasCommands s b before cs
+        → entered_size d ≡ map_size b.early s.pool.shape (before ++ cs ++ Sync ∷ [])
+    entered_is before cs h =
+        entered_all s m b d f.frames.shape n.early (before ++ cs ++ Sync ∷ []) f.areas (f.commands before cs h)
+
     sync_spent : (e : Chain) → OrdersAnswers m t c (Ok e) → IsTrue s.device.told
         → t.moves + 3 * e.blocks + (batch_counts b).spent s.pool.shape ≤ s.moves + (batch_counts d).spent s.pool.shape
     sync_spent e o z =
-        let calls = n.calls in
-        let rest = order_share d.calls (omega (arith, calls)) z in
+        let all = entered_is i.before i.since i.has in
+        let few = handed_size z i.before i.since i.has in
+        let less = entered_later s b i.before i.since i.has (Sync ∷ []) in
+        let rest = order_share (entered_size d) (omega (arith, all, few)) z in
         let blocks = ordered_blocks e o z in
-        sync_spends b.syncs d.syncs (answers_share s.pool.shape b.calls) (answers_share s.pool.shape d.calls) (batch_spent b)
-        (batch_spent d) (ordering_moves m c) (3 * e.blocks) s.moves m.moves t.moves n.syncs (o.moves (told_m z)) n.moves
+        sync_spends b.syncs d.syncs (answers_share s.pool.shape (entered_size b))
+        (answers_share s.pool.shape (entered_size d)) (batch_spent b) (batch_spent d) (ordering_moves m c) (3 * e.blocks)
+        s.moves m.moves t.moves n.syncs (o.moves (told_m z)) n.moves
         (list_more (ordering_moves m c) e.blocks (ceiling c.count (payload_of m.pool.shape))
-        (answers_share s.pool.shape d.calls) blocks rest)
-        (times_rise s.pool.shape b.calls d.calls b.syncs sound.shape (omega (arith, calls)))
+        (answers_share s.pool.shape (entered_size d)) blocks rest)
+        (times_rise s.pool.shape (entered_size b) (entered_size d) b.syncs sound.shape (omega (arith, all, less)))
 
     pub synced_gives : (result : Result Chain EmFault) → OrdersAnswers m t c result
         → IfOk result (GivesAtSync (Some map_share) (Some room) (batch_blocks s b) (batch_blocks t d)
@@ -247,18 +276,15 @@ module _ {F : Type 0} (s m : RigState) (b d : Batch F) (c : Chain) (f : SyncedBa
     }
     synced_gives (Err fault) o = tt
 
-    -- a command more
-    calls_next : (before cs : List Command) → HasCommands s b before cs → b.calls + 1 ≡ length (before ++ cs ++ Sync ∷ [])
-    calls_next before cs h = one_more b.calls before cs Sync (n_is b s before cs h)
-
     pub synced_within : (result : Result Chain EmFault) → OrdersAnswers m t c result
         → OnOk result (IsTrue s.device.told → (before cs : List Command) → HasCommands s b before cs
         → (batch_counts d).spent s.pool.shape
-        ≤ (d.syncs + 1) * map_share s.pool.shape (length (before ++ cs ++ Sync ∷ [])))
+        ≤ (d.syncs + 1) * map_share s.pool.shape (map_size b.early s.pool.shape (before ++ cs ++ Sync ∷ [])))
     synced_within (Ok e) o = λ z before cs h.
-        subst (λ (k : ℕ). (batch_counts d).spent s.pool.shape ≤ (d.syncs + 1) * map_share s.pool.shape k)
-        (n.calls ∙ calls_next before cs h)
-        (within_map s.pool.shape d.calls d.syncs (batch_spent d) (n.share z))
+        let size = map_size b.early s.pool.shape (before ++ cs ++ Sync ∷ []) in
+        let all = within_map s.pool.shape size d.syncs (batch_spent d) (n.joined z before cs h) in
+        subst (λ (k : ℕ). batch_spent d + d.syncs * answers_share s.pool.shape k ≤ (d.syncs + 1) * map_share s.pool.shape size)
+        (sym (entered_is before cs h)) all
     synced_within (Err fault) o = tt
 
     ordered_moves : (result : Result Chain EmFault) → OrdersAnswers m t c result → IsTrue m.device.told
@@ -266,26 +292,21 @@ module _ {F : Type 0} (s m : RigState) (b d : Batch F) (c : Chain) (f : SyncedBa
     ordered_moves (Ok e) o z = o.moves z
     ordered_moves (Err fault) o z = o.moves z
 
-    counted_moves : (result : Result Chain EmFault) → OrdersAnswers m t c result
-        → WithinAllowance (Some map_share) ((batch_counts b).n + 1) ((batch_counts b).syncs + 1)
-        (batch_counts b).spent s t
-    counted_moves result o = λ z.
+    pub synced_moves : (result : Result Chain EmFault) → OrdersAnswers m t c result → (before cs : List Command)
+        → HasCommands s b before cs
+        → WithinAllowance (Some map_share) (map_size b.early s.pool.shape (before ++ cs ++ Sync ∷ []))
+        ((batch_counts b).syncs + 1) (batch_counts b).spent s t
+    synced_moves result o before cs h = λ z.
+        let size = map_size b.early s.pool.shape (before ++ cs ++ Sync ∷ []) in
         let moves : t.moves ≤ m.moves + ordering_moves m c = ordered_moves result o (told_m z) in
         let own = n.moves in
-        let rest = order_share (b.calls + 1) (omega arith) z in
-        let share = share_at s.pool.shape (batch_spent d) d.calls (b.calls + 1) d.syncs (b.syncs + 1) n.calls n.syncs
-        (n.share z) in
-        call_moves s.pool.shape (b.calls + 1) b.calls b.syncs (b.syncs + 1) (batch_spent b) (batch_spent d)
-        (ordering_moves m c) s.moves t.moves sound.shape (omega arith) (omega arith) (omega (arith, moves, own)) share
-        (list_less (ordering_moves m c) (ceiling c.count (payload_of m.pool.shape)) (answers_share s.pool.shape (b.calls + 1))
-        rest)
-
-    pub synced_moves : (result : Result Chain EmFault) → OrdersAnswers m t c result → (before cs : List Command)
-        → HasCommands s b before cs → WithinAllowance (Some map_share) (length (before ++ cs ++ Sync ∷ []))
-        ((batch_counts b).syncs + 1) (batch_counts b).spent s t
-    synced_moves result o before cs h =
-        within_equal (Some map_share) (b.calls + 1) (length (before ++ cs ++ Sync ∷ [])) ((batch_counts b).syncs + 1)
-        (batch_counts b).spent s t (calls_next before cs h) (counted_moves result o)
+        let rest = order_share size (handed_size z before cs h) z in
+        let share = share_at s.pool.shape (batch_spent d) size size d.syncs (b.syncs + 1) refl n.syncs
+        (n.joined z before cs h) in
+        call_moves s.pool.shape size (entered_size b) b.syncs (b.syncs + 1) (batch_spent b) (batch_spent d)
+        (ordering_moves m c) s.moves t.moves sound.shape (entered_later s b before cs h (Sync ∷ [])) (omega arith)
+        (omega (arith, moves, own)) share
+        (list_less (ordering_moves m c) (ceiling c.count (payload_of m.pool.shape)) (answers_share s.pool.shape size) rest)
 
     order_stays : (result : Result Chain EmFault) → OrdersAnswers m t c result → IsTrue m.device.told
         → StaysWithin c.blocks (ordering_room m c) m t
@@ -293,11 +314,11 @@ module _ {F : Type 0} (s m : RigState) (b d : Batch F) (c : Chain) (f : SyncedBa
     order_stays (Err fault) o z = o.room z
 
     pub synced_room : (result : Result Chain EmFault) → OrdersAnswers m t c result
-        → (IsTrue s.device.told → TreeWithinRoom b.calls s m (trunk_of b))
+        → (IsTrue s.device.told → BatchWithin b.calls s m b)
         → WithinRoom (Some room) ((batch_counts b).n + 1) (batch_blocks s b) s t
     synced_room result o w = λ z. record {
       is = two_rooms (length (batch_blocks s b)) c.blocks (length (batch_blocks m d))
-          (tree_room s.pool.shape b.calls + (trunk_of b).answers.blocks) (ordering_room m c)
+          (tree_room s.pool.shape b.calls + answers_room s b b.calls) (ordering_room m c)
           (room s.pool.shape (b.calls + 1)) s.used m.used s.most m.most t.most (w z).most
           (order_stays result o (told_m z)).is (handed_used z) (own_room s b i sound z) (order_beside z);
     }
@@ -325,36 +346,32 @@ module _ {F : Type 0} (s m : RigState) (b d : Batch F) (c : Chain) (f : SyncedBa
     synced_cause (Ok e) o = tt
     synced_cause (Err fault) o = cause_after (batch_blocks s b) s m t fault f.session.touches o.cause
 
+-- The size of its commands is counted as before.
+pub synced_size : {F : Type 0} (s t : RigState) (b d : Batch F) → CountsSync s t b d → map_size d.early ≡ map_size b.early
+synced_size s t b d n = ap map_size n.early
+
 -- The sync gave up.
-module _ {F : Type 0} (s t : RigState) (b d : Batch F) (fault : EmFault) (h : StopsTrunk s t (trunk_of b) (trunk_of d) fault)
+module _ {F : Type 0} (s t : RigState) (b d : Batch F) (fault : EmFault) (h : StopsBatch s t b d fault)
     (n : CountsSync s t b d) (i : IsGivenBatch s b) (sound : Sound s) where
-  unsynced_counted : WithinAllowance (Some map_share) ((batch_counts b).n + 1) ((batch_counts b).syncs + 1)
-      (batch_counts b).spent s t
-  unsynced_counted = λ z.
-      let own = n.moves in
-      let share = share_at s.pool.shape (batch_spent d) d.calls (b.calls + 1) d.syncs (b.syncs + 1) n.calls n.syncs
-      (n.share z) in
-      call_moves s.pool.shape (b.calls + 1) b.calls b.syncs (b.syncs + 1) (batch_spent b) (batch_spent d) 0 s.moves t.moves
-      sound.shape (omega arith) (omega arith) (omega (arith, own)) share (omega arith)
-
   pub unsynced_moves : (before cs : List Command) → HasCommands s b before cs
-      → WithinAllowance (Some map_share) (length (before ++ cs ++ Sync ∷ [])) ((batch_counts b).syncs + 1)
-      (batch_counts b).spent s t
-  unsynced_moves before cs k =
-      within_equal (Some map_share) (b.calls + 1) (length (before ++ cs ++ Sync ∷ [])) ((batch_counts b).syncs + 1)
-      (batch_counts b).spent s t (one_more b.calls before cs Sync (n_is b s before cs k)) unsynced_counted
+      → WithinAllowance (Some map_share) (map_size b.early s.pool.shape (before ++ cs ++ Sync ∷ []))
+      ((batch_counts b).syncs + 1) (batch_counts b).spent s t
+  unsynced_moves before cs k = λ z.
+      let size = map_size b.early s.pool.shape (before ++ cs ++ Sync ∷ []) in
+      let own = n.moves in
+      let share = share_at s.pool.shape (batch_spent d) size size d.syncs (b.syncs + 1) refl n.syncs
+      (n.joined z before cs k) in
+      call_moves s.pool.shape size (entered_size b) b.syncs (b.syncs + 1) (batch_spent b) (batch_spent d) 0 s.moves t.moves
+      sound.shape (entered_later s b before cs k (Sync ∷ [])) (omega arith) (omega (arith, own)) share (omega arith)
 
-  pub unsynced_goes : GoesOn 0 0 (batch_blocks s b) s t
-  unsynced_goes = goes_on 0 (batch_blocks s b) s t h.goes
-
-  pub unsynced_room : (IsTrue s.device.told → TreeWithinRoom b.calls s t (trunk_of b))
+  pub unsynced_room : (IsTrue s.device.told → BatchWithin b.calls s t b)
       → WithinRoom (Some room) ((batch_counts b).n + 1) (batch_blocks s b) s t
   unsynced_room w = λ z. let most = (w z).most in let own = own_room s b i sound z in record { is = omega (arith, most, own) }
 
-  pub unsynced_full : (IsTrue s.device.told → TreeFullOverRoom b.calls s (trunk_of b) fault)
+  pub unsynced_full : (IsTrue s.device.told → BatchOver b.calls s b fault)
       → FullOverRoom (Some room) ((batch_counts b).n + 1) (batch_blocks s b) s fault
   unsynced_full over = λ z. over_used fault (length (batch_blocks s b)) s.used
-      (tree_room s.pool.shape b.calls + (trunk_of b).answers.blocks) (room s.pool.shape (b.calls + 1)) s t
+      (tree_room s.pool.shape b.calls + answers_room s b b.calls) (room s.pool.shape (b.calls + 1)) s t
       (over z).full h.cause h.goes.touches.blocks (own_room s b i sound z)
 
   pub unsynced_owes : Pays (batch_counts b).unstored (2 * s.pool.shape.frames) s t

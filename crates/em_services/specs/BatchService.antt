@@ -1,8 +1,8 @@
 -- A batch as a service, and its answers in order.
-use Rattle.std.specs.Prelude.{◌≡◌, ℕ, ◌+◌, ◌*◌, ◌≤◌, ◌^◌, List, [], IsTrue, Result, Ok, Err, ◌<◌}
+use Rattle.std.specs.Prelude.{◌≡◌, ℕ, ◌+◌, ◌*◌, ◌≤◌, ◌^◌, Bool, List, [], IsTrue, Result, Ok, Err, ◌<◌}
 use Rattle.em_record.specs.Order.{in_order}
 use Rattle.em_record.specs.Shape.{ShapeNumbers}
-use Rattle.em_frames.specs.Pool.{SameFrames}
+use Rattle.em_frames.specs.Pool.{SameFrames, load_of}
 use Rattle.em_model.specs.declared.command.Command.{Command}
 use Rattle.em_space.specs.Ledger.{Session}
 use Rattle.em_space.specs.Queue.{Pays}
@@ -11,7 +11,8 @@ use Rattle.em_space.specs.declared.fault.EmFault.{EmFault}
 use Rattle.em_chain.specs.Chain.{IsChain, IsPacked, chain_blocks, chain_items}
 use Rattle.em_chain.specs.declared.chain.Chain.{Chain}
 use Rattle.em_tree_cost.specs.Shares.{batch_share, chain_share, queue_share, tree_room}
-use Rattle.em_map.specs.Batch.{HasCommands, IsBatch, batch_spent, batch_unstored}
+use Rattle.em_map.specs.Batch.{HasCommands, IsBatch, batch_spent, batch_unstored, trunk_of}
+use Rattle.em_map.specs.Early.{joined_size}
 use Rattle.em_map.specs.declared.batch.Batch.{Batch}
 use Rattle.em_services.specs.Service.{ServiceCounts}
 use Rattle.em_plain.specs.Room.{StaysWithin}
@@ -29,6 +30,14 @@ answers_share shape n = queue_share shape (2 * n) (2 * n) + 2 * chain_share shap
 abbrev pub map_share : ShapeNumbers → ℕ → ℕ
 map_share shape n = batch_share shape n + answers_share shape n
 
+-- the size of a map's commands, by whether adds are joined early: in loads of as many as an area has room for
+abbrev pub map_size : Bool → ShapeNumbers → List Command → ℕ
+map_size early shape cs = joined_size early (load_of shape) cs
+
+-- the size of the commands of a batch whose operations entered its tree, and of its syncs: after a sync that of all
+abbrev pub entered_size : {F : Type 0} → Batch F → ℕ
+entered_size b = (trunk_of b).pushed + b.syncs
+
 -- A batch with the commands that were given to it: up to and with the last sync, and since.
 pub record IsGivenBatch {F : Type 0} (s : RigState) (b : Batch F) : Type 0 where
   pub is : IsBatch s b
@@ -41,7 +50,7 @@ abbrev pub batch_counts : {F : Type 0} → Batch F → ServiceCounts
 batch_counts b = record {
   n = b.calls;
   syncs = b.syncs;
-  spent = λ shape. batch_spent b + b.syncs * answers_share shape b.calls;
+  spent = λ shape. batch_spent b + b.syncs * answers_share shape (entered_size b);
   unstored = batch_unstored b;
 }
 

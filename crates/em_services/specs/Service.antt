@@ -15,6 +15,7 @@ use Rattle.em_space.specs.Ledger.{Session}
 use Rattle.em_space.specs.Queue.{Pays}
 use Rattle.em_chain.specs.Chain.{IsChain, IsPacked, chain_blocks}
 use Rattle.em_chain.specs.declared.chain.Chain.{Chain}
+use Rattle.em_map.specs.Areas.{GivenWithAreas}
 use Rattle.em_plain.specs.Room.{StaysWithin}
 use Rattle.em_model.specs.StabAnswers.{stab_pairs}
 use Rattle.em_space.specs.declared.fault.EmFault.{EmFault}
@@ -74,34 +75,10 @@ pub record CanSync (own : ℕ) (p : PoolCounts) : Type 0 where
   pub areas : 2 ≤ p.free_areas + own
   pub rack : p.rack_out ≡ false
 
--- What is free and what a service holds are as many together as before: it had the first number of areas, and has the
--- second.
-pub record SharesAreas (before after : ℕ) (p q : PoolCounts) : Type 0 where
-  pub shape : q.shape ≡ p.shape
-  pub free : q.free ≡ p.free
-  pub areas : q.free_areas + after ≡ p.free_areas + before
-  pub rack : q.rack_out ≡ p.rack_out
-  pub peak : p.peak ≤ q.peak
-
--- What holds after a call on a service, whether it gave up or not: only these blocks may have changed, and the frames that
--- are free and those that it holds are as many as before.
-pub record GoesOn (before after : ℕ) (held : List ℕ) (old new : RigState) : Type 0 where
-  pub sound : Sound new
-  pub touches : Touches held old new
-  pub frames : SharesAreas before after old.pool new.pool
-
 -- This many single frames and areas of the pool are out.
 pub record FramesOut (frames own : ℕ) (p : PoolCounts) : Type 0 where
   pub is : p.free + frames ≤ singles_of p.shape
   pub areas : 0 < own → p.free_areas + own ≤ 2
-
--- This many single frames and areas more are free. More may have been out in between.
-pub record GivenWithAreas (frames own : ℕ) (old new : PoolCounts) : Type 0 where
-  pub shape : new.shape ≡ old.shape
-  pub free : new.free ≡ old.free + frames
-  pub rack : new.rack_out ≡ old.rack_out
-  pub free_areas : new.free_areas ≡ old.free_areas + own
-  pub peak : old.peak ≤ new.peak
 
 -- All moves of a service, of which at most this many were made before the call, are within what it is
 -- allowed for a size, as often as there were syncs and once more, if it states an allowance.

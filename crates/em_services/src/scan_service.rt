@@ -16,6 +16,7 @@ ghost use Rattle.em_services.specs.ScanLaws as laws;
 ghost use Rattle.em_services.specs.ScanService.{HoldsCommands, HoldsParts, list_counts};
 ghost use Rattle.em_lines.specs.declared.text.FileKind.TheVariants as kind;
 
+use crate::map_rule::MapRule;
 use crate::service::Service;
 use em_chain::Chain;
 use em_frames::Device;
@@ -76,15 +77,15 @@ fn give_stab<D: Device>(
 impl<F: Fn(u64, u64) -> u64 + Drop> Service for ScanMap<F> {
     ghost use Rattle.em_plain.specs.ScanMap.{MapHasFrame};
 
-    type Rule = AddSettle<F>;
+    type Rule = MapRule<F>;
 
     ghost KIND = { kind.Map };
 
     ghost combiner = { λ m. apply_of m.settle.kind };
 
-    ghost combiner_of = { λ rule. apply_of rule.kind };
+    ghost combiner_of = { λ rule. apply_of rule.settle.kind };
 
-    ghost IsRule = { λ rule. ⟦<AddSettle<F> as Settle>⟧.IsReady rule };
+    ghost IsRule = { λ rule. ⟦<AddSettle<F> as Settle>⟧.IsReady rule.settle };
 
     ghost Has = { λ m s before cs. HoldsParts s m before cs };
 
@@ -144,16 +145,16 @@ impl<F: Fn(u64, u64) -> u64 + Drop> Service for ScanMap<F> {
     const KIND: FileKind = FileKind::Map;
 
     #[tactic(auto, using(crate::proofs::Scanning::list_made, crate::proofs::Scanning::parts_none, crate::proofs::Scanning::room_still, crate::proofs::Rules::no_area_held, crate::proofs::Rules::same_size))]
-    fn new<D: Device>(rig: &mut Rig<'_, D>, rule: AddSettle<F>) -> Result<ScanMap<F>, EmFault> {
-        ScanMap::with(rig, rule)
+    fn new<D: Device>(rig: &mut Rig<'_, D>, rule: MapRule<F>) -> Result<ScanMap<F>, EmFault> {
+        ScanMap::with(rig, rule.settle)
     }
 
-    #[tactic(auto, using(crate::proofs::Scanning::list_takes, crate::proofs::Scanning::parts_more, crate::proofs::Scanning::take_room, crate::proofs::Scanning::take_full, crate::proofs::Areas::goes_on))]
+    #[tactic(auto, using(crate::proofs::Scanning::list_takes, crate::proofs::Scanning::parts_more, crate::proofs::Scanning::take_room, crate::proofs::Scanning::take_full, em_map::proofs::Areas::goes_on))]
     fn take<D: Device>(&mut self, rig: &mut Rig<'_, D>, command: Command) -> Result<(), EmFault> {
         give_map(self, rig, command)
     }
 
-    #[tactic(auto, using(crate::proofs::ScanSyncs::sync_is, crate::proofs::ScanSyncs::sync_has, crate::proofs::ScanSyncs::sync_items, crate::proofs::ScanSyncs::sync_room, crate::proofs::ScanSyncs::sync_full, crate::proofs::Scanning::list_owes, crate::proofs::Areas::goes_on))]
+    #[tactic(auto, using(crate::proofs::ScanSyncs::sync_is, crate::proofs::ScanSyncs::sync_has, crate::proofs::ScanSyncs::sync_items, crate::proofs::ScanSyncs::sync_room, crate::proofs::ScanSyncs::sync_full, crate::proofs::Scanning::list_owes, em_map::proofs::Areas::goes_on))]
     fn sync<D: Device>(&mut self, rig: &mut Rig<'_, D>) -> Result<Chain, EmFault> {
         ScanMap::sync(self, rig)
     }
@@ -243,7 +244,7 @@ impl Service for ScanStab {
         ScanStab::new(rig)
     }
 
-    #[tactic(auto, using(crate::proofs::Scanning::list_takes, crate::proofs::Scanning::list_has_more, crate::proofs::Scanning::list_is, crate::proofs::Scanning::take_room, crate::proofs::Scanning::take_full, crate::proofs::Areas::goes_on))]
+    #[tactic(auto, using(crate::proofs::Scanning::list_takes, crate::proofs::Scanning::list_has_more, crate::proofs::Scanning::list_is, crate::proofs::Scanning::take_room, crate::proofs::Scanning::take_full, em_map::proofs::Areas::goes_on))]
     fn take<D: Device>(&mut self, rig: &mut Rig<'_, D>, command: Command) -> Result<(), EmFault> {
         give_stab(self, rig, command)
     }

@@ -18,7 +18,8 @@ ghost use Rattle.em_space.specs.Seen.{seen};
 ghost use Rattle.em_chain.specs.Chain.{chain_items, empty_chain};
 ghost use Rattle.em_chain.specs.Effects.{Unmoved};
 ghost use Rattle.em_lines.specs.Kind.{IsOfKind};
-ghost use Rattle.em_services.specs.Service.{CanAnswer, CanSync, CanTake, FramesOut, GivesFrames, GivesAtSync, GoesOn, LeavesAnswers, MakesService, RisesBySize, ServiceCounts, TakesCommand, WithinAllowance, WithinRoom, records_for, size_of, syncs_for, FullOverRoom};
+ghost use Rattle.em_map.specs.Areas.{KeepsAreas};
+ghost use Rattle.em_services.specs.Service.{CanAnswer, CanSync, CanTake, FramesOut, GivesFrames, GivesAtSync, LeavesAnswers, MakesService, RisesBySize, ServiceCounts, TakesCommand, WithinAllowance, WithinRoom, records_for, size_of, syncs_for, FullOverRoom};
 ghost use Rattle.em_lines.specs.declared.text.FileKind as kinds;
 ghost use Rattle.em_lines.specs.declared.text.FileKind.TheVariants as kind;
 
@@ -103,7 +104,7 @@ pub trait Service {
         requires few { (counts self.old).n < 2 ^ 40 }
         requires kind { IsOfKind KIND command }
         requires other { command ≡ variants.Sync → ⊥ }
-        ensures goes { GoesOn (areas self.old) (areas self.new)
+        ensures goes { KeepsAreas (areas self.old) (areas self.new)
             (blocks self.old (seen D.state rig.old)) (seen D.state rig.old) (seen D.state rig.new) }
         ensures joins { combiner self.new ≡ combiner self.old }
         ensures sizes { size self.new ≡ size self.old }
@@ -140,7 +141,7 @@ pub trait Service {
         requires is { IsService self.old (seen D.state rig.old) }
         requires free { CanSync (areas self.old) (seen D.state rig.old).pool }
         requires few { (counts self.old).n < 2 ^ 40 }
-        ensures goes { GoesOn (areas self.old) (areas self.new)
+        ensures goes { KeepsAreas (areas self.old) (areas self.new)
             (blocks self.old (seen D.state rig.old)) (seen D.state rig.old) (seen D.state rig.new) }
         ensures joins { combiner self.new ≡ combiner self.old }
         ensures sizes { size self.new ≡ size self.old }

@@ -8,7 +8,8 @@ use Rattle.em_space.specs.Rig.{RigState, Sound}
 use Rattle.em_space.specs.declared.fault.EmFault.{EmFault}
 use Rattle.em_trunk.specs.Trunk.{IsTrunk, TrunkHasFrames}
 use Rattle.em_trunk.specs.declared.trunk.Trunk.{Trunk}
-use Rattle.em_map.specs.Batch.{BatchHasFrames, IsBatch}
+use Rattle.em_map.specs.Areas.{SharesAreas}
+use Rattle.em_map.specs.Batch.{BatchHasFrames, IsBatch, areas_of}
 use Rattle.em_map.specs.declared.batch.Batch.{Batch}
 use Rattle.em_pqueue.specs.ExtQueue.{HoldsFrames, IsExtQueue}
 use Rattle.em_pqueue.specs.declared.queue.ExtQueue.{ExtQueue}
@@ -70,13 +71,20 @@ abbrev pub KeepsTree : {T : Type 0} → ℕ → RigState → RigState → Trunk 
 KeepsTree more s t v w result =
     Keeps more (tree_calls v) (tree_calls w) s t (TrunkHasFrames t w) (IsMapTree t w) result
 
-abbrev pub ReadyBatch : {F : Type 0} → ℕ → RigState → Batch F → Type 0
-ReadyBatch more s b = Ready more b.calls s (IsBatch s b)
+-- A batch that may be called so often more. Both areas are free, or it holds one of them.
+pub record ReadyBatch {F : Type 0} (more : ℕ) (s : RigState) (b : Batch F) : Type 0 where
+  pub ready : Ready more b.calls s (IsBatch s b)
+  pub areas : 2 ≤ s.pool.free_areas + areas_of b
 
-abbrev pub KeepsBatch : {F : Type 0} {T : Type 0} → ℕ → RigState → RigState → Batch F → Batch F → Result T EmFault
-    → Type 0
-KeepsBatch more s t b d result =
-    Keeps more b.calls d.calls s t (BatchHasFrames t d) (IsBatch t d) result
+-- After at most this many calls more it is one still, or its frames and its area are there.
+pub record KeepsBatch {F : Type 0} {T : Type 0} (more : ℕ) (s t : RigState) (b d : Batch F) (result : Result T EmFault)
+    : Type 0 where
+  pub sound : Sound t
+  pub untold : t.device.told ≡ false
+  pub frames : SharesAreas (areas_of b) (areas_of d) s.pool t.pool
+  pub has : BatchHasFrames t d
+  pub is : OnOk result (IsBatch t d)
+  pub calls : OnOk result (d.calls ≤ b.calls + more)
 
 -- the calls of a queue, and its items
 abbrev pub queue_size : ExtQueue → ℕ

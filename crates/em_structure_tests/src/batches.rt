@@ -1,8 +1,10 @@
-//! A batch that gets commands. A command is an operation of a map, of which the batch makes the number itself, or a sync, which
+//! A batch that gets commands, and joins adds early or not. A command is an operation of a map, of which the batch makes the number itself, or a sync, which
 //! is `SETTLE`.
-ghost use Rattle.std.specs.Prelude.{◌≡◌, ◌≤◌, ◌^◌, length};
+ghost use Rattle.std.specs.Prelude.{◌≡◌, ◌≤◌, ◌^◌, length, IfErr, IfOk};
+ghost use Rattle.em_map.specs.Batch.{IsNewBatch};
 ghost use Rattle.em_space.specs.Seen.{seen};
 ghost use Rattle.em_structure_tests.specs.Ready.{HasAll, KeepsBatch, KeepsRig, ReadyBatch};
+ghost use Rattle.em_tree.specs.Calls.{StopsNewTrunk};
 
 use crate::reading::{is_long, note, read_all};
 use crate::trees::SETTLE;
@@ -70,9 +72,27 @@ fn step_all<D: Device, F: Fn(u64, u64) -> u64 + Drop>(
     Ok(())
 }
 
-/// The same with a new batch, which is finished. Notes the same of its tree as `trees` does, and then the answers.
+/// A new batch, whose adds are joined early or not.
+fn made<D: Device, F: Fn(u64, u64) -> u64 + Drop>(
+    rig: &mut Rig<'_, D>,
+    early: bool,
+    settle: AddSettle<F>,
+) -> Result<Batch<F>, EmFault>
+    requires has { HasAll (seen D.state rig.old) }
+    ensures makes { IfOk result (IsNewBatch (seen D.state rig.old) (seen D.state rig.new)) }
+    ensures rule { IfOk result (λ b. b.tree.settle ≡ settle) }
+    ensures stops { IfErr result (StopsNewTrunk (seen D.state rig.old) (seen D.state rig.new)) }
+{
+    if early {
+        return Batch::early(rig, settle);
+    }
+    Batch::with(rig, settle)
+}
+
+/// Some commands of a new batch, which is finished. Notes the same of its tree as `trees` does, and then the answers.
 pub fn serve<D: Device>(
     rig: &mut Rig<'_, D>,
+    early: bool,
     calls: &[Record],
     found: &mut Vec<Record>,
 ) -> Result<(), EmFault>
@@ -83,7 +103,7 @@ pub fn serve<D: Device>(
         return Ok(());
     }
     let sum = AddSettle::new(|x: u64, y: u64| x.wrapping_add(y), Combine::Sum);
-    let mut batch = Batch::with(rig, sum)?;
+    let mut batch = made(rig, early, sum)?;
     match step_all(rig, &mut batch, calls, found) {
         Ok(()) => {
             let tree = batch.tree();

@@ -1,5 +1,5 @@
-//! Drawn command files and a made one, each answered by the structure of its kind and by a list that is read again
-//! for each answer. Both end alike, and print the same.
+//! Drawn command files and a made one, each answered by the structure of its kind, with the adds of a map joined early and
+//! not, and by a list that is read again for each answer. All end alike, and print the same.
 ghost use Rattle.std.specs.Prelude.{◌≡◌, ◌<◌, [], true};
 ghost use Rattle.em_io.specs.declared.shelf.Slot.TheVariants.{First};
 ghost use Rattle.em_space.specs.Rig.{Goes};
@@ -16,6 +16,7 @@ use em_io::{MemShelf, MemSink, Printer, Shelf, Sink, Slot};
 use em_lines::{FileKind, TextKind};
 use em_plain::{ScanMap, ScanQueue, ScanStab};
 use em_record::{Failed, Shape};
+use em_services::MapRule;
 use em_settle::{AddSettle, Combine, Settle};
 use em_space::Rig;
 use std::alloc::Global;
@@ -73,6 +74,13 @@ fn said_by(word: &str) -> Said {
         "queue" => (FileKind::Queue, Combine::Sum, false),
         _ => (FileKind::Stab, Combine::Sum, false),
     }
+}
+
+/// How a file is answered: by the structure of its kind, with the adds of a map joined early or not, or by a list.
+#[derive(Clone, Copy)]
+enum By {
+    Structure { early: bool },
+    List,
 }
 
 /// Adds a line of a queue: of a hundred, so many are pops, and the others pushes.
@@ -149,7 +157,11 @@ fn run_list<D: Device, H: Shelf, W: Sink, F: Fn(u64, u64) -> u64 + Drop>(
     requires ready { ((H.stand shelf.old).slot First).ready ≡ true }
     ensures goes { Goes [] (seen D.state rig.old) (seen D.state rig.new) }
 {
-    run_service::<D, H, W, ScanMap<F>>(settle, rig, shelf, out)
+    let rule = MapRule {
+        settle,
+        early: false,
+    };
+    run_service::<D, H, W, ScanMap<F>>(rule, rig, shelf, out)
 }
 
 /// The same by this combiner.
@@ -188,7 +200,7 @@ fn run_listed<D: Device, H: Shelf, W: Sink>(
 /// Answers the open file of a kind by its structure or by a list, on a rig of which no block is or was in use.
 #[tactic(auto, using(crate::proofs::ListQueue::list_alone, crate::proofs::ListQueue::list_goes, crate::proofs::ListQueue::list_new, crate::proofs::ListQueue::list_serves))]
 fn answer<D: Device, H: Shelf, W: Sink>(
-    by_list: bool,
+    by: By,
     said: Said,
     rig: &mut Rig<'_, D>,
     shelf: &mut H,
@@ -201,8 +213,8 @@ fn answer<D: Device, H: Shelf, W: Sink>(
     ensures goes { Goes [] (seen D.state rig.old) (seen D.state rig.new) }
 {
     let (kind, combine, _) = said;
-    if !by_list {
-        return run_open(kind, combine, rig, shelf, out);
+    if let By::Structure { early } = by {
+        return run_open(kind, combine, early, rig, shelf, out);
     }
     match kind {
         FileKind::Map => run_listed(combine, rig, shelf, out),
@@ -217,7 +229,7 @@ fn answer<D: Device, H: Shelf, W: Sink>(
 /// Answers the open file of a kind over a new device in memory. Answers the status and the moves.
 fn ended<H: Shelf, W: Sink>(
     alloc: Global,
-    by_list: bool,
+    by: By,
     said: Said,
     shape: Shape,
     shelf: &mut H,
@@ -227,7 +239,7 @@ fn ended<H: Shelf, W: Sink>(
 {
     let mut device = MemDevice::new(alloc, &[])?;
     let mut rig = opened_as(alloc, shape, 100_000, &mut device)?;
-    let status = answer(by_list, said, &mut rig, shelf, out);
+    let status = answer(by, said, &mut rig, shelf, out);
     let moves = rig.moves();
     rig.close().end();
     Ok((status, moves))
@@ -236,7 +248,7 @@ fn ended<H: Shelf, W: Sink>(
 /// Answers a text. Answers the status and the moves as well.
 fn answered(
     alloc: Global,
-    by_list: bool,
+    by: By,
     said: Said,
     shape: Shape,
     text: &[u8],
@@ -245,12 +257,12 @@ fn answered(
     shelf.add("a", text)?;
     shelf.open(Slot::First, "a")?;
     let mut out = MemSink::new(alloc, 4096, &[])?;
-    let (status, moves) = ended(alloc, by_list, said, shape, &mut shelf, &mut out)?;
+    let (status, moves) = ended(alloc, by, said, shape, &mut shelf, &mut out)?;
     Ok((status, moves, out))
 }
 
-/// Whether a structure and a list answer a text alike: both end with this status and print the same. At least so
-/// many bytes are printed, and the structure moves at least so many blocks.
+/// Whether a structure, with adds joined early and not, and a list answer a text alike: all end with this status and print the
+/// same. At least so many bytes are printed, and the structure moves at least so many blocks if adds aren't joined early.
 fn alike(
     alloc: Global,
     said: Said,
@@ -259,13 +271,16 @@ fn alike(
     status: Status,
     least: (usize, u64),
 ) -> Result<bool, Fail> {
-    let (listed, _, lines) = answered(alloc, true, said, shape, text)?;
-    let (other, moves, out) = answered(alloc, false, said, shape, text)?;
+    let (listed, _, lines) = answered(alloc, By::List, said, shape, text)?;
+    let (joined, _, same) = answered(alloc, By::Structure { early: true }, said, shape, text)?;
+    let (other, moves, out) = answered(alloc, By::Structure { early: false }, said, shape, text)?;
     let sent = out.bytes();
     Ok(
         listed == status
+            && joined == status
             && other == status
             && lines.bytes() == sent
+            && same.bytes() == sent
             && sent.len() >= least.0
             && moves >= least.1,
     )
@@ -369,28 +384,30 @@ fn drawn_files_are_answered_as_by_a_list(rt: HostRuntime) -> Result<(), Fail> {
     Ok(())
 }
 
+/// Whether two tallies took as many lines and bytes of the same sum.
+fn is_same(tally: &Tally, other: &Tally) -> bool {
+    tally.lines() == other.lines() && tally.bytes() == other.bytes() && tally.sum() == other.sum()
+}
+
 /// A made map of 20,000 commands.
 #[test]
 fn a_made_map_is_answered_as_by_a_list(rt: HostRuntime) -> Result<(), Fail> {
-    let mut tallies = [Tally::new(), Tally::new()];
+    let mut tallies = [Tally::new(), Tally::new(), Tally::new()];
     let shape = Shape::new(128, 64)?;
     for (number, tally) in tallies.iter_mut().enumerate() {
+        let by = match number {
+            0 => By::List,
+            1 => By::Structure { early: false },
+            _ => By::Structure { early: true },
+        };
         let mut shelf = GenShelf::new(GenKind::Map, 1, 20_000);
         shelf.open(Slot::First, "")?;
-        let (status, _) = ended(
-            rt.alloc(),
-            number == 0,
-            said_by("map"),
-            shape,
-            &mut shelf,
-            tally,
-        )?;
+        let (status, _) = ended(rt.alloc(), by, said_by("map"), shape, &mut shelf, tally)?;
         assert!(rt; status == Status::Done);
     }
-    let [listed, other] = tallies;
+    let [listed, other, joined] = tallies;
     assert!(rt; listed.lines() > 0);
-    assert_eq!(rt; other.lines(), listed.lines());
-    assert_eq!(rt; other.bytes(), listed.bytes());
-    assert_eq!(rt; other.sum(), listed.sum());
+    assert!(rt; is_same(&other, &listed));
+    assert!(rt; is_same(&joined, &listed));
     Ok(())
 }

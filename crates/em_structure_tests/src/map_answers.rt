@@ -1,4 +1,4 @@
-//! What a batch answers, as worked out by hand or by a plain map.
+//! What a batch answers, with adds joined early and not, as worked out by hand or by a plain map.
 
 use crate::map_scripts::{add_rising, drawn, record, with_calls};
 use crate::plain_map::{agrees, answers_after, found_at};
@@ -54,6 +54,19 @@ const ROWS: &str = "\
 1=2,1=2,1=2,1=2,1=2,1=2,1=2,1=2,1=2,1=2,1=2,1=2,1=2,1=2,1=2,1=2,1=2,1=2,1=2,1=2,1=2,1=2,1=2,1=2,1=2,1=2,1=2,1=2,1=2,1=2,1=2,1=2,1=2,1=2,1=2,1=2,1=2,1=2,1=2,1=2,1?|41 2
 ";
 
+/// Whether a structure answers these commands so.
+fn is_answered(
+    alloc: Global,
+    structure: Structure,
+    commands: &[Record],
+    answers: &[Record],
+) -> Result<bool, Fail> {
+    let mut found = Vec::new(alloc);
+    let cost = run(alloc, structure, (128, 64), commands, &mut found)?;
+    let found = answers_after(alloc, &found, 3)?;
+    Ok(cost.0 == 0 && found.as_slice() == answers)
+}
+
 #[test]
 fn each_get_answers_the_last_put_of_its_key_before_it(rt: HostRuntime) -> Result<(), Fail> {
     let mut row = 0u64;
@@ -62,19 +75,10 @@ fn each_get_answers_the_last_put_of_its_key_before_it(rt: HostRuntime) -> Result
         let (commands, answers) = line.split_once('|').unwrap_or((line, "0"));
         let commands = commands_of(rt.alloc(), commands)?;
         let answers = answers_of(rt.alloc(), answers)?;
-        let mut found = Vec::new(rt.alloc());
-        let cost = run(
-            rt.alloc(),
-            Structure::Batch,
-            (128, 64),
-            &commands,
-            &mut found,
-        )?;
-        let found = answers_after(rt.alloc(), &found, 3)?;
-        assert!(rt;
-            cost.0 == 0 && found.as_slice() == answers.as_slice(),
-            "row {row}"
-        );
+        for structure in [Structure::Batch, Structure::EarlyBatch] {
+            let same = is_answered(rt.alloc(), structure, &commands, &answers)?;
+            assert!(rt; same, "row {row}");
+        }
     }
     assert_eq!(rt; row, 10);
     Ok(())
@@ -85,20 +89,16 @@ fn each_get_answers_the_last_put_of_its_key_before_it(rt: HostRuntime) -> Result
 /// 16384 records.
 #[test]
 fn drawn_commands_are_answered_as_by_a_plain_map(rt: HostRuntime) -> Result<(), Fail> {
-    for (block, count, keys, most) in [
-        (128, 20_000, 20_000, 248 * 158 * 3),
-        (256, 8_000, 2_000, u64::MAX),
-        (512, 8_000, 100, u64::MAX),
+    for (structure, block, count, keys, most) in [
+        (Structure::Batch, 128, 20_000, 20_000, 248 * 158 * 3),
+        (Structure::Batch, 256, 8_000, 2_000, u64::MAX),
+        (Structure::Batch, 512, 8_000, 100, u64::MAX),
+        (Structure::EarlyBatch, 128, 20_000, 20_000, 248 * 158 * 3),
+        (Structure::EarlyBatch, 512, 8_000, 100, u64::MAX),
     ] {
         let calls = drawn(rt.alloc(), count, keys)?;
         let mut found = Vec::new(rt.alloc());
-        let cost = run(
-            rt.alloc(),
-            Structure::Batch,
-            (block, 64),
-            &calls,
-            &mut found,
-        )?;
+        let cost = run(rt.alloc(), structure, (block, 64), &calls, &mut found)?;
         let same = agrees(rt.alloc(), &calls, &found, 127, 0)?;
         assert_eq!(rt; (same, cost.0), (Some(0), 0), "block {block}");
         let moves = cost.2;
@@ -121,6 +121,29 @@ fn puts_and_a_get_of_each_are_answered_within_the_share(rt: HostRuntime) -> Resu
     );
     let moves = cost.2;
     assert!(rt; moves <= 248 * 158 * 3, "moves {moves}");
+    Ok(())
+}
+
+/// 100,000 adds of one key and a get of it. At this shape they are 98 loads of 1024 commands, of which each leaves one add, and the
+/// last one the get too: 99 operations, which fill one block, so that 248 * 2 moves are the most. The adds alone would fill 788 blocks.
+#[test]
+fn adds_of_one_key_are_few_moves_if_joined_early(rt: HostRuntime) -> Result<(), Fail> {
+    let mut calls = Vec::new(rt.alloc());
+    for _ in 0..100_000u64 {
+        calls.push(record(7, 1, 3, 1))?;
+    }
+    calls.push(record(7, 1, 2, 0))?;
+    let mut found = Vec::new(rt.alloc());
+    let cost = run(
+        rt.alloc(),
+        Structure::EarlyBatch,
+        (128, 64),
+        &calls,
+        &mut found,
+    )?;
+    assert_eq!(rt; found_at(&found, 3), record(100_001, 1, 100_000, 0));
+    let moves = cost.2;
+    assert!(rt; moves <= 248 * 2, "moves {moves}");
     Ok(())
 }
 

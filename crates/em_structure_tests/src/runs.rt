@@ -18,6 +18,8 @@ use std::test::Fail;
 pub enum Structure {
     Tree,
     Batch,
+    /// A batch that joins adds early.
+    EarlyBatch,
     Queue,
     Stab,
     /// A queue that sorts a list of them.
@@ -39,7 +41,8 @@ fn serve<D: Device>(
 {
     match structure {
         Structure::Tree => trees::serve_in_area(rig, calls, found),
-        Structure::Batch => batches::serve(rig, calls, found),
+        Structure::Batch => batches::serve(rig, false, calls, found),
+        Structure::EarlyBatch => batches::serve(rig, true, calls, found),
         Structure::Queue => queues::serve(rig, calls, found),
         Structure::Stab => stabs::serve(rig, calls, found),
         Structure::Sorting => sorts::serve(rig, calls, found),

@@ -30,7 +30,7 @@ job_of_task task = job_on task Files
 
 -- the same of a map file
 abbrev job : ℕ → ℕ → ℕ → Bool → ℕ → Result Job Usage
-job = job_of_task (Answer Map Sum)
+job = job_of_task (Answer Map Sum false)
 
 -- the job of `map` and these words
 abbrev map_of : List (List ℕ) → Result Job Usage
@@ -61,11 +61,11 @@ a_plain_map = refl
 -- Tasks.
 
 a_plain_queue : job_of (codes "queue" ∷ codes "a" ∷ [])
-    ≡ job_of_task (Answer Queue Sum) 1024 256 1048576 false 1
+    ≡ job_of_task (Answer Queue Sum false) 1024 256 1048576 false 1
 a_plain_queue = refl
 
 a_stab_of_64_frames : job_of (codes "stab" ∷ codes "--frames=64" ∷ codes "a" ∷ [])
-    ≡ job_of_task (Answer Stab Sum) 1024 64 1048576 false 2
+    ≡ job_of_task (Answer Stab Sum false) 1024 64 1048576 false 2
 a_stab_of_64_frames = refl
 
 another_command : job_of (codes "evaluate" ∷ codes "a" ∷ codes "b" ∷ []) ≡ refused UnknownCommand 0
@@ -170,7 +170,7 @@ a_stab_of_two_operands = refl
 
 -- the job of `map` by this combiner, where the operand is the word of this number
 abbrev combined : Combine → ℕ → Result Job Usage
-combined combine = job_of_task (Answer Map combine) 1024 256 1048576 false
+combined combine = job_of_task (Answer Map combine false) 1024 256 1048576 false
 
 -- words before the name of a file, and what `map` gives of them
 abbrev Row : Type 0
@@ -189,7 +189,7 @@ combiners : Hold (
     ∷ (codes "--combine=xor" ∷ [], combined Xor 2)
     ∷ (
       codes "--frames=64" ∷ codes "--combine=max" ∷ codes "--stats" ∷ [],
-      job_of_task (Answer Map Max) 1024 64 1048576 true 4,
+      job_of_task (Answer Map Max false) 1024 64 1048576 true 4,
     )
     ∷ (codes "--combine=avg" ∷ [], refused BadValue 1)
     ∷ (codes "--combine=Sum" ∷ [], refused BadValue 1)
@@ -218,6 +218,42 @@ no_combiners : map job_of (
     ∷ refused UnknownOption 1 ∷ refused UnknownOption 1 ∷ []
 no_combiners = refl
 
+-- the same of a map whose adds are joined early
+abbrev joined : Combine → ℕ → Result Job Usage
+joined combine = job_of_task (Answer Map combine true) 1024 256 1048576 false
+
+-- adds joined early: alone, beside other options in either order, twice, and with a value
+early_maps : Hold (
+    (codes "--early" ∷ [], joined Sum 2)
+    ∷ (codes "--early" ∷ codes "--combine=max" ∷ [], joined Max 3)
+    ∷ (codes "--combine=xor" ∷ codes "--early" ∷ [], joined Xor 3)
+    ∷ (
+      codes "--frames=64" ∷ codes "--early" ∷ codes "--stats" ∷ [],
+      job_of_task (Answer Map Sum true) 1024 64 1048576 true 4,
+    )
+    ∷ (codes "--early" ∷ codes "--early" ∷ [], refused RepeatedOption 2)
+    ∷ (codes "--early" ∷ codes "--early=1" ∷ [], refused RepeatedOption 2)
+    ∷ (codes "--early=" ∷ [], refused BadValue 1)
+    ∷ (codes "--early=1" ∷ [], refused BadValue 1)
+    ∷ (codes "--stats" ∷ codes "--early=0" ∷ codes "--early" ∷ [], refused BadValue 2)
+    ∷ (codes "--early" ∷ codes "--combine=avg" ∷ [], refused BadValue 2)
+    ∷ (codes "--early" ∷ codes "--wide" ∷ [], refused UnknownOption 2)
+    ∷ (codes "--earlier" ∷ [], refused UnknownOption 1)
+    ∷ [])
+early_maps = refl
+
+-- at every other command the option is unknown
+no_early : map job_of (
+    (codes "queue" ∷ codes "--early" ∷ codes "a" ∷ [])
+    ∷ (codes "stab" ∷ codes "--stats" ∷ codes "--early" ∷ codes "a" ∷ [])
+    ∷ (codes "eval" ∷ codes "--early" ∷ codes "a" ∷ codes "b" ∷ [])
+    ∷ (codes "gen" ∷ codes "--early" ∷ codes "map" ∷ codes "1" ∷ codes "2" ∷ [])
+    ∷ (codes "queue" ∷ codes "--early=1" ∷ codes "a" ∷ [])
+    ∷ [])
+    ≡ refused UnknownOption 1 ∷ refused UnknownOption 2 ∷ refused UnknownOption 1
+    ∷ refused UnknownOption 1 ∷ refused UnknownOption 1 ∷ []
+no_early = refl
+
 -- Made texts.
 
 -- words after `gen`, and the job that they name
@@ -234,16 +270,16 @@ abbrev made : Task → ℕ → ℕ → Result Job Usage
 made task start count = job_on task (Made start count) 1024 256 1048576 false 1
 
 jobs_made : MakesJobs (
-    (codes "map" ∷ codes "1" ∷ codes "8" ∷ [], made (Answer Map Sum) 1 8)
-    ∷ (codes "queue" ∷ codes "0" ∷ codes "1" ∷ [], made (Answer Queue Sum) 0 1)
+    (codes "map" ∷ codes "1" ∷ codes "8" ∷ [], made (Answer Map Sum false) 1 8)
+    ∷ (codes "queue" ∷ codes "0" ∷ codes "1" ∷ [], made (Answer Queue Sum false) 0 1)
     ∷ (
       codes "stab" ∷ codes "18446744073709551615" ∷ codes "1073741824" ∷ [],
-      made (Answer Stab Sum) 18446744073709551615 1073741824,
+      made (Answer Stab Sum false) 18446744073709551615 1073741824,
     )
     ∷ (codes "eval" ∷ codes "00000000000000000007" ∷ codes "02" ∷ [], made (Eval None false) 7 2)
     ∷ (
       codes "--block=128" ∷ codes "--stats" ∷ codes "map" ∷ codes "1" ∷ codes "8" ∷ [],
-      job_on (Answer Map Sum) (Made 1 8) 128 64 1048576 true 3,
+      job_on (Answer Map Sum false) (Made 1 8) 128 64 1048576 true 3,
     )
     ∷ [])
 jobs_made = refl

@@ -41,7 +41,7 @@ unless (Some usage) next = Err usage
 
 -- how many operands a task has: a name for each of its files
 abbrev pub operand_count : Task → ℕ
-operand_count (Answer kind combine) = 1
+operand_count (Answer kind combine early) = 1
 operand_count (Eval uninit wide) = 2
 
 -- how many operands a command has: `gen` has a kind, a start and a count
@@ -95,9 +95,9 @@ blocks_with options = blocks_within options (number_or (codes "--blocks") option
 
 -- the word of a task
 abbrev pub task_name : Task → List ℕ
-task_name (Answer Map combine) = codes "map"
-task_name (Answer Queue combine) = codes "queue"
-task_name (Answer Stab combine) = codes "stab"
+task_name (Answer Map combine early) = codes "map"
+task_name (Answer Queue combine early) = codes "queue"
+task_name (Answer Stab combine early) = codes "stab"
 task_name (Eval uninit wide) = codes "eval"
 
 -- the word names this task
@@ -107,9 +107,9 @@ is_named task word = bytes_eq word (task_name task)
 -- the task of a command, from the command's word, before its options are read
 abbrev pub task_of : List ℕ → Option Task
 task_of word =
-    if is_named (Answer Map Sum) word then Some (Answer Map Sum)
-    else (if is_named (Answer Queue Sum) word then Some (Answer Queue Sum)
-    else (if is_named (Answer Stab Sum) word then Some (Answer Stab Sum)
+    if is_named (Answer Map Sum false) word then Some (Answer Map Sum false)
+    else (if is_named (Answer Queue Sum false) word then Some (Answer Queue Sum false)
+    else (if is_named (Answer Stab Sum false) word then Some (Answer Stab Sum false)
     else (if is_named (Eval None false) word then Some (Eval None false) else None)))
 
 -- a bit that a number says
@@ -123,7 +123,8 @@ uninit_with options = bit_said (number_or (codes "--uninit") options 2)
 
 -- the task as the options say
 abbrev pub task_with : Task → List (List ℕ) → Task
-task_with (Answer kind combine) options = Answer kind (combine_with options)
+task_with (Answer kind combine early) options =
+    Answer kind (combine_with options) (has_option (codes "--early") options)
 task_with (Eval uninit wide) options = Eval (uninit_with options) (has_option (codes "--wide") options)
 
 -- what the word of a command asks for

@@ -45,7 +45,7 @@ option_names =
 
 -- the names of those that a command has besides: one that answers a map file, or evaluates a circuit of its files
 abbrev pub own_names : Verb → List (List ℕ)
-own_names (Over (Answer Map combine)) = codes "--combine" ∷ []
+own_names (Over (Answer Map combine early)) = codes "--combine" ∷ codes "--early" ∷ []
 own_names (Over (Eval uninit wide)) = codes "--uninit" ∷ codes "--wide" ∷ []
 own_names other = []
 
@@ -56,7 +56,7 @@ knows verb name =
 
 -- the names of the options without a value
 abbrev pub flag_names : List (List ℕ)
-flag_names = codes "--stats" ∷ codes "--wide" ∷ []
+flag_names = codes "--stats" ∷ codes "--wide" ∷ codes "--early" ∷ []
 
 -- the place, from 0, of the option of this name among these option words, if it stands there
 abbrev pub place_of : List ℕ → List (List ℕ) → Option ℕ
@@ -74,8 +74,8 @@ combine_of word =
     else (if bytes_eq word (codes "--combine=min") then Some Min
     else (if bytes_eq word (codes "--combine=xor") then Some Xor else None)))
 
--- the word of an option has the value that it wants: `--stats` and `--wide` none, `--uninit` a bit, `--combine` the name
--- of a combiner, and every other a number
+-- the word of an option has the value that it wants: `--stats`, `--wide` and `--early` none, `--uninit` a bit, `--combine`
+-- the name of a combiner, and every other a number
 abbrev pub has_value : List ℕ → Bool
 has_value word =
     if list_any (bytes_eq (name_of word)) flag_names then bytes_eq word (name_of word)

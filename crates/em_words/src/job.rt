@@ -1,9 +1,9 @@
-ghost use Rattle.std.specs.Prelude.{◌≡◌, ◌+◌, ◌-◌, ◌<◌, ◌≤◌, ◌^◌, length, IfOk};
+ghost use Rattle.std.specs.Prelude.{◌≡◌, ◌+◌, ◌-◌, ◌<◌, ◌≤◌, ◌^◌, false, length, IfOk};
 ghost use Rattle.em_words.specs.Job.{texts_of, job_of, task_name, task_of, blocks_with, count_at, count_within, default_frames, job_by, job_with, made_job, name_at, number_at, operand_count, operands_by, operands_of, operands_wanted, shape_with, task_at, task_with, uninit_with, verb_of, IsCount, IsJob, IsOrigin};
 
 use crate::option::{
-    BLOCK, BLOCKS, FRAMES, STATS, UNINIT, WIDE, combine_with, has_option, number_or, option_words,
-    test_options, word_of,
+    BLOCK, BLOCKS, EARLY, FRAMES, STATS, UNINIT, WIDE, combine_with, has_option, number_or,
+    option_words, test_options, word_of,
 };
 use em_ends::{Usage, UsageKind};
 use em_lines::{FileKind, number};
@@ -13,12 +13,20 @@ use em_settle::Combine;
 /// What a run does with its files.
 #[derive(Clone, Copy, Debug, PartialEq, Eq, Drop)]
 pub enum Task {
-    /// A file of commands is answered. The adds of a map file are joined by `combine`.
-    Answer { kind: FileKind, combine: Combine },
+    /// A file of commands is answered. The adds of a map file are joined by `combine`, with `early` each run of them also
+    /// before it enters the structure that answers them.
+    Answer {
+        kind: FileKind,
+        combine: Combine,
+        early: bool,
+    },
     /// A circuit is evaluated on a stimulus, which is its second file. An uninitialised latch begins with
     /// the bit `uninit`; without it a circuit that has one is refused. With `wide` up to 64 steps are taken
     /// at once, and a circuit that has latches is refused.
-    Eval { uninit: Option<bool>, wide: bool },
+    Eval {
+        uninit: Option<bool>,
+        wide: bool,
+    },
 }
 
 /// Where the texts of a run come from.
@@ -94,11 +102,12 @@ pub fn task_name(task: Task) -> &'static [u8]
 
 /// The answering of a file of this kind by no option of its own.
 fn answering(kind: FileKind) -> Task
-    ensures { result ≡ Task.Answer kind Combine.Sum }
+    ensures { result ≡ Task.Answer kind Combine.Sum false }
 {
     Task::Answer {
         kind,
         combine: Combine::Sum,
+        early: false,
     }
 }
 
@@ -199,6 +208,7 @@ fn task_with(task: Task, options: &[String]) -> Task
         Task::Answer { kind, .. } => Task::Answer {
             kind,
             combine: combine_with(options),
+            early: has_option(options, EARLY),
         },
         Task::Eval { .. } => Task::Eval {
             uninit: uninit_with(options),

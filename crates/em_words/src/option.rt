@@ -28,6 +28,9 @@ pub const UNINIT: &[u8] = b"--uninit";
 /// The option that takes many steps of a circuit at once.
 pub const WIDE: &[u8] = b"--wide";
 
+/// The option that joins each run of adds of a map file before it enters the structure that answers them.
+pub const EARLY: &[u8] = b"--early";
+
 /// The option that names how the adds of a map file are joined.
 const COMBINE: &[u8] = b"--combine";
 
@@ -106,7 +109,7 @@ fn is_own(verb: Verb, name: &[u8]) -> bool
                 kind: FileKind::Map,
                 ..
             },
-        ) => name == COMBINE,
+        ) => name == COMBINE || name == EARLY,
         _ => false,
     }
 }
@@ -115,7 +118,7 @@ fn is_own(verb: Verb, name: &[u8]) -> bool
 fn is_flag(name: &[u8]) -> bool
     ensures { result ≡ list_any (bytes_eq name.now) flag_names }
 {
-    name == STATS || name == WIDE
+    name == STATS || name == WIDE || name == EARLY
 }
 
 /// Whether the name is one of an option of this command.

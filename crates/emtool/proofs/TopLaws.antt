@@ -38,9 +38,9 @@ origin_room : (origin : Origin) (task : Task) (shape : ShapeNumbers) (texts : Sl
     → IfSome (asked_on origin task texts).room (λ f. used < f shape slots)
     → used ≤ transfer_bound task shape texts (slots_of origin slots) + 2 * shape.frames
     → used < stated_room task shape texts (slots_of origin slots)
-origin_room Files (Answer kind combine) shape texts slots used h k = omega (arith, h, k)
+origin_room Files (Answer kind combine early) shape texts slots used h k = omega (arith, h, k)
 origin_room Files (Eval uninit wide) shape texts slots used h k = omega (arith, h, k)
-origin_room (Made start count) (Answer kind combine) shape texts slots used h k = omega (arith, h, k)
+origin_room (Made start count) (Answer kind combine early) shape texts slots used h k = omega (arith, h, k)
 origin_room (Made start count) (Eval uninit wide) shape texts slots used h k = omega (arith, h, k)
 
 -- the moves of a run on texts of this origin are within the transfer cost
@@ -48,9 +48,9 @@ origin_moves : (origin : Origin) (task : Task) (shape : ShapeNumbers) (texts : S
     (slots : Slot → SlotState) (before after : ℕ)
     → IfSome (asked_on origin task texts).moves (λ f. after ≤ before + f shape slots)
     → after - before ≤ transfer_bound task shape texts (slots_of origin slots)
-origin_moves Files (Answer kind combine) shape texts slots before after h = omega (arith, h)
+origin_moves Files (Answer kind combine early) shape texts slots before after h = omega (arith, h)
 origin_moves Files (Eval uninit wide) shape texts slots before after h = omega (arith, h)
-origin_moves (Made start count) (Answer kind combine) shape texts slots before after h = omega (arith, h)
+origin_moves (Made start count) (Answer kind combine early) shape texts slots before after h = omega (arith, h)
 origin_moves (Made start count) (Eval uninit wide) shape texts slots before after h = omega (arith, h)
 
 -- Where the device isn't begun or there is no memory, shelf and output stay.

@@ -10,13 +10,13 @@ use Rattle.em_lines.specs.RunSize.{run_size}
 use Rattle.em_words.specs.declared.job.Task.{Task}
 use Rattle.em_words.specs.declared.job.Task.TheVariants.{Answer, Eval}
 use Rattle.em_eval.specs.EvalRun.{start_of}
-use Rattle.em_answers.specs.Limits.{syncs_in}
+use Rattle.em_answers.specs.Limits.{moves_size, syncs_in}
 
 -- the transfer cost of a run's size, by the text of each slot and how far it was read; of a map as often as syncs were
--- taken, and once more
+-- taken, and once more, and if its adds are joined early, of the size that joining leaves
 abbrev pub transfer_bound : Task → ShapeNumbers → (Slot → List ℕ) → (Slot → SlotState) → ℕ
-transfer_bound (Answer kind combine) shape texts slots = (syncs_in kind (texts First) (slots First).left + 1)
-    * cost shape (run_size kind (texts First) (slots First).left)
+transfer_bound (Answer kind combine early) shape texts slots = (syncs_in kind (texts First) (slots First).left + 1)
+    * cost shape (moves_size kind early shape (texts First) (slots First).left)
 transfer_bound (Eval uninit wide) shape texts slots =
     eval_cost shape (circuit_read (start_of uninit) (slots First) (texts First))
     (rounds_of wide (steps_read (start_of uninit) (texts First) (slots Second) (texts Second)))
@@ -24,7 +24,7 @@ transfer_bound (Eval uninit wide) shape texts slots =
 
 -- the room of a run's size, by the same; of an evaluation that of twice its circuit's size
 abbrev pub size_room : Task → ShapeNumbers → (Slot → List ℕ) → (Slot → SlotState) → ℕ
-size_room (Answer kind combine) shape texts slots = room shape (run_size kind (texts First) (slots First).left)
+size_room (Answer kind combine early) shape texts slots = room shape (run_size kind (texts First) (slots First).left)
 size_room (Eval uninit wide) shape texts slots =
     eval_room shape (circuit_read (start_of uninit) (slots First) (texts First))
 

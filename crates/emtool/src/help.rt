@@ -50,6 +50,10 @@ Options, before the operands:
                 at `map` alone: how an add joins two values: sum (modulo 2^64), max, min or xor;
                 default sum
                 example: emtool map --combine=max prices.txt
+  --early       at `map` alone: gathers commands in memory, --frames / 8 times --block or up to a sync, and
+                joins adds of a key with no other command of that key between them before they go to the
+                scratch device; the same output at exit codes 0 and 2; it pays if many adds are to few keys
+                example: emtool map --early words.txt
   --uninit=N    at `eval` alone: 0 or 1, the bit with which a latch begins if its reset is its own
                 literal; no default: without the option such a circuit is refused
                 example: emtool eval --uninit=0 counter.aag counter.txt

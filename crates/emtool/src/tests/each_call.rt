@@ -115,7 +115,7 @@ pub(super) fn wrong_in(rt: &HostRuntime, row: &str) -> Result<Option<(u8, u64)>,
 /// Command files. The shelf is called once to open the file, once for each 3 bytes of it, and once where the
 /// end is found. The output of a queue is called for each 3 bytes of a line. That of the others gets all lines at
 /// a sync, at the end of the run or at its stop, and is called for each 3 bytes of them.
-const ROWS: [&str; 9] = [
+const ROWS: [&str; 14] = [
     // A map. The device: 25 calls; a release makes none, nor does a freed block that is taken. Call 0 begins it. Then 2 store
     // the tree's leaf and root, and 1 the block of the commands. At the end 4 load the root, load the commands, store them as
     // the leaf's buffer, and store the root; 1 loads the root and finds that buffer. The load makes 5: it loads root and leaf,
@@ -151,6 +151,21 @@ const ROWS: [&str; 9] = [
     // of a queue, 2 put it in order, and 1 reads it. The shelf: 266 calls, 264 of them for 792 bytes; the second sync ends in call 262. The
     // output: 86 calls for 256 bytes, and 1 for 2.
     "map --block=128 --frames=64 a|put 1 2/sync/128*get 1/sync/get 1/||129*2/|0|51 0,1 254,27 256|263 0,3 256|86 0+3,1 256",
+    // Adds joined early. Of 6 commands joining leaves 5, which enter the tree at the end. The device: 27 calls, as those of
+    // the map with two values. The shelf: 17 calls, 15 of them for 44 bytes. The output: 2 calls for 4 bytes.
+    "map --early --stats --block=128 --frames=64 a|put 1 5/add 1 1/get 1/add 1 1/add 1 1/get 1/||6/8/|0|27 0|17 0|2 0+3",
+    // A load has 1024 commands. Of the first one joining leaves the put and one add, and of the others an add and the get:
+    // they take one block. The device: 27 calls. The output: 2 calls for 5 bytes.
+    "map --early --block=128 --frames=64 a|put 1 2/1500*add 1 1/get 1/||1502/|0|27 0|-|2 0+3",
+    // Of 257 commands joining leaves 129, and of 128 keys the values take two blocks as well. The device: 33 calls, 16 and
+    // one that begins it, 4 for each block of commands, 2 for each of values, and 4 for that of the answer.
+    "map --early --block=128 --frames=64 a|128*add # 1/128*add # 1/get 1/||2/|0|33 0|-|1 0",
+    // A put and 128 gets are all left: the device's calls are those of the same file without the option. The shelf isn't tried.
+    "map --early --block=128 --frames=64 a|put 1 2/128*get 1/||128*2/|0|34 0,1 254|-|86 0+3",
+    // A sync, before which joining leaves all, and after it two of three. The device: 51 calls, 26 up to the end of the sync as
+    // above, of which the last one comes after its line was printed, and 25 at the end, two of them for the block of the value
+    // that is left. The shelf: 19 calls, 17 of them for 49 bytes; the sync ends in call 9. The output: 2 calls.
+    "map --early --block=128 --frames=64 a|put 1 5/add 1 1/get 1/sync/add 1 1/add 1 1/get 1/||6/8/|0|25 0,26 2|10 0,9 2|1 0,1 2",
     // A queue. The device: 3 calls. Call 0 begins it, and two store the leaf and the root of an empty tree. The items
     // stand in memory. The shelf: 17 calls, 15 of them for 43 bytes. The pops end in calls 8, 12, 13 and 15, and call 16
     // finds the end. The output: 7 calls, two for each line of 4 bytes.

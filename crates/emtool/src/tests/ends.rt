@@ -56,7 +56,7 @@ fn ends_so(rt: &HostRuntime, row: &str) -> Result<bool, Fail> {
 
 /// A row has the words of a run, its file, what goes wrong, the exit code, what output and error stream took, and the moves of
 /// the device.
-const ROWS: [&str; 36] = [
+const ROWS: [&str; 42] = [
     // Call 2 of the shelf gives the end of line 1, which is faulty, and call 3 would fail: nothing is read after the first
     // fault.
     "map a|bogus/get 1/pop/stab 1/bogus/|shelf 3|2||emtool: malformed: Unknown at 1/|",
@@ -92,6 +92,19 @@ const ROWS: [&str; 36] = [
     "map --block=128 --frames=64 --blocks=100 a|200*put 1 2/get 1/|lost 2|8||emtool: scratch block 2 is damaged/|",
     "map --block=128 --frames=64 --blocks=100 a|200*put 1 2/get 1/|lost 3|8||emtool: scratch block 3 is damaged/|",
     "map --block=128 --frames=64 --blocks=100 a|200*put 1 2/get 1/|lost 4|8||emtool: scratch block 4 is damaged/|",
+    // Adds joined early. The load's area is given back before the tree is emptied, so that the peak is that of a run without
+    // the option. Before a faulty line those answers are printed that the sync before it prints: its 25 moves are all that are
+    // made, since the get after it is gathered.
+    "map --early --stats --block=128 --frames=64 a|put 1 5/add 1 1/get 1/add 1 1/add 1 1/get 1/||0|6/8/|moves 26 peak 13/|26",
+    "map --early --stats --block=128 --frames=64 a|put 1 5/add 1 1/get 1/|device 0|5||\
+     emtool: the scratch device failed/moves 0 peak 0/|",
+    "map --early --block=128 --frames=64 a|put 1 5/add 1 1/get 1/bogus/||2||emtool: malformed: Unknown at 4/|2",
+    "map --early --block=128 --frames=64 a|put 1 5/add 1 1/get 1/sync/get 1/bogus/||2|6/|\
+     emtool: malformed: Unknown at 6/|25",
+    // Without the option 301 commands take three blocks beside leaf and root, and find four blocks full. With it one block has
+    // the two that are left, and one more is enough for the rest.
+    "map --block=128 --frames=64 --blocks=4 a|300*add 1 2/get 1/||6||emtool: the scratch device is full at 4 blocks/|",
+    "map --early --block=128 --frames=64 --blocks=4 a|300*add 1 2/get 1/||0|600/||26",
     // The commands take 2, 3 and 4. In the root's place block 2 is read, which is no node: 5 moves write, and one reads.
     // Three blocks are full with the 128th command: the leaf and the root were written.
     "map --block=128 --frames=64 --blocks=3 a|297*put 1 2/3*get 1/|next|6||emtool: the scratch device is full at 3 blocks/|2",

@@ -5,7 +5,7 @@ use Rattle.em_answers.proofs.answering.run_map.Goals as goal
 
 pub returns-clause-runs : goal.returns-clause-runs
 returns-clause-runs g c =
-    map_runs (apply_of c.args.settle.kind) g.H.Shelf g.W.Sink (seen g.D.Device.state c.args.rig.now)
+    map_runs (apply_of c.args.settle.kind) c.args.early g.H.Shelf g.W.Sink (seen g.D.Device.state c.args.rig.now)
     (seen g.D.Device.state c.run_service.new.rig) c.args.shelf.now c.args.out.now c.run_service.new.shelf
     c.run_service.new.out c.run_service.result c.requires.unused c.requires.none_moved
     c.run_service.ensures.runs

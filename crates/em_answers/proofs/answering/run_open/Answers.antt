@@ -11,18 +11,18 @@ pub returns-in-Ok-clause-runs : goal.returns-in-Ok-clause-runs
 returns-in-Ok-clause-runs g c =
     let e = c.run_queue.ensures in
     let apply = apply_of c.args.combine in
-    rw c.in-Queue.is (queue_runs apply c.requires.unused c.requires.none_moved c.in-Ok.ensures.makes e.gives
+    rw c.in-Queue.is (queue_runs apply c.args.early c.requires.unused c.requires.none_moved c.in-Ok.ensures.makes e.gives
     (e.runs apply) e.moves)
 
 pub returns-in-Err-clause-runs : goal.returns-in-Err-clause-runs
 returns-in-Err-clause-runs g c =
-    rw (c.in-Queue.is, c.status_of.ensures.is) (unmade_runs (apply_of c.args.combine) g.met.W.Sink.rule
+    rw (c.in-Queue.is, c.status_of.ensures.is) (unmade_runs (apply_of c.args.combine) c.args.early g.met.W.Sink.rule
     (g.met.W.Sink.is_state c.args.out.now) c.requires.unused c.requires.none_moved
     c.in-Err.ensures.stops)
 
 pub returns-in-Stab-clause-runs : goal.returns-in-Stab-clause-runs
 returns-in-Stab-clause-runs g c =
-    rw c.in-Stab.is (stab_runs _ (apply_of c.args.combine) g.H.Shelf g.W.Sink
+    rw c.in-Stab.is (stab_runs _ (apply_of c.args.combine) c.args.early g.H.Shelf g.W.Sink
     (seen g.D.Device.state c.args.rig.now) (seen g.D.Device.state c.run_service.new.rig) c.args.shelf.now c.args.out.now
     c.run_service.new.shelf c.run_service.new.out c.run_service.result c.requires.unused
     c.requires.none_moved c.run_service.ensures.runs)

@@ -13,7 +13,8 @@ use Rattle.em_lines.specs.RunSize.{run_size}
 use Rattle.em_lines.proofs.ReadLaws.{counted_left, counted_more, counted_none, counted_read, good_more}
 use Rattle.em_lines.proofs.Steps.{reads_then}
 use Rattle.em_services.specs.Service.{syncs_for}
-use Rattle.em_services.proofs.Areas.{goes_on_nothing, goes_on_within, syncs_shared, within_equal}
+use Rattle.em_map.proofs.Areas.{goes_on_nothing, goes_on_within}
+use Rattle.em_services.proofs.Areas.{syncs_shared, within_equal}
 use Rattle.em_answers.proofs.Listing.{alone_larger, alone_next, stabs_next, taken_most}
 use Rattle.em_answers.proofs.ReadingStops.{stops_command}
 use Rattle.em_answers.proofs.Rooms.{alone_keeps, call_keeps}

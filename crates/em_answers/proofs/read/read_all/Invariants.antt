@@ -9,7 +9,8 @@ use Rattle.em_lines.specs.CommandLine.{parsed_from, first_fault, good_commands}
 use Rattle.em_lines.specs.Lines.{lines_of}
 use Rattle.em_lines.specs.Reads.{Reads}
 use Rattle.em_lines.proofs.ReadLaws.{Counted}
-use Rattle.em_services.specs.Service.{CanSync, GoesOn}
+use Rattle.em_map.specs.Areas.{KeepsAreas}
+use Rattle.em_services.specs.Service.{CanSync}
 use Rattle.em_answers.specs.Answer.{synced_text}
 use Rattle.em_answers.specs.Reading.{StandsAlone}
 use Rattle.em_answers.proofs.read.read_all.Given as goal
@@ -24,7 +25,7 @@ invariant-loop-next g l =
     let n = (g.S.Service.counts l.service).n in
     let held = g.S.Service.blocks l.fn.service first in
     record {
-      goes : GoesOn (g.S.Service.areas l.fn.service) (g.S.Service.areas l.service) held first now;
+      goes : KeepsAreas (g.S.Service.areas l.fn.service) (g.S.Service.areas l.service) held first now;
       free : CanSync (g.S.Service.areas l.service) now.pool;
       joins : g.S.Service.combiner l.service ≡ g.S.Service.combiner l.fn.service;
       sizes : g.S.Service.size l.service ≡ g.S.Service.size l.fn.service;

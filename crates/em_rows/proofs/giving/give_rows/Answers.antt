@@ -5,7 +5,8 @@ use Rattle.em_model.specs.declared.command.Command.{Command}
 use Rattle.em_space.specs.Seen.{seen}
 use Rattle.em_space.proofs.Steps.{cause_after}
 use Rattle.em_space.proofs.Within.{within_same, within_then}
-use Rattle.em_services.proofs.Areas.{goes_on_nothing, goes_on_within, takes_shared}
+use Rattle.em_map.proofs.Areas.{goes_on_nothing, goes_on_within}
+use Rattle.em_services.proofs.Areas.{takes_shared}
 use Rattle.em_lines.proofs.Steps.{reads_then}
 use Rattle.em_ends.specs.declared.stop.Stop.TheVariants.{Em}
 use Rattle.em_answers.proofs.Due.{stop_on}

@@ -4,7 +4,8 @@ use Rattle.em_model.specs.declared.command.Command.{Command}
 use Rattle.em_space.specs.Held.{Within}
 use Rattle.em_space.specs.Seen.{seen}
 use Rattle.em_lines.specs.Reads.{Reads}
-use Rattle.em_services.specs.Service.{CanTake, GoesOn}
+use Rattle.em_map.specs.Areas.{KeepsAreas}
+use Rattle.em_services.specs.Service.{CanTake}
 use Rattle.em_rows.specs.Moves.{MovesOwn}
 use Rattle.em_rows.proofs.RowLaws.{RowsGiven}
 use Rattle.em_rows.proofs.giving.give_rows.Given as goal
@@ -19,7 +20,7 @@ invariant-loop-next g l =
     let counts = g.S.Service.counts l.service in
     let held = g.S.Service.blocks l.fn.service first in
     record {
-      goes : GoesOn (g.S.Service.areas l.fn.service) (g.S.Service.areas l.service) held first now;
+      goes : KeepsAreas (g.S.Service.areas l.fn.service) (g.S.Service.areas l.service) held first now;
       free : CanTake (g.S.Service.areas l.service) now.pool;
       joins : g.S.Service.combiner l.service ≡ g.S.Service.combiner l.fn.service;
       sizes : g.S.Service.size l.service ≡ g.S.Service.size l.fn.service;

@@ -19,8 +19,8 @@ returns-in_default-clause-runs g c =
           refl;
       caused = search rules;
       most = λ t d. let none = c.requires.unused.none_ever in omega (arith, none);
-      opens = opens_missing tells told c.args.kind c.args.combine c.args.name.now a b c.requires.fresh o.leaves o.lost;
-      all_read = reads_missing tells told c.args.kind c.args.combine c.args.name.now a b c.requires.fresh o.leaves o.lost;
+      opens = opens_missing tells told c.args.kind c.args.combine c.args.early c.args.name.now a b c.requires.fresh o.leaves o.lost;
+      all_read = reads_missing tells told c.args.kind c.args.combine c.args.early c.args.name.now a b c.requires.fresh o.leaves o.lost;
       no_usage = tt;
       no_memory = tt;
     }
@@ -34,21 +34,22 @@ returns-clause-runs g c =
     let r = c.run_open.ensures.runs in
     let kind = c.args.kind in
     let combine = c.args.combine in
+    let early = c.args.early in
     let name = c.args.name.now in
     let fresh = c.requires.fresh in
     let tells = g.H.Shelf.tells in
     let told = (g.D.Device.state c.args.rig.now.device.now).told in
-    let same = text_opened tells told kind combine name a b fresh o.leaves o.lost last o.whole r.reads in
+    let same = text_opened tells told kind combine early name a b fresh o.leaves o.lost last o.whole r.reads in
     record {
-      ended = ended_as (apply_of combine) tells kind (b.slot First).left (text_in a First (Some name)) _ _ _ _ _
+      ended = ended_as (apply_of combine) early tells kind (b.slot First).left (text_in a First (Some name)) _ _ _ _ _
           c.run_open.result refl refl same r.ended;
       caused = search rules;
-      most = most_as (apply_of combine) tells kind (b.slot First).left (text_in a First (Some name))
+      most = most_as (apply_of combine) early tells kind (b.slot First).left (text_in a First (Some name))
           (seen g.D.Device.state c.args.rig.now) (seen g.D.Device.state c.run_open.new.rig) last.slot
           c.run_open.ensures.goes.touches same r.most;
-      opens = opens_file tells told kind combine name a b fresh o.leaves o.lost last o.whole r.reads
+      opens = opens_file tells told kind combine early name a b fresh o.leaves o.lost last o.whole r.reads
           c.run_open.result;
-      all_read = reads_file tells told kind combine name a b fresh o.leaves o.lost last o.whole r.reads
+      all_read = reads_file tells told kind combine early name a b fresh o.leaves o.lost last o.whole r.reads
           c.run_open.result r.all_read;
       no_usage = r.no_usage;
       no_memory = r.no_memory;

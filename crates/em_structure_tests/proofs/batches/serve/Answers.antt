@@ -1,8 +1,7 @@
 use Rattle.std.proofs.Common.{arith, length}
 use Rattle.em_space.specs.Seen.{seen}
-use Rattle.em_structure_tests.proofs.BatchKeeps.{abandoned_keeps, finished_keeps, new_ready}
+use Rattle.em_structure_tests.proofs.BatchKeeps.{abandoned_keeps, batch_next, finished_keeps, new_ready}
 use Rattle.em_structure_tests.proofs.Frames.{kept_goes, some_free}
-use Rattle.em_structure_tests.proofs.Kept.{ready_next}
 use Rattle.em_structure_tests.proofs.batches.serve.Goals as goal
 
 pub step_all-requires-clause-ready : goal.step_all-requires-clause-ready
@@ -15,8 +14,8 @@ pub finish-requires-clause-free : goal.finish-requires-clause-free
 finish-requires-clause-free g c =
     let few = c.is_long.ensures c.if-is_long.false in
     let n = length c.args.calls.now in
-    (ready_next n 0 n _ _ _ _ _ _ _ _ (omega arith) (new_ready n _ _ _ (omega (arith, few))
-    c.requires c.in_ok-batch.ensures.makes) c.in-Ok.ensures.kept).serves
+    (batch_next n 0 n _ _ _ _ _ (omega arith) (new_ready n _ _ _ (omega (arith, few))
+    c.requires c.in_ok-batch.ensures.makes) c.in-Ok.ensures.kept).ready.serves
 
 pub returns-in_err-chain-in-Ok : goal.returns-in_err-chain-in-Ok
 returns-in_err-chain-in-Ok g c =

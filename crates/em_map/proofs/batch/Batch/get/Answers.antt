@@ -4,3 +4,6 @@ use Rattle.em_map.proofs.batch.Batch.get.Goals as goal
 
 pub returns-clause-takes : goal.returns-clause-takes
 returns-clause-takes g c = c.push.ensures.takes (command.Get c.args.key) refl
+
+pub returns-clause-counts : goal.returns-clause-counts
+returns-clause-counts g c = c.push.ensures.counts (command.Get c.args.key) refl

@@ -1,5 +1,5 @@
 use Rattle.em_space.specs.Seen.{seen}
-use Rattle.em_services.proofs.BatchAnswers.{answers_are, answers_gives, answers_items, answers_leaves, answers_moves, answers_owes, answers_full, answers_room_is, unfinished_full, unfinished_moves, unfinished_room}
+use Rattle.em_services.proofs.BatchAnswers.{answers_are, answers_cause, answers_full, answers_gives, answers_items, answers_leaves, answers_moves, answers_owes, answers_room_is, unfinished_full, unfinished_moves, unfinished_owes, unfinished_room}
 use Rattle.em_services.proofs.batch_service.BatchService.answers.Goals as goal
 
 pub order_answers-requires : goal.order_answers-requires
@@ -30,7 +30,7 @@ pub returns-in-Ok-clause-moves : goal.returns-in-Ok-clause-moves
 returns-in-Ok-clause-moves g c =
     answers_moves (seen g.D.Device.state c.args.rig.now) (seen g.D.Device.state c.finish.new.rig)
     (seen g.D.Device.state c.order_answers.new.rig) c.args.self c.in-Ok.answers
-    c.in-Ok.ensures.finishes c.order_answers.result c.order_answers.ensures.orders c.requires.is.0 c.requires.sound
+    c.in-Ok.ensures.finishes c.order_answers.result c.order_answers.ensures.orders c.requires.sound
     c.in-Ok.ensures.costs
 
 pub returns-in-Ok-clause-room : goal.returns-in-Ok-clause-room
@@ -69,3 +69,14 @@ returns-in-Ok-clause-owes g c =
     answers_owes (seen g.D.Device.state c.args.rig.now) (seen g.D.Device.state c.finish.new.rig)
     (seen g.D.Device.state c.order_answers.new.rig) c.args.self c.in-Ok.answers
     c.in-Ok.ensures.finishes c.order_answers.result c.order_answers.ensures.orders
+
+pub returns-in-Ok-clause-cause : goal.returns-in-Ok-clause-cause
+returns-in-Ok-clause-cause g c =
+    answers_cause (seen g.D.Device.state c.args.rig.now) (seen g.D.Device.state c.finish.new.rig)
+    (seen g.D.Device.state c.order_answers.new.rig) c.args.self c.in-Ok.answers
+    c.in-Ok.ensures.finishes c.order_answers.result c.order_answers.ensures.orders
+
+pub returns-in-Err-clause-owes : goal.returns-in-Err-clause-owes
+returns-in-Err-clause-owes g c =
+    unfinished_owes (seen g.D.Device.state c.args.rig.now) (seen g.D.Device.state c.finish.new.rig)
+    c.args.self c.in-Err.fault c.in-Err.ensures.finishes

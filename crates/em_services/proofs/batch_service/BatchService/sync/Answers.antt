@@ -1,6 +1,6 @@
 use Rattle.em_space.specs.Seen.{seen}
 use Rattle.em_services.proofs.Rules.{both_still}
-use Rattle.em_services.proofs.Syncing.{handed_are, synced_cause, synced_frames, synced_full, synced_gives, synced_goes, synced_has, synced_is, synced_items, synced_moves, synced_owes, synced_room, synced_within, unsynced_full, unsynced_goes, unsynced_moves, unsynced_owes, unsynced_room}
+use Rattle.em_services.proofs.Syncing.{handed_are, synced_cause, synced_frames, synced_full, synced_gives, synced_goes, synced_has, synced_is, synced_items, synced_moves, synced_owes, synced_room, synced_size, synced_within, unsynced_full, unsynced_moves, unsynced_owes, unsynced_room}
 use Rattle.em_services.proofs.batch_service.BatchService.sync.Goals as goal
 
 pub order_answers-requires : goal.order_answers-requires
@@ -64,11 +64,6 @@ returns-in-Err-clause-moves g c = λ kind.
     unsynced_moves (seen g.D.Device.state c.args.rig.now) (seen g.D.Device.state c.sync.new.rig) c.args.self.now
     c.sync.new.self c.in-Err.fault c.in-Err.ensures.syncs c.in-Err.ensures.counts c.requires.is.0 c.requires.sound
 
-pub returns-in-Err-clause-goes : goal.returns-in-Err-clause-goes
-returns-in-Err-clause-goes g c =
-    unsynced_goes (seen g.D.Device.state c.args.rig.now) (seen g.D.Device.state c.sync.new.rig) c.args.self.now
-    c.sync.new.self c.in-Err.fault c.in-Err.ensures.syncs c.in-Err.ensures.counts c.requires.is.0 c.requires.sound
-
 pub returns-in-Err-clause-room : goal.returns-in-Err-clause-room
 returns-in-Err-clause-room g c =
     unsynced_room (seen g.D.Device.state c.args.rig.now) (seen g.D.Device.state c.sync.new.rig) c.args.self.now
@@ -113,3 +108,13 @@ returns-in-Ok-clause-idle g c = λ other. absurd (other tt)
 
 pub returns-in-Err-clause-idle : goal.returns-in-Err-clause-idle
 returns-in-Err-clause-idle g c = λ other. absurd (other tt)
+
+pub returns-in-Ok-clause-sizes : goal.returns-in-Ok-clause-sizes
+returns-in-Ok-clause-sizes g c =
+    synced_size (seen g.D.Device.state c.args.rig.now) (seen g.D.Device.state c.sync.new.rig) c.args.self.now
+    c.sync.new.self c.in-Ok.ensures.counts
+
+pub returns-in-Err-clause-sizes : goal.returns-in-Err-clause-sizes
+returns-in-Err-clause-sizes g c =
+    synced_size (seen g.D.Device.state c.args.rig.now) (seen g.D.Device.state c.sync.new.rig) c.args.self.now
+    c.sync.new.self c.in-Err.ensures.counts

@@ -1,5 +1,5 @@
 use Rattle.em_space.specs.Seen.{seen}
-use Rattle.em_services.proofs.Batching.{take_moves, take_cause, take_full, take_goes, take_is, take_room}
+use Rattle.em_services.proofs.Batching.{take_moves, take_cause, take_full, take_goes, take_is, take_room, take_size}
 use Rattle.em_services.proofs.Rules.{both_still}
 use Rattle.em_services.proofs.batch_service.BatchService.take.Goals as goal
 
@@ -29,3 +29,8 @@ returns-clause-is g c =
     (take_is _ c.args.command (seen g.D.Device.state c.args.rig.now) (seen g.D.Device.state c.give_batch.new.rig)
     c.args.self.now c.give_batch.new.batch c.give_batch.result c.give_batch.ensures.takes c.requires.is.0)
     (rw c.give_batch.ensures.rule c.requires.is.1)
+
+pub returns-clause-sizes : goal.returns-clause-sizes
+returns-clause-sizes g c =
+    take_size c.args.command (seen g.D.Device.state c.args.rig.now) (seen g.D.Device.state c.give_batch.new.rig)
+    c.args.self.now c.give_batch.new.batch c.give_batch.ensures.counts
