@@ -4,13 +4,15 @@
 tests/tools/adds.py --run            runs the program on the files that the gate tries
 tests/tools/adds.py --run FROM TO    on those of these numbers
 tests/tools/adds.py --early --run .. does the same, and runs `emtool map --early` on each file too, as the gate does
+tests/tools/adds.py --dump --run ..  does the same, and runs `emtool dump` on each file too, as the gate does; both may be asked for
 tests/tools/adds.py NUMBER FILE      writes the file of a number
 
 Each file has puts, dels, gets, adds and syncs of a few keys or of many, with values at both ends of the range. In the last 6 of each 26
 files most commands are adds of few keys, and each sync, and the file's end, comes at the end of a load, one command before it or one after
 it. A load is as many commands as an area has records.
 `emtool map --early` joins the adds of each load. It must print the same, and make at most (y + 1)·cost(n') moves, for y syncs and the size
-n' of the joined file (`joined_size`).
+n' of the joined file (`joined_size`). `emtool dump` must print the pairs that the map in memory has at the end (dumps.py), and make at most
+2·(y + 1)·cost(n) moves, for n commands.
 The program is the one that `rt ci` or `./emtool` built, or the one that EMTOOL names.
 """
 import itertools
@@ -25,6 +27,7 @@ sys.dont_write_bytecode = True
 HERE = os.path.dirname(os.path.abspath(__file__))
 TOP = os.path.dirname(os.path.dirname(HERE))
 sys.path.insert(0, HERE)
+import dumps
 import made
 
 # the words, the records of a block, and the frames
@@ -109,6 +112,11 @@ def most_moves(lines, block, frames):
     return (commands.count(["sync"]) + 1) * cost(size, block, frames)
 
 
+def most_moves_of_dump(lines, block, frames):
+    """How many blocks may be moved for a file that is dumped."""
+    return 2 * (lines.count("sync\n") + 1) * cost(len(lines), block, frames)
+
+
 def check_worked():
     """Stops unless each row that was worked by hand comes out."""
     for load, text, size in WORKED:
@@ -183,7 +191,7 @@ def lines_of(number):
 
 def fault_of(program, folder, words, due, most=None):
     """What is wrong with a run over the file `commands`, or None. If there is a bound on its moves, it must tell them."""
-    child = subprocess.run([program, "map", *words, "commands"], cwd=folder, stdin=subprocess.DEVNULL, stdout=subprocess.PIPE,
+    child = subprocess.run([program, *words, "commands"], cwd=folder, stdin=subprocess.DEVNULL, stdout=subprocess.PIPE,
                            stderr=subprocess.PIPE, timeout=600)
     told = child.stderr.decode()
     moves = MOVES.fullmatch(told)
@@ -194,47 +202,52 @@ def fault_of(program, folder, words, due, most=None):
     return None
 
 
-def runs_of(lines, early):
+def runs_of(lines, options):
     """The words of each run over a file but for the combiner, and its most moves if they are asked for."""
     for words, block, frames in SHAPES:
-        yield words, None
-        if early:
-            yield [*words, "--stats", "--early"], most_moves(lines, block, frames)
+        yield ["map", *words], None
+        if "--early" in options:
+            yield ["map", *words, "--stats", "--early"], most_moves(lines, block, frames)
+        if "--dump" in options:
+            yield ["dump", *words, "--stats"], most_moves_of_dump(lines, block, frames)
 
 
-def run(numbers, early):
+def run(numbers, options):
     """Runs the program on the files of these numbers, and says what differs."""
     program = os.path.abspath(os.environ.get("EMTOOL") or os.path.join(TOP, "emtool"))
-    wrong = gets = 0
+    wrong = gets = pairs = 0
     with tempfile.TemporaryDirectory(prefix="emtool-adds-") as folder:
         for number in numbers:
             lines = list(lines_of(number))
-            runs = list(runs_of(lines, early))
+            runs = list(runs_of(lines, options))
             with open(os.path.join(folder, "commands"), "w") as it:
                 it.writelines(lines)
             for kind in made.COMBINERS:
-                due = "".join(f"{it}\n" for it in made.map_answers(lines, kind))
-                gets += due.count("\n")
+                due = {
+                    "map": "".join(f"{it}\n" for it in made.map_answers(lines, kind)),
+                    "dump": dumps.answer("".join(lines).encode(), kind)[0],
+                }
+                gets, pairs = gets + due["map"].count("\n"), pairs + due["dump"].count("\n")
                 for words, most in runs:
                     words = [*words, f"--combine={kind}"]
-                    fault = fault_of(program, folder, words, due, most)
+                    fault = fault_of(program, folder, words, due[words[0]], most)
                     if fault:
                         wrong += 1
-                        print(f"WRONG {number}: map {' '.join(words)} {fault}")
-    print(f"{len(numbers)} drawn map files with adds, {gets} answers: {wrong} wrong")
-    if wrong or not gets:
+                        print(f"WRONG {number}: {' '.join(words)} {fault}")
+    print(f"{len(numbers)} drawn map files with adds, {gets} answers, {pairs} pairs: {wrong} wrong")
+    if wrong or not gets or not pairs:
         sys.exit(1)
 
 
 def main(words):
     check_worked()
-    early = words[:1] == ["--early"]
-    words = words[1:] if early else words
+    options = list(itertools.takewhile(lambda it: it in ("--early", "--dump"), words))
+    words = words[len(options) :]
     if words == ["--run"]:
-        run(range(TRIED), early)
+        run(range(TRIED), options)
     elif len(words) == 3 and words[0] == "--run":
-        run(range(int(words[1]), int(words[2])), early)
-    elif len(words) == 2 and not early:
+        run(range(int(words[1]), int(words[2])), options)
+    elif len(words) == 2 and not options:
         with open(words[1], "w") as it:
             it.writelines(lines_of(int(words[0])))
     else:

@@ -1,7 +1,7 @@
 #!/usr/bin/env python3
-"""Checks the rows of `eval` and of `gen` without the program: the evaluator of aiger.py must give what each row says, the two
-forms of a circuit must spell the same circuit, the made tables must be those that circuits.py makes, and the summaries
-of made texts those of made.py.
+"""Checks the rows of `eval`, of `gen` and of `dump` without the program: the evaluator of aiger.py must give what each row says, the two
+forms of a circuit must spell the same circuit, the made tables must be those that circuits.py makes, the summaries
+of made texts those of made.py, and the pairs of a dump those of dumps.py.
 
 tests/tools/check.py
 """
@@ -17,10 +17,12 @@ TESTS = os.path.dirname(HERE)
 sys.path.insert(0, HERE)
 import aiger
 import circuits
+import dumps
 import made
 
 # what the evaluator can answer: it has no blocks, and writes where it is told
 COMMAND = re.compile(r"emtool eval(?: --(?:stats|block=\d+|frames=\d+|uninit=([01])|(wide)))* ([a-z]+) ([a-z]+)")
+DUMP = re.compile(r"(?:ulimit -v \d+; )?emtool dump(?: --(?:stats|block=\d+|frames=\d+|blocks=\d{4,}|combine=(sum|max|min|xor)))* ([a-z]+)")
 STATISTICS = re.compile(rb"moves (\d+|<= \d+)( peak (\d+|<= \d+))?\n\Z")
 FORMS = re.compile(r"(.*), in (ASCII|binary)")
 
@@ -56,6 +58,20 @@ def check_rows(rows):
             message = STATISTICS.sub(b"", row.message) if "--stats" in row.command else row.message
             if found != (row.output, message, row.code or 0):
                 wrong.append(f"{row.place}: {row.title}: the evaluator answers {found[1:]}")
+    return ran, wrong
+
+
+def check_dumps(rows):
+    """The number of rows of `dump` that a map in memory answered, and those that it answers otherwise."""
+    ran, wrong = 0, []
+    for row in rows:
+        found = DUMP.fullmatch(row.command)
+        text = found and row.files.get(found[2])
+        if text is not None:
+            ran += 1
+            output, message, code = dumps.answer(text, found[1] or "sum")
+            if (output.encode(), message.encode(), code) != (row.output, STATISTICS.sub(b"", row.message), row.code or 0):
+                wrong.append(f"{row.place}: {row.title}: a map in memory answers {message or output[:200]!r} with code {code}")
     return ran, wrong
 
 
@@ -98,11 +114,13 @@ def check_summaries(rows):
 
 def main():
     run = SourceFileLoader("run", os.path.join(TESTS, "run")).load_module()
-    wrong, summaries = check_made(), 0
+    wrong, summaries, dumped = check_made(), 0, 0
     for table in sorted(glob.glob(os.path.join(TESTS, "rows", "*.rows"))):
         rows = run.rows_of(table)
         count, found = check_summaries(rows)
         summaries, wrong = summaries + count, wrong + found
+        count, found = check_dumps(rows)
+        dumped, wrong = dumped + count, wrong + found
         rows = [it for it in rows if it.command.startswith("emtool eval ")]
         ran, found = check_rows(rows)
         both, others = check_forms(rows)
@@ -110,7 +128,7 @@ def main():
         if ran:
             place = os.path.basename(table)
             print(f"{place}: {ran} of {len(rows)} rows evaluated, {both} circuits in both forms")
-    print(f"{summaries} summaries of made texts")
+    print(f"{summaries} summaries of made texts, {dumped} dumps")
     print("".join(f"WRONG {it}\n" for it in wrong) + f"{len(wrong)} wrong")
     return 1 if wrong else 0
 

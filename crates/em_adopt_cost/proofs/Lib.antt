@@ -1,10 +1,2 @@
-pub mod Adopting
-pub mod Events
-pub mod Fitting
-pub mod Leftmost
 pub mod Rows
 pub mod Services
-pub mod Settling
-pub mod Totals
-pub mod Undoing
-pub mod Untaken

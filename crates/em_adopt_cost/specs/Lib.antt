@@ -1,5 +1,1 @@
-pub mod Adopted
-pub mod Leftmost
-pub mod Paid
 pub mod Shares
-pub mod Undoing

@@ -9,15 +9,16 @@ use Rattle.em_model.specs.Map.{Combiner, Map, no_keys, map_answers_from, map_ste
 use Rattle.em_model.specs.Sync.{since_sync, synced_answers, up_to_sync}
 use Rattle.em_model.proofs.SyncLaws.{map_answers-parts, sync_parts}
 use Rattle.em_lines.specs.Kind.{IsOfKind}
+use Rattle.em_model.specs.Pairs.{pairs_after}
 use Rattle.em_model.specs.Stab.{stab_answers}
 use Rattle.em_model.specs.declared.command.Command.{Command}
 use Rattle.em_model.specs.declared.command.Command.TheVariants.{Put, Add, Del, Get, Sync, Push, Pop, Interval, Stab}
 use Rattle.em_model.specs.MapAnswers.{answer_record, answers_after, get_numbers, with_numbers}
 use Rattle.em_model.specs.StabAnswers.{pair_record, pairs_from, stab_pairs}
-use Rattle.em_answers.specs.Answer.{answer_line, map_text, stab_text, synced_text, text_at, text_for}
-use Rattle.em_answers.specs.Print.{answer_in, answers_in, groups_from, intervals_at, pairs_behind, records_text}
+use Rattle.em_answers.specs.Answer.{answer_line, map_text, pairs_text, stab_text, synced_text, text_at, text_for}
+use Rattle.em_answers.specs.Print.{answer_in, answers_in, groups_from, intervals_at, pairs_behind, pairs_in, records_text}
 use Rattle.em_lines.specs.RunSize.{pairs_reported}
-use Rattle.em_services.specs.Service.{records_for}
+use Rattle.em_services.specs.Service.{records_at_sync, records_for, records_of_pairs}
 use Rattle.em_lines.specs.declared.text.FileKind.{FileKind}
 use Rattle.em_lines.specs.declared.text.FileKind.TheVariants as kind
 
@@ -82,6 +83,11 @@ groups_back stab (numbers ∷ answers) =
     (own_behind stab numbers answers)
     ∙ ap (λ t. numbers ∷ t) (groups_back (stab + 1) answers)
 
+-- the pairs of the records that were made of some pairs
+pairs_back : (pairs : List (ℕ × ℕ)) → pairs_in (records_of_pairs pairs) ≡ pairs
+pairs_back [] = refl
+pairs_back (p ∷ ps) = ap (λ qs. p ∷ qs) (pairs_back ps)
+
 -- The text of the records of a map's answers is that of the answers.
 pub sync_text : (apply : Combiner) (before cs : List Command) → map_text (answers_in (answers_after apply before cs))
     ≡ map_text (map_answers_from apply (state_after apply no_keys before) cs)
@@ -89,10 +95,11 @@ sync_text apply before cs = ap map_text (answers_back apply (1 + length before) 
 
 -- At a sync it is what the sync prints,
 pub text_at_sync : (apply : Combiner) (k : FileKind) (given : List Command) → k ≢ kind.Queue → IsOfKind k Sync
-    → records_text k 0 (records_for apply k (up_to_sync given) (since_sync given)) ≡ text_at apply k given Sync
+    → records_text k 0 (records_at_sync apply k (up_to_sync given) (since_sync given)) ≡ text_at apply k given Sync
 text_at_sync apply kind.Map given n is = sync_text apply (up_to_sync given) (since_sync given)
 text_at_sync apply kind.Queue given n is = absurd (n refl)
 text_at_sync apply kind.Stab given n is = absurd is
+text_at_sync apply kind.Dump given n is = refl
 
 -- and with what was printed before it is the text of all answers at the end.
 pub text_whole : (apply : Combiner) (k : FileKind) (cs : List Command) → k ≢ kind.Queue
@@ -107,6 +114,9 @@ text_whole apply kind.Queue cs n = absurd (n refl)
 text_whole apply kind.Stab cs n =
     ap (λ xs. stab_text (groups_from 0 (length (stab_answers cs)) (stab_pairs xs))) (sync_parts cs)
     ∙ ap stab_text (groups_back 0 (stab_answers cs))
+text_whole apply kind.Dump cs n =
+    ap (λ xs. pairs_text (pairs_in (records_of_pairs (pairs_after apply xs)))) (sync_parts cs)
+    ∙ ap pairs_text (pairs_back (pairs_after apply cs))
 
 pairs_length : (n : ℕ) (answers : List (List ℕ))
     → length (pairs_from n answers) ≡ sum_by length answers

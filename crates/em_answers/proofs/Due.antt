@@ -39,6 +39,8 @@ front_due apply kind.Map text fault n e = ap (λ f. text_unless f (text_for appl
 front_due apply kind.Queue text fault n e = absurd (n refl)
 front_due apply kind.Stab text fault n e = ap (λ f. text_unless f (text_for apply kind.Stab (good_commands kind.Stab text))
     (synced_text apply kind.Stab (good_commands kind.Stab text))) e
+front_due apply kind.Dump text fault n e = ap (λ f. text_unless f (text_for apply kind.Dump (good_commands kind.Dump text))
+    (synced_text apply kind.Dump (good_commands kind.Dump text))) e
 
 -- and where none is, that of all answers
 pub all_due : (apply : Combiner) (k : FileKind) (text : List ℕ) → first_fault k text ≡ None
@@ -48,6 +50,8 @@ all_due apply kind.Map text e = ap (λ f. text_unless f (text_for apply kind.Map
 all_due apply kind.Queue text e = refl
 all_due apply kind.Stab text e = ap (λ f. text_unless f (text_for apply kind.Stab (good_commands kind.Stab text))
     (synced_text apply kind.Stab (good_commands kind.Stab text))) e
+all_due apply kind.Dump text e = ap (λ f. text_unless f (text_for apply kind.Dump (good_commands kind.Dump text))
+    (synced_text apply kind.Dump (good_commands kind.Dump text))) e
 
 -- in any case what was printed at syncs is a front of it
 pub front_of_due : (apply : Combiner) (k : FileKind) (text : List ℕ) → k ≢ kind.Queue

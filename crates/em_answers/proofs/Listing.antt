@@ -28,6 +28,7 @@ pub taken_most : (kind : FileKind) (text left : List ℕ)
 taken_most Map text left = omega arith
 taken_most Queue text left = omega arith
 taken_most kind.Stab text left = omega arith
+taken_most kind.Dump text left = omega arith
 
 -- how many stabs there are doesn't depend on the intervals
 stabs_same : (xs ys : List NumberedInterval) (cs : List Command)
@@ -297,3 +298,4 @@ size_within kind.Stab text left taken =
     let pairs = pairs_counted good in
     let reported = ap pairs_reported all in
     omega (arith, taken, pairs, reported)
+size_within kind.Dump text left taken = taken

@@ -1,4 +1,4 @@
--- A run whose moves are within its transfer cost, and its blocks within the room.
+-- A run whose moves are within the transfer cost for its kind, and its blocks within the room.
 use Rattle.std.proofs.Common.{◌≡◌, ℕ, ◌+◌, ◌-◌, ◌*◌, ◌<◌, ◌≤◌, ◌^◌, ◌⊎◌, Bool, List, [], Some, IsTrue, IsFalse, ap, subst, ◌∙◌, refl, arith, inl, inr, ⊎_elim}
 use Rattle.em_record.specs.Cost.{blocks_of, cost, lev, room}
 use Rattle.em_record.specs.Count.{Rose}
@@ -21,7 +21,7 @@ use Rattle.em_pqueue.specs.ExtQueue.{counts_of as ext_counts}
 use Rattle.em_pqueue.specs.contracts.queue.ExtQueueQueue.TheImpl.{ghosts as ext}
 use Rattle.em_pqueue.specs.declared.queue.ExtQueue.{ExtQueue}
 use Rattle.std.proofs.Math.Nat.{mul-le-mul_left}
-use Rattle.em_answers.specs.Limits.{Limits, asked_by, asked_of_file, moves_size, queue_limits, syncs_in}
+use Rattle.em_answers.specs.Limits.{Limits, asked_by, asked_of_file, cost_for, moves_size, queue_limits, syncs_in}
 use Rattle.em_answers.specs.FileDue.{output_text}
 use Rattle.em_ready.specs.Queues.{FailsToMake}
 use Rattle.em_answers.specs.Serve.{GivesUp, WithinCalls, IsAlone}
@@ -61,7 +61,7 @@ if_less (Damaged block) few many wide h = tt
 abbrev pub held_to : (ShapeNumbers → ℕ → ℕ) → (ShapeNumbers → ℕ → ℕ) → Limits
 held_to moves most = record { moves = Some moves; room = Some most }
 
--- A run within numbers that are at most the transfer cost and the room is within these, on a device that
+-- A run within numbers that are at most the transfer cost for its kind and the room is within these, on a device that
 -- moved none before.
 pub ended_by_cost : {took : List ℕ → List ℕ → List ℕ} (apply : Combiner) (early : Bool)
     (size : ShapeNumbers → (text left : List ℕ) → ℕ) (tells : Bool) (kind : FileKind)
@@ -69,7 +69,7 @@ pub ended_by_cost : {took : List ℕ → List ℕ → List ℕ} (apply : Combine
     (blocks : ℕ) (old new : Outside) (s : Status)
     → Ended tells took (asked_by apply size (held_to f most) kind text) shape blocks old new s
     → ((left : List ℕ) → size shape text left ≡ moves_size kind early shape text left)
-    → ((n : ℕ) → f shape n ≤ cost shape n) → ((n : ℕ) → most shape n ≤ room shape n)
+    → ((n : ℕ) → f shape n ≤ cost_for kind shape n) → ((n : ℕ) → most shape n ≤ room shape n)
     → old.device.moves ≡ 0
     → Ended tells took (asked_of_file apply early kind text) shape blocks old new s
 ended_by_cost apply early size tells kind text f most shape blocks old new s e same few small none =
@@ -77,8 +77,8 @@ ended_by_cost apply early size tells kind text f most shape blocks old new s e s
     let n = moves_size kind early shape text left in
     let run = run_size kind text left in
     let y = syncs_in kind text left in
-    let within : (y + 1) * f shape n ≤ (y + 1) * cost shape n = mul-le-mul_left (y + 1) (few n) in
-    let kept : IsTrue tells → IsTrue old.device.told → new.device.moves ≤ (y + 1) * cost shape n =
+    let within : (y + 1) * f shape n ≤ (y + 1) * cost_for kind shape n = mul-le-mul_left (y + 1) (few n) in
+    let kept : IsTrue tells → IsTrue old.device.told → new.device.moves ≤ (y + 1) * cost_for kind shape n =
     λ t d. let m : new.device.moves ≤ old.device.moves + (y + 1) * f shape n =
     subst (λ (k : ℕ). new.device.moves ≤ old.device.moves + (y + 1) * f shape k) (same left) (e.moves t d) in
     omega (arith, m, within, none) in
@@ -100,7 +100,7 @@ module _ (apply : Combiner) {H W : Type 0} {h : ShelfGhosts H} {w : SinkGhosts W
       (shelf : H) (out : W) (shelf_after : H) (out_after : W) (end : Status)
       → RunsWithin apply size h w (held_to f most) kind s t shelf out shelf_after out_after end
       → ((text left : List ℕ) → size s.pool.shape text left ≡ moves_size kind early s.pool.shape text left)
-      → ((n : ℕ) → f s.pool.shape n ≤ cost s.pool.shape n)
+      → ((n : ℕ) → f s.pool.shape n ≤ cost_for kind s.pool.shape n)
       → ((n : ℕ) → most s.pool.shape n ≤ room s.pool.shape n)
       → ((n : ℕ) → most t.pool.shape n ≤ room t.pool.shape n)
       → s.device.moves ≡ 0

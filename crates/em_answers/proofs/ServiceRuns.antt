@@ -1,4 +1,4 @@
--- The runs of a map and of an interval list are within their transfer cost and the room.
+-- The runs of a map, of a dump and of an interval list are within their transfer cost and the room.
 use Rattle.std.proofs.Common.{◌≡◌, ℕ, ◌+◌, ◌*◌, ◌≤◌, Bool, List, refl, arith, Some}
 use Rattle.std.proofs.Math.Nat.{mul-le-mul, mul-le-mul_left}
 use Rattle.em_record.specs.Cost.{blocks_of, cost, room}
@@ -10,14 +10,14 @@ use Rattle.em_chain.specs.Counts.{ceiling}
 use Rattle.em_tree_cost.specs.Shares.{floors_of, queue_share, stab_share}
 use Rattle.em_tree_cost.proofs.Services.{stab_cost}
 use Rattle.em_tree_cost.proofs.Wider.{blocks_wider, chain_most, floors_wider}
-use Rattle.em_lines.specs.declared.text.FileKind.TheVariants.{Map, Stab}
+use Rattle.em_lines.specs.declared.text.FileKind.TheVariants.{Map, Stab, Dump}
 use Rattle.em_ends.specs.declared.status.Status.{Status}
 use Rattle.em_ready.specs.Ready.{IsUnused}
 use Rattle.em_services.specs.BatchService.{map_share, map_size}
 use Rattle.em_services.specs.Service.{size_of}
 use Rattle.em_services.proofs.BatchAnswers.{ceiling_share}
 use Rattle.em_answers.specs.FileRun.{Runs, RunsWithin}
-use Rattle.em_answers.specs.Limits.{Limits, taken_size}
+use Rattle.em_answers.specs.Limits.{Limits, cost_for, taken_size}
 use Rattle.em_answers.specs.Reading.{service_limits}
 use Rattle.em_answers.proofs.Moves.{runs_by_cost}
 use Rattle.em_answers.proofs.Sizes.{plain_size}
@@ -49,6 +49,23 @@ map_runs apply early h w s t shelf out shelf_after out_after end unused none r =
     runs_by_cost apply early (taken_size (map_size early) Map) Map (λ shape size. map_share shape size + ceiling size (payload_of shape))
     room s t shelf out shelf_after out_after end r (λ text left. refl)
     (map_few s.pool.shape sound.shape) (λ n. omega arith) (λ n. omega arith)
+    (let moves = sound.moves_is in omega (arith, moves, none))
+
+-- those of a dump's are even within a map's,
+pub dump_few : (shape : ShapeNumbers) → IsShape shape → (n : ℕ)
+    → map_share shape n + ceiling n (payload_of shape) ≤ cost_for Dump shape n
+dump_few shape is n = let few = map_few shape is n in omega (arith, few)
+
+-- and so is its run, which joins no adds early.
+pub dump_runs : {H W : Type 0} (apply : Combiner) (early : Bool) (h : ShelfGhosts H) (w : SinkGhosts W) (s t : RigState) (shelf : H)
+    (out : W) (shelf_after : H) (out_after : W) (end : Status) → IsUnused s → s.moves ≡ 0
+    → RunsWithin apply (taken_size (λ shape. size_of Dump) Dump) h w (service_limits (Some map_share) (Some room)) Dump s t shelf out shelf_after out_after end
+    → Runs apply early h w Dump s t shelf out shelf_after out_after end
+dump_runs apply early h w s t shelf out shelf_after out_after end unused none r =
+    let sound = unused.sound in
+    runs_by_cost apply early (taken_size (λ shape. size_of Dump) Dump) Dump (λ shape size. map_share shape size + ceiling size (payload_of shape))
+    room s t shelf out shelf_after out_after end r (plain_size Dump)
+    (dump_few s.pool.shape sound.shape) (λ n. omega arith) (λ n. omega arith)
     (let moves = sound.moves_is in omega (arith, moves, none))
 
 -- the moves of a stab file's run are within its transfer cost,

@@ -11,7 +11,7 @@ use Rattle.em_map.proofs.Early.{joined_most, joined_rises}
 use Rattle.em_lines.specs.CommandLine.{good_commands}
 use Rattle.em_lines.specs.RunSize.{commands_taken, run_size}
 use Rattle.em_lines.specs.declared.text.FileKind.{FileKind}
-use Rattle.em_lines.specs.declared.text.FileKind.TheVariants.{Map, Queue, Stab}
+use Rattle.em_lines.specs.declared.text.FileKind.TheVariants.{Map, Queue, Stab, Dump}
 use Rattle.em_services.specs.BatchService.{map_size}
 use Rattle.em_services.specs.Service.{size_of}
 use Rattle.em_answers.specs.Limits.{moves_size, taken_commands}
@@ -74,6 +74,7 @@ plain_size Stab text left =
     let n = length_taken Stab text left in
     let pairs = pairs_counted (taken_commands Stab text left) in
     omega (arith, n, pairs)
+plain_size Dump text left = length_taken Dump text left
 
 -- If adds aren't joined early, the moves of a run go by the size of the run,
 pub plain_moves : (kind : FileKind) (shape : ShapeNumbers) (text left : List ℕ)
@@ -81,6 +82,7 @@ pub plain_moves : (kind : FileKind) (shape : ShapeNumbers) (text left : List ℕ
 plain_moves Map shape text left = length_taken Map text left
 plain_moves Queue shape text left = refl
 plain_moves Stab shape text left = refl
+plain_moves Dump shape text left = refl
 
 -- else by no greater one.
 pub moves_few : (kind : FileKind) (early : Bool) (shape : ShapeNumbers) (text left : List ℕ)
@@ -91,6 +93,7 @@ moves_few Map early shape text left =
     omega (arith, few, n)
 moves_few Queue early shape text left = omega arith
 moves_few Stab early shape text left = omega arith
+moves_few Dump early shape text left = omega arith
 
 -- Those of a map go by no lesser size if more commands were taken.
 pub map_rises : (early : Bool) (shape : ShapeNumbers) (text left less : List ℕ)

@@ -26,7 +26,7 @@ use Rattle.em_lines.specs.Kind.{IsOfKind}
 use Rattle.em_lines.specs.declared.text.FileKind.{FileKind}
 use Rattle.em_lines.specs.declared.text.FileKind.TheVariants as kind
 use Rattle.em_map.specs.Areas.{KeepsAreas}
-use Rattle.em_services.specs.Service.{FramesOut, FullOverRoom, GivesAtSync, ServiceCounts, TakesCommand, WithinAllowance, WithinRoom, list_moves, records_for, syncs_for}
+use Rattle.em_services.specs.Service.{FramesOut, FullOverRoom, GivesAtSync, ServiceCounts, TakesCommand, WithinAllowance, WithinRoom, list_moves, records_at_sync, syncs_for}
 use Rattle.em_services.specs.declared.service.Service.{Ghosts as ServiceGhosts}
 use Rattle.em_map.proofs.Areas.{goes_on, goes_on_trans, goes_on_within}
 use Rattle.em_services.proofs.Areas.{out_kept}
@@ -239,12 +239,14 @@ pub one_at_sync : (k : FileKind) (c : Command) → c ≡ Sync → IsOfKind k Syn
 one_at_sync kind.Map c e is = ap (λ x. syncs_for kind.Map (x ∷ [])) e
 one_at_sync kind.Queue c e is = absurd is
 one_at_sync kind.Stab c e is = absurd is
+one_at_sync kind.Dump c e is = ap (λ x. syncs_for kind.Dump (x ∷ [])) e
 
 -- or none.
 pub none_at_other : (k : FileKind) (c : Command) → (c ≡ Sync → ⊥) → syncs_for k (c ∷ []) ≡ 0
 none_at_other kind.Map c other = no_sync c other
 none_at_other kind.Queue c other = refl
 none_at_other kind.Stab c other = refl
+none_at_other kind.Dump c other = no_sync c other
 
 -- Its moves are within what is allowed for the size of the commands that were given, and of it.
 module _ (allowance : Option (ShapeNumbers → ℕ → ℕ)) (size : List Command → ℕ) (k : FileKind) (given : List Command)
@@ -301,7 +303,7 @@ has_answered before after c (Err stop) e h = tt
 -- What is printed then is the text of the sync.
 pub prints_sync : (apply : Combiner) {took : List ℕ → List ℕ → List ℕ} {old new : List ℕ} {T : Type 0} {result : Result T Stop}
     (k : FileKind) (given : List Command) (c : Command) → c ≡ Sync → k ≢ kind.Queue → IsOfKind k Sync
-    → Prints took (records_text k 0 (records_for apply k (up_to_sync given) (since_sync given))) old new result
+    → Prints took (records_text k 0 (records_at_sync apply k (up_to_sync given) (since_sync given))) old new result
     → Prints took (text_at apply k given c) old new result
 prints_sync apply {took} {old} {new} {T} {result} k given c e no_queue is p =
     subst (λ (text : List ℕ). Prints took text old new result)
@@ -320,6 +322,7 @@ nothing_at apply kind.Map given (Interval low high) other = refl
 nothing_at apply kind.Map given (Stab point) other = refl
 nothing_at apply kind.Queue given c other = refl
 nothing_at apply kind.Stab given c other = refl
+nothing_at apply kind.Dump given c other = refl
 
 module _ (apply : Combiner) {IsState : List ℕ → Type 0} {took : List ℕ → List ℕ → List ℕ} (rule : IsRule IsState took)
     {old : List ℕ} (ok : IsState old) where

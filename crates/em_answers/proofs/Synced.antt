@@ -29,6 +29,7 @@ pub synced_none : (apply : Combiner) (k : FileKind) → synced_text apply k [] �
 synced_none apply kind.Map = refl
 synced_none apply kind.Queue = refl
 synced_none apply kind.Stab = refl
+synced_none apply kind.Dump = refl
 
 -- a command that is no sync prints nothing
 same_text : (apply : Combiner) (given : List Command) (c : Command) → synced_answers apply (given ++ c ∷ []) ≡ synced_answers apply given
@@ -52,6 +53,7 @@ synced_next apply kind.Map given (Interval l h) = same_text apply given (Interva
 synced_next apply kind.Map given (Stab p) = same_text apply given (Stab p) (synced_answers-same apply given (Stab p ∷ []) refl)
 synced_next apply kind.Queue given c = refl
 synced_next apply kind.Stab given c = refl
+synced_next apply kind.Dump given c = refl
 
 -- what later commands will print
 abbrev pub synced_rest : (apply : Combiner) → FileKind → (given rest : List Command) → List ℕ
@@ -71,15 +73,17 @@ synced_all apply k given (c ∷ cs) =
 pub syncs_given : (k : FileKind) (text left : List ℕ) (given rest : List Command)
     → good_commands k text ≡ given ++ rest → length given ≤ commands_taken k text left
     → syncs_for k given ≤ syncs_in k text left
-syncs_given kind.Map text left given rest good h = syncs_read text left given rest good h
+syncs_given kind.Map text left given rest good h = syncs_read kind.Map text left given rest good h
 syncs_given kind.Queue text left given rest good h = omega arith
 syncs_given kind.Stab text left given rest good h = omega arith
+syncs_given kind.Dump text left given rest good h = syncs_read kind.Dump text left given rest good h
 
 -- the syncs of commands that come one after another
 syncs_both : (k : FileKind) (xs ys : List Command) → syncs_for k (xs ++ ys) ≡ syncs_for k xs + syncs_for k ys
 syncs_both kind.Map xs ys = syncs-append xs ys
 syncs_both kind.Queue xs ys = refl
 syncs_both kind.Stab xs ys = refl
+syncs_both kind.Dump xs ys = syncs-append xs ys
 
 -- A service that was given these commands of a text counts them, and no more syncs than theirs:
 module _ (k : FileKind) (text left : List ℕ) (given : List Command) (n syncs : ℕ)

@@ -2,13 +2,14 @@
 use Rattle.std.specs.Prelude.{ℕ, List, [], ◌∷◌, ◌++◌, Option, Some, None, decimal, codes}
 use Rattle.std.specs.List.{flat_map}
 use Rattle.em_model.specs.Map.{Combiner, map_answers, map_answers_from, no_keys, state_after}
+use Rattle.em_model.specs.Pairs.{pairs_after}
 use Rattle.em_model.specs.Queue.{queue_answers}
 use Rattle.em_model.specs.Stab.{stab_answers}
 use Rattle.em_model.specs.Sync.{since_sync, synced_answers, up_to_sync}
 use Rattle.em_model.specs.declared.command.Command.{Command}
 use Rattle.em_model.specs.declared.command.Command.TheVariants.{Sync}
 use Rattle.em_lines.specs.declared.text.FileKind.{FileKind}
-use Rattle.em_lines.specs.declared.text.FileKind.TheVariants.{Map, Queue, Stab}
+use Rattle.em_lines.specs.declared.text.FileKind.TheVariants.{Map, Queue, Stab, Dump}
 
 -- an answer of a map in words: the value, or a dash
 abbrev pub answer_word : Option ℕ → List ℕ
@@ -23,10 +24,21 @@ answer_line answer = answer_word answer ++ 10 ∷ []
 abbrev pub map_text : List (Option ℕ) → List ℕ
 map_text answers = flat_map answer_line answers
 
--- an answer of a queue in words: the key and the value with a space between, or a dash
+-- a key and its value in words, with a space between
+abbrev pub pair_word : ℕ × ℕ → List ℕ
+pair_word p = decimal p.0 ++ 32 ∷ decimal p.1
+
+abbrev pub pair_line : ℕ × ℕ → List ℕ
+pair_line p = pair_word p ++ 10 ∷ []
+
+-- the lines of some pairs
+abbrev pub pairs_text : List (ℕ × ℕ) → List ℕ
+pairs_text pairs = flat_map pair_line pairs
+
+-- an answer of a queue in words: the key and the value, or a dash
 abbrev pub popped_word : Option (ℕ × ℕ) → List ℕ
 popped_word None = codes "-"
-popped_word (Some item) = decimal item.0 ++ 32 ∷ decimal item.1
+popped_word (Some item) = pair_word item
 
 abbrev pub popped_line : Option (ℕ × ℕ) → List ℕ
 popped_line answer = popped_word answer ++ 10 ∷ []
@@ -51,18 +63,20 @@ numbers_line numbers = numbers_word numbers ++ 10 ∷ []
 abbrev pub stab_text : List (List ℕ) → List ℕ
 stab_text answers = flat_map numbers_line answers
 
--- the text of the answers to some commands of a file of this kind
+-- the text of the answers to some commands of a file of this kind; of a dump that of the pairs that they leave
 abbrev pub text_for : Combiner → FileKind → List Command → List ℕ
 text_for apply Map commands = map_text (map_answers apply commands)
 text_for apply Queue commands = queue_text (queue_answers commands)
 text_for apply Stab commands = stab_text (stab_answers commands)
+text_for apply Dump commands = pairs_text (pairs_after apply commands)
 
 -- The text that was printed before the end of some commands of a file that is read into a service: of a map the answers
--- at its syncs, of an interval list nothing.
+-- at its syncs, of an interval list or a dump nothing.
 abbrev pub synced_text : Combiner → FileKind → List Command → List ℕ
 synced_text apply Map commands = map_text (synced_answers apply commands)
 synced_text apply Queue commands = []
 synced_text apply Stab commands = []
+synced_text apply Dump commands = []
 
 -- the text that one command more prints, after these: at a map's sync that of the answers to the gets since the last one
 abbrev pub text_at : Combiner → FileKind → List Command → Command → List ℕ

@@ -7,7 +7,7 @@ use Rattle.em_ends.specs.declared.status.Malform.TheVariants.{Text}
 use Rattle.em_ends.specs.declared.status.Status.{Status}
 use Rattle.em_ends.specs.declared.status.Status.TheVariants.{Done, Malformed}
 use Rattle.em_lines.specs.declared.text.FileKind.{FileKind}
-use Rattle.em_lines.specs.declared.text.FileKind.TheVariants.{Map, Queue, Stab}
+use Rattle.em_lines.specs.declared.text.FileKind.TheVariants.{Map, Queue, Stab, Dump}
 use Rattle.em_lines.specs.declared.text.TextKind.{TextKind}
 
 -- the status for the first fault of a text, or for none
@@ -25,10 +25,12 @@ text_unless None all before = all
 text_unless (Some fault) all before = before
 
 -- The text that is due on the output. A queue answers each pop at once, and so prints the answers before a faulty
--- line; a map answers at each sync and at the end; an interval list answers after the whole file.
+-- line; a map answers at each sync and at the end; an interval list answers after the whole file, and a dump prints then.
 abbrev pub output_text : Combiner → FileKind → List ℕ → List ℕ
 output_text apply Map text = text_unless (first_fault Map text) (text_for apply Map (good_commands Map text))
     (synced_text apply Map (good_commands Map text))
 output_text apply Queue text = text_for apply Queue (good_commands Queue text)
 output_text apply Stab text = text_unless (first_fault Stab text) (text_for apply Stab (good_commands Stab text))
     (synced_text apply Stab (good_commands Stab text))
+output_text apply Dump text = text_unless (first_fault Dump text) (text_for apply Dump (good_commands Dump text))
+    (synced_text apply Dump (good_commands Dump text))

@@ -1,5 +1,5 @@
 -- The run of a command file.
-use Rattle.std.specs.Prelude.{ℕ, Bool, List}
+use Rattle.std.specs.Prelude.{ℕ, Bool, false, true, List}
 use Rattle.em_record.specs.Shape.{ShapeNumbers}
 use Rattle.em_io.specs.declared.shelf.Shelf.{Ghosts as ShelfGhosts}
 use Rattle.em_io.specs.declared.shelf.Slot.TheVariants.{First}
@@ -8,6 +8,7 @@ use Rattle.em_model.specs.Map.{Combiner}
 use Rattle.em_space.specs.Rig.{RigState}
 use Rattle.em_ends.specs.declared.status.Status.{Status}
 use Rattle.em_lines.specs.declared.text.FileKind.{FileKind}
+use Rattle.em_lines.specs.declared.text.FileKind.TheVariants.{Map, Dump}
 use Rattle.em_answers.specs.Limits.{Limits, asked_by, by_cost, moves_size}
 use Rattle.em_answers.specs.Reading.{KeepsRoom}
 use Rattle.em_ends.specs.Opens.{IsAllRead, ReadsFirst}
@@ -33,9 +34,14 @@ pub record RunsWithin {H W : Type 0} (apply : Combiner) (size : ShapeNumbers →
   pub no_usage : OnUsage status ⊥
   pub no_memory : OnNoMemory status ⊥
 
--- such a run that is held to the transfer cost, by what joining the adds of a map early would leave or by all commands, and to
--- the room
+-- the kind of a file of a map's commands: its answers are printed, or its pairs
+abbrev pub map_kind : (dumps : Bool) → FileKind
+map_kind false = Map
+map_kind true = Dump
+
+-- such a run that is held to the transfer cost for its kind, by what joining the adds of a map early would leave or by all
+-- commands, and to the room
 abbrev pub Runs : {H W : Type 0} → Combiner → (early : Bool) → ShelfGhosts H → SinkGhosts W → FileKind → RigState → RigState
     → H → W → H → W → Status → Type 0
 Runs apply early h w kind s t shelf out shelf_after out_after status =
-    RunsWithin apply (moves_size kind early) h w by_cost kind s t shelf out shelf_after out_after status
+    RunsWithin apply (moves_size kind early) h w (by_cost kind) kind s t shelf out shelf_after out_after status

@@ -11,7 +11,7 @@ use Rattle.em_answers.specs.FileDue.{due_status, output_text}
 use Rattle.em_lines.specs.CommandLine.{good_commands}
 use Rattle.em_lines.specs.RunSize.{commands_taken, run_size, syncs_taken}
 use Rattle.em_lines.specs.declared.text.FileKind.{FileKind}
-use Rattle.em_lines.specs.declared.text.FileKind.TheVariants.{Map, Queue, Stab}
+use Rattle.em_lines.specs.declared.text.FileKind.TheVariants.{Map, Queue, Stab, Dump}
 use Rattle.em_ends.specs.Asked.{Asked}
 use Rattle.em_services.specs.BatchService.{map_size}
 
@@ -22,9 +22,17 @@ pub record Limits : Type 0 where
   pub moves : Option (ShapeNumbers → ℕ → ℕ)
   pub room : Option (ShapeNumbers → ℕ → ℕ)
 
--- those of a structure whose moves are within the transfer cost, and its blocks within the room
-abbrev pub by_cost : Limits
-by_cost = record { moves = Some cost; room = Some room }
+-- the most moves of a run by its size, as often as syncs were taken and once more: the transfer cost, and for a dump, whose pairs
+-- are taken out of a tree and listed, twice that
+abbrev pub cost_for : FileKind → ShapeNumbers → ℕ → ℕ
+cost_for Map shape n = cost shape n
+cost_for Queue shape n = cost shape n
+cost_for Stab shape n = cost shape n
+cost_for Dump shape n = 2 * cost shape n
+
+-- those of a structure for such a file, whose moves are within that, and its blocks within the room
+abbrev pub by_cost : FileKind → Limits
+by_cost kind = record { moves = Some (cost_for kind); room = Some room }
 
 -- a number by size as one by how far each slot was read
 abbrev pub sized : Option (ShapeNumbers → ℕ → ℕ) → ((Slot → SlotState) → ℕ)
@@ -32,11 +40,12 @@ abbrev pub sized : Option (ShapeNumbers → ℕ → ℕ) → ((Slot → SlotStat
 sized None size = None
 sized (Some f) size = Some (λ shape slots. f shape (size slots))
 
--- how many syncs were taken of a text of this kind, where this much of it is left: only a map's file has any
+-- how many syncs were taken of a text of this kind, where this much of it is left: only a text of a map's commands has any
 abbrev pub syncs_in : FileKind → (text left : List ℕ) → ℕ
-syncs_in Map text left = syncs_taken text left
+syncs_in Map text left = syncs_taken Map text left
 syncs_in Queue text left = 0
 syncs_in Stab text left = 0
+syncs_in Dump text left = syncs_taken Dump text left
 
 -- the commands that were taken of a text, where this much of it is left
 abbrev pub taken_commands : FileKind → (text left : List ℕ) → List Command
@@ -47,11 +56,12 @@ abbrev pub taken_size : (ShapeNumbers → List Command → ℕ) → FileKind →
 taken_size size kind shape text left = size shape (taken_commands kind text left)
 
 -- The size by which the moves of a file's run go, by how far its text was read: of a map that of the commands that were
--- taken, by whether adds are joined early; else the size of the run.
+-- taken, by whether adds are joined early; else the size of the run. A dump never joins adds early.
 abbrev pub moves_size : FileKind → (early : Bool) → ShapeNumbers → (text left : List ℕ) → ℕ
 moves_size Map early shape text left = taken_size (map_size early) Map shape text left
 moves_size Queue early shape text left = run_size Queue text left
 moves_size Stab early shape text left = run_size Stab text left
+moves_size Dump early shape text left = run_size Dump text left
 
 -- a number by a size that has the shape as one by how far each slot was read: as often as syncs were taken, and once more
 abbrev pub for_each : Option (ShapeNumbers → ℕ → ℕ) → (syncs : (Slot → SlotState) → ℕ)
@@ -70,9 +80,9 @@ asked_by apply size limits kind text = record {
   room = sized limits.room (λ slots. run_size kind text (slots First).left);
 }
 
--- what a command file asks whose adds are joined so, early or not: its run is held to the transfer cost and the room
+-- what a command file asks whose adds are joined so, early or not: its run is held to the transfer cost for its kind, and the room
 abbrev pub asked_of_file : Combiner → (early : Bool) → FileKind → List ℕ → Asked
-asked_of_file apply early kind text = asked_by apply (moves_size kind early) by_cost kind text
+asked_of_file apply early kind text = asked_by apply (moves_size kind early) (by_cost kind) kind text
 
 -- What the run of a queue is held to by itself: the room that it states, if it does. Of its moves its
 -- allowance tells.

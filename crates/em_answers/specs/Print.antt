@@ -6,10 +6,10 @@ use Rattle.em_io.specs.declared.sink.Sink.{Ghosts as SinkGhosts}
 use Rattle.em_space.specs.Rig.{RigState, Goes, Sound, BlockCause}
 use Rattle.em_chain.specs.Reader.{IsReader, ReaderHasFrame, owed, reader_items}
 use Rattle.em_chain.specs.declared.reader.Reader.{Reader}
-use Rattle.em_answers.specs.Answer.{map_text, stab_text}
+use Rattle.em_answers.specs.Answer.{map_text, pairs_text, stab_text}
 use Rattle.em_ends.specs.declared.stop.Stop.{Stop}
 use Rattle.em_lines.specs.declared.text.FileKind.{FileKind}
-use Rattle.em_lines.specs.declared.text.FileKind.TheVariants.{Map, Queue, Stab}
+use Rattle.em_lines.specs.declared.text.FileKind.TheVariants.{Map, Queue, Stab, Dump}
 use Rattle.em_record.specs.Count.{Rose}
 use Rattle.em_ends.specs.declared.stop.Stop.TheVariants.{Fault, Read, Write, Em}
 use Rattle.em_ends.specs.Stop.{UnlessWrite}
@@ -38,11 +38,16 @@ groups_from stab zero items = []
 groups_from stab (suc n) items =
     intervals_at stab items ∷ groups_from (stab + 1) n (pairs_behind stab items)
 
+-- the key and the value of each pair's record
+abbrev pub pairs_in : List Record → List (ℕ × ℕ)
+pairs_in items = map (λ r. (r.a, r.d)) items
+
 -- the text of the records of answers of a file of this kind, and of this many stabs
 abbrev pub records_text : FileKind → ℕ → List Record → List ℕ
 records_text Map stabs items = map_text (answers_in items)
 records_text Queue stabs items = []
 records_text Stab stabs items = stab_text (groups_from 0 stabs items)
+records_text Dump stabs items = pairs_text (pairs_in items)
 
 -- the answer to a pop: the key and the value of the record that was popped
 abbrev pub popped_in : Option Record → Option (ℕ × ℕ)

@@ -6,7 +6,7 @@ ghost use Rattle.em_space.specs.Seen.{seen};
 ghost use Rattle.em_answers.specs.Serve.{GivesUp, WithinCalls, IsAlone};
 ghost use Rattle.em_answers.specs.Limits.{queue_limits, taken_size};
 ghost use Rattle.em_ready.specs.Ready.{IsReady, IsUnused};
-ghost use Rattle.em_answers.specs.FileRun.{Runs, RunsWithin};
+ghost use Rattle.em_answers.specs.FileRun.{Runs, RunsWithin, map_kind};
 ghost use Rattle.em_lines.specs.RunSize.{commands_taken, run_size};
 ghost use Rattle.em_answers.specs.Reading.{service_limits};
 ghost use Rattle.em_model.specs.Map.{Combiner};
@@ -21,7 +21,7 @@ use em_lines::FileKind;
 use em_map::Batch;
 use em_pqueue::ExtQueue;
 use em_segment::Stab;
-use em_services::{MapRule, Service};
+use em_services::{Dump, MapRule, Service};
 use em_settle::{AddSettle, Combine, Settle};
 use em_space::{Queue, Rig};
 
@@ -83,9 +83,11 @@ pub fn run_queue<D: Device, H: Shelf, W: Sink, Q: Queue>(
     }
 }
 
-/// Answers the commands of a map file in the open slot, whose adds are joined by these rules, early or not.
+/// Answers the commands of a map file in the open slot, whose adds are joined by these rules, early or not; or prints the pairs
+/// that they leave, where it is a dump's file.
 fn run_map<D: Device, H: Shelf, W: Sink, F: Fn(u64, u64) -> u64 + Drop>(
     settle: AddSettle<F>,
+    dumps: bool,
     early: bool,
     rig: &mut Rig<'_, D>,
     shelf: &mut H,
@@ -97,16 +99,21 @@ fn run_map<D: Device, H: Shelf, W: Sink, F: Fn(u64, u64) -> u64 + Drop>(
     requires none_moved { (seen D.state rig.old).moves ≡ 0 }
     requires ready { ((H.stand shelf.old).slot Slot.First).ready ≡ true }
     ensures goes { Goes [] (seen D.state rig.old) (seen D.state rig.new) }
-    ensures runs { Runs (apply_of settle.kind) early H.Shelf W.Sink FileKind.Map
+    ensures runs { Runs (apply_of settle.kind) early H.Shelf W.Sink (map_kind dumps)
         (seen D.state rig.old) (seen D.state rig.new)
         shelf.old out.old shelf.new out.new result }
 {
-    run_service::<D, H, W, Batch<F>>(MapRule { settle, early }, rig, shelf, out)
+    if dumps {
+        run_service::<D, H, W, Dump<F>>(settle, rig, shelf, out)
+    } else {
+        run_service::<D, H, W, Batch<F>>(MapRule { settle, early }, rig, shelf, out)
+    }
 }
 
 /// The same by the closure of this combiner.
 fn run_combined<D: Device, H: Shelf, W: Sink>(
     combine: Combine,
+    dumps: bool,
     early: bool,
     rig: &mut Rig<'_, D>,
     shelf: &mut H,
@@ -117,33 +124,33 @@ fn run_combined<D: Device, H: Shelf, W: Sink>(
     requires none_moved { (seen D.state rig.old).moves ≡ 0 }
     requires ready { ((H.stand shelf.old).slot Slot.First).ready ≡ true }
     ensures goes { Goes [] (seen D.state rig.old) (seen D.state rig.new) }
-    ensures runs { Runs (apply_of combine) early H.Shelf W.Sink FileKind.Map
+    ensures runs { Runs (apply_of combine) early H.Shelf W.Sink (map_kind dumps)
         (seen D.state rig.old) (seen D.state rig.new)
         shelf.old out.old shelf.new out.new result }
 {
     match combine {
         Combine::Sum => {
             let sum = AddSettle::new(|x: u64, y: u64| x.wrapping_add(y), Combine::Sum);
-            run_map(sum, early, rig, shelf, out)
+            run_map(sum, dumps, early, rig, shelf, out)
         }
         Combine::Max => {
             let greatest = AddSettle::new(|x: u64, y: u64| x.max(y), Combine::Max);
-            run_map(greatest, early, rig, shelf, out)
+            run_map(greatest, dumps, early, rig, shelf, out)
         }
         Combine::Min => {
             let least = AddSettle::new(|x: u64, y: u64| x.min(y), Combine::Min);
-            run_map(least, early, rig, shelf, out)
+            run_map(least, dumps, early, rig, shelf, out)
         }
         Combine::Xor => {
             let exclusive = AddSettle::new(|x: u64, y: u64| x ^ y, Combine::Xor);
-            run_map(exclusive, early, rig, shelf, out)
+            run_map(exclusive, dumps, early, rig, shelf, out)
         }
     }
 }
 
-/// Answers the commands of the open slot, on a rig of which no block is or was in use. The adds of a map file are joined
-/// by this combiner. With `early` the moves are held to what joining each run of adds leaves of the commands; the answers are
-/// the same.
+/// Answers the commands of the open slot, on a rig of which no block is or was in use. The adds of a map or dump file are
+/// joined by this combiner. With `early` the moves of a map are held to what joining each run of adds leaves of the commands;
+/// the answers are the same. A dump joins no adds early, and its moves are held to all commands.
 #[tactic(auto, using(crate::proofs::Moves::queue_alone, crate::proofs::Moves::queue_serves))]
 pub fn run_open<D: Device, H: Shelf, W: Sink>(
     kind: FileKind,
@@ -162,11 +169,12 @@ pub fn run_open<D: Device, H: Shelf, W: Sink>(
         (seen D.state rig.old) (seen D.state rig.new) shelf.old out.old shelf.new out.new result }
 {
     match kind {
-        FileKind::Map => run_combined(combine, early, rig, shelf, out),
+        FileKind::Map => run_combined(combine, false, early, rig, shelf, out),
         FileKind::Queue => match ExtQueue::new(rig) {
             Ok(queue) => run_queue(rig, queue, shelf, out),
             Err(fault) => status_of(Stop::Em(fault)),
         },
         FileKind::Stab => run_service::<D, H, W, Stab>((), rig, shelf, out),
+        FileKind::Dump => run_combined(combine, true, early, rig, shelf, out),
     }
 }

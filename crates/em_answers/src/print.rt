@@ -1,6 +1,7 @@
 //! Answers that are printed, one line for each:
 //!
 //!     map, stab   records -> lines -> a printer's buffer -> the output, in pieces of 4096 bytes, at a sync and at the end
+//!     dump        the same of the records of its pairs, at the end
 //!     queue       a pop -> its line -> a printer's buffer -> the output, before more of the input is read
 //!
 //! Kept here: at each exit of `print_answers` what was printed before was sent, unless the output failed (at a
@@ -13,8 +14,8 @@ ghost use Rattle.em_space.specs.Rig.{Sound};
 ghost use Rattle.em_space.specs.Seen.{seen};
 ghost use Rattle.em_chain.specs.Chain.{IsChain, chain_items};
 ghost use Rattle.em_chain.specs.Reader.{owed, reader_items};
-ghost use Rattle.em_answers.specs.Answer.{answer_line, further_words, map_text, numbers_line, popped_line, stab_text};
-ghost use Rattle.em_answers.specs.Print.{IsBehind, KeepsBlocks, Looks, PrintStops, PrintsInto, ReadsOn, ReadsWithin, answer_in, answers_in, groups_from, intervals_at, popped_in, records_text};
+ghost use Rattle.em_answers.specs.Answer.{answer_line, further_words, map_text, numbers_line, pair_line, pairs_text, popped_line, stab_text};
+ghost use Rattle.em_answers.specs.Print.{IsBehind, KeepsBlocks, Looks, PrintStops, PrintsInto, ReadsOn, ReadsWithin, answer_in, answers_in, groups_from, intervals_at, pairs_in, popped_in, records_text};
 ghost use Rattle.em_ends.specs.Stop.{Prints};
 
 use em_chain::{Chain, Reader};
@@ -179,7 +180,30 @@ fn add_further<D: Device, W: Sink>(
     }
 }
 
-/// Prints the lines of a map or stab file, by the records of its answers that a reader has left.
+/// Prints one line for each record of a pair that a reader has left: its key and its value.
+fn print_pairs<D: Device, W: Sink>(
+    rig: &mut Rig<'_, D>,
+    reader: &mut Reader,
+    printer: &mut Printer,
+    out: &mut W,
+) -> Result<(), Stop>
+    requires looks { Looks (seen D.state rig.old) reader.old }
+    ensures reads { ReadsOn (seen D.state rig.old) (seen D.state rig.new) reader.new }
+    ensures prints { IsTrue (seen D.state rig.old).device.told → PrintsInto W.took (printer.old
+        ++ pairs_text (pairs_in (reader_items (seen D.state rig.old) reader.old)))
+        (W.state out.old) (W.state out.new) printer.new result }
+    ensures stops { PrintStops W.Sink out.old out.new
+        (seen D.state rig.old) (seen D.state rig.new) result }
+    ensures moves { (seen D.state rig.new).moves
+        ≤ (seen D.state rig.old).moves + owed reader.old }
+{
+    while let Some(item) = reader.next(rig)? {
+        add_pair_line(printer, out, item.a, item.d)?;
+    }
+    Ok(())
+}
+
+/// Prints the lines of a file that isn't a queue's, by the records of its answers or pairs that a reader has left.
 fn print_records<D: Device, W: Sink>(
     kind: FileKind,
     rig: &mut Rig<'_, D>,
@@ -203,10 +227,11 @@ fn print_records<D: Device, W: Sink>(
         FileKind::Map => print_map(rig, reader, printer, out),
         FileKind::Queue => Ok(()),
         FileKind::Stab => print_stabs(rig, reader, stabs, printer, out),
+        FileKind::Dump => print_pairs(rig, reader, printer, out),
     }
 }
 
-/// Prints the answers of a map or stab file, or of a part of it. All lines leave here, in pieces; what is due before a
+/// Prints the answers of a map or stab file, or of a part of it, or the pairs of a dump. All lines leave here, in pieces; what is due before a
 /// stop of the rig is sent then.
 pub fn print_answers<D: Device, W: Sink>(
     kind: FileKind,
@@ -252,6 +277,23 @@ pub fn add_pair<W: Sink>(
     printer.add_number(out, value)
 }
 
+/// Adds the line of a pair.
+fn add_pair_line<W: Sink>(
+    printer: &mut Printer,
+    out: &mut W,
+    key: u64,
+    value: u64,
+) -> Result<(), Failed>
+    ensures sent { OnOk result (Sent W.took (W.state out.old)
+        (printer.old ++ pair_line (key, value)) (W.state out.new) printer.new) }
+    ensures part { SentPart W.took (W.state out.old)
+        (printer.old ++ pair_line (key, value)) (W.state out.new) }
+    ensures cause { HasCause (W.faults out.old) (W.faults out.new) result }
+{
+    add_pair(printer, out, key, value)?;
+    printer.add(out, b"\n")
+}
+
 /// Adds the line of an answer of a queue.
 pub fn add_popped<W: Sink>(
     printer: &mut Printer,
@@ -265,10 +307,7 @@ pub fn add_popped<W: Sink>(
     ensures cause { HasCause (W.faults out.old) (W.faults out.new) result }
 {
     match item {
-        Some(item) => {
-            add_pair(printer, out, item.a, item.c)?;
-            printer.add(out, b"\n")
-        }
+        Some(item) => add_pair_line(printer, out, item.a, item.c),
         None => printer.add(out, b"-\n"),
     }
 }

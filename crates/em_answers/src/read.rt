@@ -1,5 +1,5 @@
-// A map or stab file is given to a service command by command. At a sync the answers that are due are printed, and at the
-// end of the file the others.
+// A map, stab or dump file is given to a service command by command. At a sync the answers that are due are printed, and at
+// the end of the file the others, or the pairs that are left.
 ghost use Rattle.std.specs.Prelude.{◌≡◌, ◌+◌, ◌*◌, ◌++◌, ◌∷◌, ◌<◌, ◌≤◌, ◌^◌, true, [], List, length, IfErr, IfOk, IsTrue, OnOk};
 ghost use Rattle.em_io.specs.Feed.{rest};
 ghost use Rattle.em_model.specs.Stab.{stab_answers, stab_answer_of};
@@ -24,7 +24,7 @@ ghost use Rattle.em_answers.specs.Reading.{FullAtSync, KeepsAllowance, KeepsRoom
 ghost use Rattle.em_answers.specs.Serve.{Answers as AnswersAll};
 ghost use Rattle.em_ends.specs.Stop.{IfStopsFull, Prints};
 ghost use Rattle.em_map.specs.Areas.{KeepsAreas};
-ghost use Rattle.em_services.specs.Service.{CanSync, TakesCommand, WithinAllowance, WithinRoom, records_for, syncs_for};
+ghost use Rattle.em_services.specs.Service.{CanSync, TakesCommand, WithinAllowance, WithinRoom, records_at_sync, records_for, syncs_for};
 
 use crate::print::{Answers, print_answers};
 use em_chain::discard;
@@ -82,7 +82,7 @@ fn answer_sync<D: Device, W: Sink, S: Service>(
         (seen D.state rig.old) (seen D.state rig.new) }
     ensures prints { IsTrue (seen D.state rig.old).device.told → (before cs : List commands.Command)
         → S.Has service.old (seen D.state rig.old) before cs
-        → Prints W.took (records_text S.KIND 0 (records_for (S.combiner service.old) S.KIND before cs))
+        → Prints W.took (records_text S.KIND 0 (records_at_sync (S.combiner service.old) S.KIND before cs))
         (W.state out.old) (W.state out.new) result }
     ensures later { W.faults out.old ≤ W.faults out.new }
     ensures full { IfErr result (λ stop. IfStopsFull stop (FullAtSync S.room

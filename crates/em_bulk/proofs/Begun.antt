@@ -14,6 +14,7 @@ use Rattle.em_chain.specs.Writer.{WriterStays, writer_blocks, writer_items}
 use Rattle.em_chain.specs.Writes.{Begins}
 use Rattle.em_chain.specs.declared.writer.Writer.{Writer}
 use Rattle.em_chain.proofs.Writings.{writer_lent}
+use Rattle.em_tree.proofs.Adopted.{unmoved_then}
 use Rattle.em_tree_trim.specs.Leaves.{LeadToLeaves, leaf_blocks}
 use Rattle.em_tree_trim.specs.Rows.{EachFrom, EachUpTo, LeadUpTo, first_low, parts_at, records_in, rows_in}
 use Rattle.em_tree_raise.specs.Listing.{listed}
@@ -23,19 +24,6 @@ use Rattle.em_bulk.specs.Pairs.{IsRun, key_record, lot_of}
 use Rattle.em_bulk.specs.declared.builder.Builder.{Builder}
 use Rattle.em_bulk.specs.declared.keeping.Leaves.{Leaves}
 use Rattle.em_bulk.proofs.Keys.{run_none}
-
--- nothing was moved by two calls
-unmoved_then : {s a t : RigState} → Unmoved s a → Unmoved a t → Unmoved s t
-unmoved_then x y = record {
-  device = y.device ∙ x.device;
-  spare = y.spare ∙ x.spare;
-  same = record {
-    head = y.same.head ∙ x.same.head;
-    used = y.same.used ∙ x.same.used;
-    most = y.same.most ∙ x.same.most;
-  };
-  moves = y.moves ∙ x.moves;
-}
 
 -- Both frames came back.
 pub leaves_builder : {s a t : RigState} → GivesFrame [] s a → Unmoved s a → GivesFrame [] a t → Unmoved a t

@@ -3,6 +3,14 @@ pub mod AllListed
 pub mod Begun
 pub mod Calls
 pub mod Closed
+pub mod DrainBegun
+pub mod DrainEnds
+pub mod DrainFresh
+pub mod DrainNexts
+pub mod DrainNumbers
+pub mod DrainRefills
+pub mod DrainRests
+pub mod DrainStays
 pub mod HeldNext
 pub mod Kept
 pub mod Keys

@@ -12,7 +12,7 @@ use Rattle.em_lines.specs.declared.text.LineStop.{LineStop}
 use Rattle.em_lines.specs.Stops.{Gives}
 use Rattle.em_lines.specs.Lines.{lines_of, parts_of}
 use Rattle.em_lines.specs.Stream.{line_at, after_line, word_at, after_word, parts_left}
-use Rattle.em_lines.specs.CommandLine.{command_of, command_of_parts, table_command_of}
+use Rattle.em_lines.specs.CommandLine.{command_of, command_of_parts, map_command_of, table_command_of}
 
 parts_step : (b : ℕ) (bs : List ℕ) (space newline : Bool) → (b == 32) ≡ space
     → (b == 10) ≡ newline
@@ -75,10 +75,8 @@ other_text : (w t : List ℕ) → length t ≤ 5 → 5 < length w → bytes_eq w
 other_text w t short long = false_from_ne_true _ (λ e.
     let same : w ≡ t = (bytes_eq-Decides w t).0 e in absurd (omega (arith, ap length same)))
 
--- a word longer than any of a table is of none
-pub table_command_of-long : (k : FileKind) (w : List ℕ) (ps : List (List ℕ)) → 5 < length w
-    → table_command_of k w ps ≡ Err Unknown
-table_command_of-long kind.Map w ps long =
+map_command_of-long : (w : List ℕ) (ps : List (List ℕ)) → 5 < length w → map_command_of w ps ≡ Err Unknown
+map_command_of-long w ps long =
     rw (
       other_text w (codes "put") (lit≤ tt) long,
       other_text w (codes "del") (lit≤ tt) long,
@@ -86,6 +84,12 @@ table_command_of-long kind.Map w ps long =
       other_text w (codes "sync") (lit≤ tt) long,
       other_text w (codes "add") (lit≤ tt) long,
     ) refl
+
+-- a word longer than any of a table is of none
+pub table_command_of-long : (k : FileKind) (w : List ℕ) (ps : List (List ℕ)) → 5 < length w
+    → table_command_of k w ps ≡ Err Unknown
+table_command_of-long kind.Map w ps long = map_command_of-long w ps long
+table_command_of-long kind.Dump w ps long = map_command_of-long w ps long
 table_command_of-long kind.Queue w ps long =
     rw (other_text w (codes "push") (lit≤ tt) long, other_text w (codes "pop") (lit≤ tt) long) refl
 table_command_of-long kind.Stab w ps long =

@@ -1,6 +1,6 @@
 -- Reading a text line by line: what a line adds, and how the lines read are counted.
 use Rattle.std.proofs.Common.{◌≡◌, ℕ, zero, suc, ◌+◌, ◌-◌, ◌<◌, ◌≤◌, ◌^◌, Bool, IsTrue, true, false, cond, List, [], ◌∷◌, ◌++◌, length, Ok, refl, sym, subst, ap, ◌∙◌, arith, append_assoc, zero-add, ⊎_elim, inl, inr, ◌⊎◌}
-use Rattle.std.specs.Prelude.{Some, ◌==◌, take}
+use Rattle.std.specs.Prelude.{Some, ◌==◌, min, take}
 use Rattle.std.proofs.Math.Seq.{take-append_seam}
 use Rattle.std.specs.List.{count_by, onto_first}
 use Rattle.std.proofs.lemmas.List.{length-append, length-take}
@@ -14,13 +14,13 @@ use Rattle.em_model.specs.Sync.{syncs_of}
 use Rattle.em_model.specs.declared.command.Command.{Command}
 use Rattle.em_model.proofs.SyncLaws.{syncs-take, syncs_few}
 use Rattle.em_lines.specs.declared.text.FileKind.{FileKind}
-use Rattle.em_lines.specs.declared.text.FileKind.TheVariants.{Map}
+use Rattle.em_lines.specs.declared.text.FileKind.TheVariants.{Map, Dump}
 use Rattle.em_lines.specs.declared.text.TextKind.TheVariants.{TooLong}
 use Rattle.em_lines.specs.declared.text.LineStop.{LineStop}
 use Rattle.em_lines.specs.declared.text.LineStop.TheVariants as stop
-use Rattle.em_lines.specs.Lines.{lines_of}
+use Rattle.em_lines.specs.Lines.{lines_of, parts_of}
 use Rattle.em_lines.specs.Stream.{line_at, after_line}
-use Rattle.em_lines.specs.CommandLine.{command_of, numbered, before_parsed, parsed_from, Parsed, good_commands}
+use Rattle.em_lines.specs.CommandLine.{command_of, command_of_parts, numbered, before_parsed, parsed_from, Parsed, first_fault, good_commands}
 use Rattle.em_lines.specs.Stops.{StopsBy, IfFault}
 use Rattle.em_lines.specs.LineTaken.{LineTaken}
 use Rattle.em_lines.specs.Reads.{Reads}
@@ -306,18 +306,51 @@ pub counted_read : {tells : Bool} (k : FileKind) {text : List ℕ} {f g h : Fed}
 counted_read k {text} {f} {g} {h} {a} {b} {c} {count} p q told counted =
     counted_left k text (rest g b) h c f.slot count counted (q.slot ∙ p.slot) (q.shorter told)
 
--- The syncs among the commands of a map that were read are among those of the run,
-pub syncs_read : (text left : List ℕ) (cs rest : List Command) → good_commands Map text ≡ cs ++ rest
-    → length cs ≤ commands_taken Map text left → syncs_of cs ≤ syncs_taken text left
-syncs_read text left cs rest good h =
-    let front : take (length cs) (good_commands Map text) ≡ cs =
+-- The syncs among the commands that were read are among those of the run,
+pub syncs_read : (k : FileKind) (text left : List ℕ) (cs rest : List Command) → good_commands k text ≡ cs ++ rest
+    → length cs ≤ commands_taken k text left → syncs_of cs ≤ syncs_taken k text left
+syncs_read k text left cs rest good h =
+    let front : take (length cs) (good_commands k text) ≡ cs =
     ap (take (length cs)) good ∙ take-append_seam cs rest in
-    let more = syncs-take (length cs) (commands_taken Map text left) (good_commands Map text) h in
+    let more = syncs-take (length cs) (commands_taken k text left) (good_commands k text) h in
     omega (arith, more, ap syncs_of front)
 
 -- and are no more than its commands.
-pub syncs_taken_few : (text left : List ℕ) → syncs_taken text left ≤ commands_taken Map text left
-syncs_taken_few text left =
-    let good = good_commands Map text in
-    let few = syncs_few (take (commands_taken Map text left) good) in
-    omega (arith, few, length-take (commands_taken Map text left) good)
+pub syncs_taken_few : (k : FileKind) (text left : List ℕ) → syncs_taken k text left ≤ commands_taken k text left
+syncs_taken_few k text left =
+    let good = good_commands k text in
+    let few = syncs_few (take (commands_taken k text left) good) in
+    omega (arith, few, length-take (commands_taken k text left) good)
+
+-- A dump's file spells what it spells as a map's.
+
+dump_parts : (parts : List (List ℕ)) → command_of_parts Dump parts ≡ command_of_parts Map parts
+dump_parts [] = refl
+dump_parts (word ∷ parts) = refl
+
+dump_line : (line : List ℕ) → command_of Dump line ≡ command_of Map line
+dump_line [] = refl
+dump_line (byte ∷ bytes) = dump_parts (parts_of (byte ∷ bytes))
+
+dump_lines : (number : ℕ) (lines : List (List ℕ)) → parsed_from Dump number lines ≡ parsed_from Map number lines
+dump_lines number [] = refl
+dump_lines number (line ∷ lines) =
+    rw (dump_line line, dump_lines (number + 1) lines) refl
+
+-- The same commands come before the same fault, and what was taken of them is the same.
+pub dump_reads_as_map : (text : List ℕ) → (good_commands Dump text ≡ good_commands Map text)
+    × (first_fault Dump text ≡ first_fault Map text)
+dump_reads_as_map text = (
+  ap (λ (p : Parsed). p.good) (dump_lines 1 (lines_of text)),
+  ap (λ (p : Parsed). p.fault) (dump_lines 1 (lines_of text)),
+)
+
+pub dump_taken : (text left : List ℕ) → commands_taken Dump text left ≡ commands_taken Map text left
+dump_taken text left =
+    ap (λ (cs : List Command). min (lines_given (length text - length left) text) (length cs))
+    (dump_reads_as_map text).0
+
+pub dump_syncs : (text left : List ℕ) → syncs_taken Dump text left ≡ syncs_taken Map text left
+dump_syncs text left =
+    ap (λ n. syncs_of (take n (good_commands Dump text))) (dump_taken text left)
+    ∙ ap (λ cs. syncs_of (take (commands_taken Map text left) cs)) (dump_reads_as_map text).0

@@ -1,7 +1,7 @@
 -- Worked texts: what the definitions of command files say of them.
 use Rattle.std.specs.Prelude.{◌≡◌, [], ◌∷◌, codes, drop, map, refl, Some, None, Ok, Err}
 use Rattle.em_model.specs.declared.command.Command.TheVariants as command
-use Rattle.em_lines.specs.declared.text.FileKind.TheVariants.{Map, Queue, Stab}
+use Rattle.em_lines.specs.declared.text.FileKind.TheVariants.{Map, Queue, Stab, Dump}
 use Rattle.em_lines.specs.declared.text.TextKind.TheVariants.{BadNumber, TooLarge, BadSeparator, Unknown, EmptyLine, LowAboveHigh, TooLong}
 use Rattle.em_lines.specs.Lines.{lines_of, parts_of}
 use Rattle.em_lines.specs.CommandLine.{command_of, numbered, first_fault, good_commands}
@@ -88,6 +88,14 @@ the_commands_of_a_stab_text :
     ≡ command.Stab 5 ∷ command.Interval 5 5 ∷ command.Interval 7 18446744073709551615 ∷ []
 the_commands_of_a_stab_text = refl
 
+the_commands_of_a_dump :
+    good_commands Dump (codes "put 3 1\nadd 1 2\nsync\nget 3\ndel 3\npush 1 2\n")
+    ≡ command.Put 3 1 ∷ command.Add 1 2 ∷ command.Sync ∷ command.Get 3 ∷ command.Del 3 ∷ []
+the_commands_of_a_dump = refl
+
+a_word_of_a_queue_in_a_dump : first_fault Dump (codes "put 3 1\npush 1 2\n") ≡ Some (Unknown, 2)
+a_word_of_a_queue_in_a_dump = refl
+
 no_command_of_the_empty_text : good_commands Map [] ≡ []
 no_command_of_the_empty_text = refl
 
@@ -119,7 +127,7 @@ none_of_the_empty_text = refl
 
 -- Syncs of a text whose front was taken.
 
-syncs_of_a_front : map (λ k. syncs_taken (codes "sync\nget 1\nsync\n") (drop k (codes "sync\nget 1\nsync\n")))
+syncs_of_a_front : map (λ k. syncs_taken Map (codes "sync\nget 1\nsync\n") (drop k (codes "sync\nget 1\nsync\n")))
     (0 ∷ 4 ∷ 5 ∷ 11 ∷ 15 ∷ 16 ∷ []) ≡ 0 ∷ 0 ∷ 1 ∷ 1 ∷ 1 ∷ 2 ∷ []
 syncs_of_a_front = refl
 

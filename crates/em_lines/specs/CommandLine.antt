@@ -83,11 +83,12 @@ stab_command_of word parts =
     else (if bytes_eq word (codes "stab") then with_operand command.Stab parts
     else Err Unknown)
 
--- the command of a word and the parts after it, by the file's table of words
+-- the command of a word and the parts after it, by the file's table of words; a dump has that of a map
 abbrev pub table_command_of : FileKind → List ℕ → List (List ℕ) → Result Command TextKind
 table_command_of kind.Map word parts = map_command_of word parts
 table_command_of kind.Queue word parts = queue_command_of word parts
 table_command_of kind.Stab word parts = stab_command_of word parts
+table_command_of kind.Dump word parts = map_command_of word parts
 
 -- the command of a line's parts, of which the first is the word
 abbrev pub command_of_parts : FileKind → List (List ℕ) → Result Command TextKind

@@ -5,7 +5,7 @@ use Rattle.em_model.specs.Stab.{stab_answers}
 use Rattle.em_model.specs.Sync.{syncs_of}
 use Rattle.em_model.specs.declared.command.Command.{Command}
 use Rattle.em_lines.specs.declared.text.FileKind.{FileKind}
-use Rattle.em_lines.specs.declared.text.FileKind.TheVariants.{Map, Queue, Stab}
+use Rattle.em_lines.specs.declared.text.FileKind.TheVariants.{Map, Queue, Stab, Dump}
 use Rattle.em_lines.specs.Lines.{lines_of}
 use Rattle.em_lines.specs.CommandLine.{good_commands}
 
@@ -22,9 +22,9 @@ abbrev pub commands_taken : FileKind → List ℕ → List ℕ → ℕ
 commands_taken kind text left =
     min (lines_given (length text - length left) text) (length (good_commands kind text))
 
--- how many syncs were taken of a map's text, where this much of it is left on the shelf
-abbrev pub syncs_taken : List ℕ → List ℕ → ℕ
-syncs_taken text left = syncs_of (take (commands_taken Map text left) (good_commands Map text))
+-- how many syncs were taken of a text, where this much of it is left on the shelf
+abbrev pub syncs_taken : FileKind → List ℕ → List ℕ → ℕ
+syncs_taken kind text left = syncs_of (take (commands_taken kind text left) (good_commands kind text))
 
 -- how many numbers of intervals the answers to some commands have together
 abbrev pub pairs_reported : List Command → ℕ
@@ -38,3 +38,4 @@ run_size Map text left = commands_taken Map text left
 run_size Queue text left = commands_taken Queue text left
 run_size Stab text left = commands_taken Stab text left
     + pairs_reported (take (commands_taken Stab text left) (good_commands Stab text))
+run_size Dump text left = commands_taken Dump text left

@@ -46,7 +46,7 @@ fn read_end<H: Shelf>(feed: &mut Feed, shelf: &mut H, command: Command) -> Resul
     }
 }
 
-/// Reads the rest of a line of a map file, after its word.
+/// Reads the rest of a line of a map file, after its word. A dump has the same lines.
 #[tactic(auto, using(crate::proofs::Steps::reads_then))]
 fn map_command<H: Shelf>(feed: &mut Feed, shelf: &mut H, word: &[u8]) -> Result<Command, LineStop>
     requires ready { ((H.stand shelf.old).slot feed.old.slot).ready ≡ true }
@@ -139,7 +139,7 @@ fn table_command<H: Shelf>(
         (table_command_of kind word.now (parts_left (rest feed.old (H.stand shelf.old)))) result }
 {
     match kind {
-        FileKind::Map => map_command(feed, shelf, word),
+        FileKind::Map | FileKind::Dump => map_command(feed, shelf, word),
         FileKind::Queue => queue_command(feed, shelf, word),
         FileKind::Stab => stab_command(feed, shelf, word),
     }

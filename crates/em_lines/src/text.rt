@@ -13,6 +13,8 @@ pub enum FileKind {
     Queue,
     /// `iv LO HI` and `stab P`: intervals, and the points that are looked for in them.
     Stab,
+    /// The words of a map; its pairs are printed at the end, and nothing else.
+    Dump,
 }
 
 /// The fault of a line of a command file.

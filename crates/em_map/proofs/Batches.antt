@@ -11,7 +11,7 @@ use Rattle.em_settle.specs.Add.{IsAddOp, add_step_of}
 use Rattle.em_settle.specs.Keys.{of_key, record_at}
 use Rattle.em_settle.specs.Map.{IsMapKept, map_key_of}
 use Rattle.em_settle.specs.States.{stored_after}
-use Rattle.em_frames.specs.Pool.{PoolCounts, SameFrames, load_of}
+use Rattle.em_frames.specs.Pool.{SameFrames, load_of}
 use Rattle.em_space.specs.Rig.{IfFull, RigState, Sound, Touches}
 use Rattle.em_space.specs.declared.fault.EmFault.{EmFault}
 use Rattle.em_tree_cost.specs.Books.{TreeCounts, count_push}
@@ -35,8 +35,10 @@ use Rattle.em_map.specs.Contents.{UpTo, WaitsUpTo, key_record}
 use Rattle.em_map.specs.Early.{gathered_after, joined_size, left_of}
 use Rattle.em_map.specs.Loading.{CountsPushes, EntersTree}
 use Rattle.em_map.specs.declared.batch.Batch.{Batch}
+use Rattle.em_map.proofs.Areas.{shares_same}
 use Rattle.em_map.proofs.Early.{left_one}
 use Rattle.em_map.proofs.Numbers.{waits_below, waits_next}
+use Rattle.em_map.proofs.Pushing.{counts_none, counts_then}
 use Rattle.em_map.proofs.Stands.{Stands, batch_is, stands_entered, stands_is, stands_next}
 use Rattle.em_map.proofs.Taken.{counts_command, has_entered}
 
@@ -83,19 +85,11 @@ told_before : {held : List ℕ} {s t : RigState} → Touches held s t → IsTrue
     → IsTrue s.device.told
 told_before touches told = subst (λ (z : Bool). IsTrue z) touches.told told
 
--- not both
-not_both : (x : Bool) → x ≡ true → x ≡ false → ⊥
-not_both x e f = true≢false (sym e ∙ f)
-
--- no area came or went
-pub shares_as : (before after : ℕ) (p q : PoolCounts) → after ≡ before → SameFrames p q → SharesAreas before after p q
-shares_as before after p q e f = record {
-  shape = f.shape;
-  free = f.free;
-  areas = omega (arith, f.free_areas, e);
-  rack = f.rack;
-  peak = f.peak;
-}
+-- no area came or went, of a batch that holds none
+shares_unloaded : {F : Type 0} (s t : RigState) (b d : Batch F) → b.load ≡ None → d.load ≡ None → SameFrames s.pool t.pool
+    → SharesAreas (areas_of b) (areas_of d) s.pool t.pool
+shares_unloaded s t b d none load f = subst (λ (l : Option GatherState). SharesAreas (areas_of b) (areas_in l) s.pool t.pool)
+    (none ∙ sym load) (shares_same (areas_of b) s.pool t.pool f)
 
 -- A new tree is that of a batch with no command.
 pub is_new : {F : Type 0} {s t : RigState} (b : Batch F) → b.calls ≡ 0 → b.syncs ≡ 0 → b.load ≡ None
@@ -119,6 +113,7 @@ is_new {s = s} {t = t} b e f none n =
         few = omega (arith, e);
         settled = ap (λ (c : TreeCounts). c.y) n.counts ∙ sym f;
         unreset = ap (λ (c : TreeCounts). c.z) n.counts;
+        adopted = ap (λ (c : TreeCounts). c.adopted) n.counts;
         waits = λ told. subst (λ k. WaitsUpTo k model) (let k : 0 ≡ b.calls - length (gathered_in b) = omega (arith, e) in k)
             (no_numbers (rule_of b) model (is told) (n.stored (back told)) (n.waiting (back told)));
         answers = λ told. let none_due = ap (λ (rs : List Record). length rs) (due told) in omega (arith, none_due);
@@ -151,20 +146,6 @@ is_new {s = s} {t = t} b e f none n =
     none_sized : (early : Bool) (load : ℕ) → joined_size early load [] ≡ 0
     none_sized true load = refl
     none_sized false load = refl
-
--- One push is the load of one operation.
-pub one_pushed : {s t : RigState} (v w : Trunk) → CountsCall (count_push 0) s t v w → CountsPushes 1 s t v w
-one_pushed v w c =
-    let n : w.pushed ≡ v.pushed + 1 = ap (λ (z : TreeCounts). z.n) c.counts in
-    let k : w.longest ≡ max v.longest (v.since + 1) = ap (λ (z : TreeCounts). z.k) c.counts in
-    record {
-      pushed = omega (arith, n);
-      longest = omega (arith, k);
-      resets = ap (λ (z : TreeCounts). z.z) c.counts;
-      settled = ap (λ (z : TreeCounts). z.y) c.counts;
-      spent = c.spent;
-      share = c.share;
-    }
 
 -- The next operation entered the tree alone.
 pub one_enters : (apply : Combiner) (n : ℕ) (op : Record) (s t : RigState) (v w : Trunk) → op.b ≡ n + 1
@@ -202,8 +183,13 @@ module _ {F : Type 0} (s t : RigState) (b d : Batch F) (i : IsBatch s b) (plain 
   one_more : (trunk_of d).pushed ≡ (trunk_of b).pushed + 1
   one_more = ap (λ (z : TreeCounts). z.n) c.counts
 
+  -- a push is the load of one operation
+  pushes : CountsPushes 1 s t (trunk_of b) (trunk_of d)
+  pushes = counts_then 0 s s t (trunk_of b) (trunk_of b) (trunk_of d) (omega arith) refl refl
+      (counts_none s (trunk_of b) sound i.is) c
+
   pub counts_alone : (command : Command) → map_op (b.calls + 1) command ≡ op ∷ [] → CountsCommand command s t b d
-  counts_alone command ops = counts_command command op 1 s s t b d sound i ops (one_pushed (trunk_of b) (trunk_of d) c)
+  counts_alone command ops = counts_command command op 1 s s t b d sound i ops pushes
       refl refl refl (omega (arith, left)) (omega (arith, i.pushed)) calls syncs early sound (λ e. c)
 
   module _ (p : ChangesTrunk map_key_of (add_step_of (rule_of b)) IsAddOp IsMapKept (op ∷ []) s t (trunk_of b) (trunk_of d))
@@ -227,7 +213,7 @@ module _ {F : Type 0} (s t : RigState) (b d : Batch F) (i : IsBatch s b) (plain 
           let next : Stands s counted ((gathered_in b) ++ op ∷ []) =
           stands_next s b counted (gathered_in b) op refl refl refl few (stands_is s b i) in
           let one : Stands s counted (op ∷ []) = subst (λ (xs : List Record). Stands s counted xs) alone next in
-          let is : Stands t d [] = stands_entered s t counted d (op ∷ []) 1 one enters (one_pushed (trunk_of b) (trunk_of d) c)
+          let is : Stands t d [] = stands_entered s t counted d (op ∷ []) 1 one enters pushes
           one_more (omega arith) rule calls syncs in
           let no_load : gathered_in d ≡ [] = ap ops_in load in
           batch_is t d (subst (λ (xs : List Record). Stands t d xs) (sym no_load) is) (λ e. load)
@@ -239,8 +225,8 @@ module _ {F : Type 0} (s t : RigState) (b d : Batch F) (i : IsBatch s b) (plain 
       takes_alone command ops = record {
         is = alone_is;
         session = p.session;
-        frames = shares_as (areas_of b) (areas_of d) s.pool t.pool (ap areas_in load ∙ sym (ap areas_in none)) p.frames;
-        areas = λ e. absurd (not_both b.early e plain);
+        frames = shares_unloaded s t b d none load p.frames;
+        areas = λ e. absurd (true≢false (sym e ∙ plain));
         tree = λ e. subst (λ (zs : List Record). ChangesTrunk map_key_of (add_step_of (rule_of b)) IsAddOp IsMapKept zs s t
             (trunk_of b) (trunk_of d)) (sym ops) p;
         pays = p.pays;
@@ -249,7 +235,7 @@ module _ {F : Type 0} (s t : RigState) (b d : Batch F) (i : IsBatch s b) (plain 
             s (trunk_of b) (b.calls + 1) h.tree
             (subst (λ (xs : List Record). EntersTree (rule_of b) (b.calls + 1) xs s t (trunk_of b) (trunk_of d)) (sym alone)
             enters)
-            (omega (arith, one_more, left)) (ap ops_in load) (λ e. absurd (not_both b.early e plain));
+            (omega (arith, one_more, left)) (ap ops_in load) (λ e. absurd (true≢false (sym e ∙ plain)));
       }
 
 -- the same by the result
@@ -265,8 +251,7 @@ takes_plain s t b d i plain few c rule calls syncs early load sound op number (E
   goes = record {
     sound = p.goes.sound;
     touches = p.goes.touches;
-    frames = shares_as (areas_of b) (areas_of d) s.pool t.pool (ap areas_in load ∙ sym (ap areas_in (i.plain plain)))
-        p.goes.frames;
+    frames = shares_unloaded s t b d (i.plain plain) load p.goes.frames;
   };
   frames = record {
     tree = p.frames;

@@ -50,6 +50,7 @@ closed_none s b dest sound i e none =
         few = is.few;
         settled = is.settled;
         unreset = is.unreset;
+        adopted = is.adopted;
         waits = is.waits;
         answers = is.answers;
       }) none i.alone;
@@ -74,7 +75,7 @@ counts_close n s m t b d sound i p moves few short calls syncs early =
     let S : ℕ → ℕ → Type 0 = λ N y. batch_spent d ≤ synced_share s.pool.shape N y in
     let shared : (N : ℕ) → (trunk_of b).pushed + n ≤ N → IsTrue s.device.told → S N d.syncs =
     λ N most z. subst (S N) (sym syncs) (let w = pushes_within n N b.syncs s m (trunk_of b) (trunk_of d) sound p since
-    i.longest i.unreset i.settled most z in omega (arith, w, syncs)) in
+    i.longest i.unreset i.settled (omega (arith, i.adopted, i.is.running.numbers.counted_most)) most z in omega (arith, w, syncs)) in
     record {
       calls = calls;
       syncs = syncs;

@@ -66,6 +66,7 @@ module _ {F : Type 0} (s : RigState) (b : Batch F) (load : GatherState) (sound :
         few = is.few;
         settled = is.settled;
         unreset = is.unreset;
+        adopted = is.adopted;
         waits = is.waits;
         answers = is.answers;
       }) ops

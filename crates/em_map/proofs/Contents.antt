@@ -1,16 +1,17 @@
 -- The contents and answers of a map's operations are those of the plain map.
 use Rattle.std.specs.Prelude.{true, false, ℕ, ◌≡◌, ◌+◌, ◌==◌, if◌then◌else◌, List, [], ◌∷◌, length, Option, Some, None}
-use Rattle.std.proofs.Common.{sym, ap, ◌∙◌, refl, ⊎_elim}
-use Rattle.std.proofs.lemmas.Bool.{cases_Bool, cond-true, cond-false, eqb-true, eqb-false}
+use Rattle.std.proofs.Common.{sym, ap, subst, ◌∙◌, refl, ⊎_elim}
+use Rattle.std.proofs.lemmas.Bool.{cases_Bool, cond-true, cond-false, eqb-true, eqb-false, true≢false}
 use Rattle.em_record.specs.declared.record.Record.{Record}
 use Rattle.em_model.specs.Map.{Combiner, Map, joined_to, no_keys, with_key, state_after}
 use Rattle.em_model.specs.declared.command.Command.{Command}
 use Rattle.em_model.specs.declared.command.Command.TheVariants.{Put, Add, Del, Get, Sync, Push, Pop, Interval, Stab}
 use Rattle.em_settle.specs.Add.{add_step_of, added}
+use Rattle.em_settle.specs.Keys.{has_key, record_at}
 use Rattle.em_settle.specs.Map.{map_answer, map_key_of, map_record}
 use Rattle.em_settle.specs.States.{Stored, with_op, with_ops, answers_to}
-use Rattle.em_settle.proofs.Keys.{key_at, other_key}
-use Rattle.em_map.specs.Commands.{map_ops_from, ops_after}
+use Rattle.em_settle.proofs.Keys.{key_at, key_is, other_key}
+use Rattle.em_map.specs.Commands.{map_ops, map_ops_from, ops_after}
 use Rattle.em_model.specs.MapAnswers.{answer_record, answers_after, answers_of}
 use Rattle.em_tree_model.specs.Meaning.{nothing}
 use Rattle.em_map.specs.Batch.{contents_after}
@@ -137,3 +138,32 @@ pub answers_follow : (apply : Combiner) (before cs : List Command)
     → answers_to map_key_of (add_step_of apply) (contents_after apply before) (ops_after before cs) ≡ answers_after apply before cs
 answers_follow apply before cs =
     answers_are apply (1 + length before) cs (contents_after apply before) (state_after apply no_keys before) (keeps_after apply before)
+
+-- A record that isn't a key is that of no record,
+no_key : (q : Record) → has_key map_key_of q q ≡ false → (x : Record) → has_key map_key_of q x ≡ false
+no_key q f x = other_key map_key_of q x (λ (e : map_key_of x ≡ q).
+    true≢false (sym (key_at map_key_of q q (ap map_key_of (sym e) ∙ e)) ∙ f))
+
+-- so that a list has none under it,
+none_under : (q : Record) → has_key map_key_of q q ≡ false → (xs : List Record) → record_at map_key_of xs q ≡ None
+none_under q f [] = refl
+none_under q f (x ∷ xs) = cond-false _ _ _ (no_key q f x) ∙ none_under q f xs
+
+-- and operations leave none there.
+nothing_under : (apply : Combiner) (q : Record) → has_key map_key_of q q ≡ false → (ops : List Record) (stored : Stored)
+    → stored q ≡ None → with_ops map_key_of (add_step_of apply) stored ops q ≡ None
+nothing_under apply q f [] stored none = none
+nothing_under apply q f (op ∷ ops) stored none = nothing_under apply q f ops
+    (with_op map_key_of (add_step_of apply) stored op) (cond-false _ _ _ (no_key q f op) ∙ none)
+
+-- A list with the map's value under each key has what the commands leave under each record.
+pub contents_found : (apply : Combiner) (cs : List Command) (xs : List Record)
+    → ((k : ℕ) → record_at map_key_of xs (key_record k) ≡ value_record k (state_after apply no_keys cs k))
+    → (q : Record) → record_at map_key_of xs q ≡ contents_after apply cs q
+contents_found apply cs xs h q = ⊎_elim
+    (λ (t : has_key map_key_of q q ≡ true).
+    subst (λ (r : Record). record_at map_key_of xs r ≡ contents_after apply cs r) (key_is map_key_of q q t)
+    (h q.a ∙ sym (keeps_after apply cs q.a)))
+    (λ (f : has_key map_key_of q q ≡ false).
+    none_under q f xs ∙ sym (nothing_under apply q f (map_ops cs) nothing refl))
+    (cases_Bool (has_key map_key_of q q))

@@ -281,8 +281,9 @@ module _ {F : Type 0} (s m : RigState) (b x : Batch F) (sound : Sound s) (i : Is
       let most = closed.is.longest in
       let all : (N : ℕ) → (trunk_of x).pushed ≤ N → IsTrue s.device.told → S s.pool.shape N = λ N few told.
       subst (λ (q : ShapeNumbers). S q N) shape
-      (within_batch m.pool.shape (trunk_of x).pushed N (trunk_of x).longest (trunk_of x).resets ((trunk_of x).settled + 1)
-      x.syncs ((trunk_of x).spent + (t.moves - m.moves)) x.syncs closed.session.sound.shape few (omega (arith, most, few))
+      (within_batch m.pool.shape ((trunk_of x).pushed + (trunk_of x).counted) N (trunk_of x).longest (trunk_of x).resets ((trunk_of x).settled + 1)
+      x.syncs ((trunk_of x).spent + (t.moves - m.moves)) x.syncs closed.session.sound.shape
+      (omega (arith, few, closed.is.adopted, closed.is.is.running.numbers.counted_most)) (omega (arith, most, few))
       closed.is.unreset (omega (arith, closed.is.settled)) (f.share (told_m told)).within (omega arith)) in
       let P : ℕ → ℕ → Type 0 = λ N y. batch_spent b + (t.moves - s.moves) ≤ synced_share s.pool.shape N y in
       let shared : (N : ℕ) → (trunk_of x).pushed ≤ N → IsTrue s.device.told → P N b.syncs = λ N few told.

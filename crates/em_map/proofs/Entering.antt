@@ -88,20 +88,13 @@ entered_batch b d items left s t assoc can j p = record {
   idle = λ e. p.idle (j.count ∙ ap left_of e);
 }
 
--- over a device that tells, no more operations came between two resets than all
-pub longest_most : (s : RigState) (v : Trunk) → IsTrunk map_key_of IsAddOp IsMapKept s v → IsTrue s.device.told
-    → v.longest ≤ v.pushed
-longest_most s v is told =
-    let b = is.books told in
-    omega (arith, b.paid.fits.k_most, b.n, b.k)
-
 -- The room of what is left of a load is within that of the load.
 module _ (apply : Combiner) (items left : List Record) (s : RigState) (v : Trunk) (sound : Sound s)
-    (is : IsTrunk map_key_of IsAddOp IsMapKept s v) (j : JoinsLoad apply items left) (told : IsTrue s.device.told) where
+    (is : IsTrunk map_key_of IsAddOp IsMapKept s v) (most : v.longest ≤ v.pushed) (j : JoinsLoad apply items left)
+    (told : IsTrue s.device.told) where
   far : max v.longest (v.since + length left) ≤ v.pushed + length items
   far =
       let few = joined_few apply items left j in
-      let most = longest_most s v is told in
       omega (arith, few, most, is.running.numbers.since_most)
 
   more : answers_in apply s v + length left ≤ answers_in apply s v + length items

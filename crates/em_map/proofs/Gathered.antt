@@ -1,5 +1,5 @@
 -- What a command leaves of a batch that joins adds early: its operation is gathered, or enters the tree with the load.
-use Rattle.std.specs.Prelude.{◌≡◌, Bool, true, false, ℕ, ◌+◌, ◌<◌, ◌≤◌, ◌^◌, List, [], ◌∷◌, ◌++◌, length, Option, None, Some, IfSome}
+use Rattle.std.specs.Prelude.{◌≡◌, true, ℕ, ◌+◌, ◌<◌, ◌≤◌, ◌^◌, List, [], ◌∷◌, ◌++◌, length, Option, None, Some, IfSome}
 use Rattle.std.proofs.Common.{sym, ap, subst, refl, ◌∙◌, arith}
 use Rattle.std.proofs.lemmas.Bool.{true≢false}
 use Rattle.std.proofs.lemmas.List.{length-append}
@@ -31,10 +31,6 @@ use Rattle.em_map.proofs.Lent.{MovesPool, blocks_lent, moves_lent, pays_lent, se
 use Rattle.em_map.proofs.Pushing.{counts_none}
 use Rattle.em_map.proofs.Stands.{Stands, batch_is, stands_entered, stands_is, stands_next}
 use Rattle.em_map.proofs.Taken.{counts_command, has_entered, has_gathered}
-
--- not both
-not_both : (x y : Bool) → x ≡ y → y ≡ true → x ≡ false → ⊥
-not_both x y same e f = true≢false (sym (same ∙ e) ∙ f)
 
 -- The state after an area was lent, if none was held, and a batch with one call more, whose load has the next operation.
 module _ {F : Type 0} (s m : RigState) (b d : Batch F) (load : GatherState) (op : Record) (sound : Sound s) (i : IsBatch s b)
@@ -80,7 +76,7 @@ module _ {F : Type 0} (s m : RigState) (b d : Batch F) (load : GatherState) (op 
         let is : IsLoad m (entered_of d) load = record { few = less; ops = ops.are; follow = ops.follow } in
         batch_is m d (subst (λ (xs : List Record). Stands m d xs) (sym gathered)
         (stands_next m b d (gathered_in b) op tree calls syncs few (stands_lent s m b (gathered_in b) lent (stands_is s b i))))
-        (λ e. absurd (not_both d.early b.early joins early e)) (λ e. absurd (not_both d.early b.early joins early e)) area_is
+        (λ e. absurd (true≢false (sym (joins ∙ early) ∙ e))) (λ e. absurd (true≢false (sym (joins ∙ early) ∙ e))) area_is
         (subst (λ (l : Option GatherState). IfSome l (IsLoad m (entered_of d))) (sym is_load) is)
 
     pub takes_gathered : (c : Command) → map_op (b.calls + 1) c ≡ op ∷ [] → TakesCommand c s m b d
@@ -94,7 +90,7 @@ module _ {F : Type 0} (s m : RigState) (b d : Batch F) (load : GatherState) (op 
               (session_lent s m v lent i.is);
           frames = subst (λ (n : ℕ). SharesAreas (areas_of b) n s.pool m.pool) (sym one_area) frames;
           areas = λ e. one_area;
-          tree = λ e. absurd (not_both b.early b.early refl early e);
+          tree = λ e. absurd (true≢false (sym early ∙ e));
           pays = subst (λ (x : Trunk). Pays (batch_unstored b) (trunk_unstored x) s m) (sym trunk)
               (pays_lent s m v lent i.is (batch_unstored b));
           loses = λ told.
@@ -114,7 +110,7 @@ module _ {F : Type 0} (s m : RigState) (b d : Batch F) (load : GatherState) (op 
         let none : CountsPushes 0 m m v (trunk_of d) = subst (λ (x : Trunk). CountsPushes 0 m m v x) (sym trunk)
         (counts_none m v lent.sound stays.is) in
         counts_command c op 0 s m m b d sound i ops none (moves_lent s m v lent i.is) lent.touches.told lent.touches.shape
-        (omega arith) (omega (arith, i.pushed)) calls syncs joins lent.sound (λ e. absurd (not_both b.early b.early refl early e))
+        (omega arith) (omega (arith, i.pushed)) calls syncs joins lent.sound (λ e. absurd (true≢false (sym early ∙ e)))
 
   -- It enters the tree with the load.
   module _ (t : RigState) (left : ℕ) (left_is : left ≡ left_of (gathered_in b ++ op ∷ [])) (some : left ≤ length (gathered_in b) + 1)
@@ -122,7 +118,7 @@ module _ {F : Type 0} (s m : RigState) (b d : Batch F) (load : GatherState) (op 
     pub counts_entered : (c : Command) → map_op (b.calls + 1) c ≡ op ∷ [] → CountsCommand c s t b d
     counts_entered c ops = counts_command c op left s m t b d sound i ops counts (moves_lent s m v lent i.is)
         lent.touches.told lent.touches.shape (omega (arith, left_is)) (omega (arith, some, i.pushed)) calls syncs joins
-        lent.sound (λ e. absurd (not_both b.early b.early refl early e))
+        lent.sound (λ e. absurd (true≢false (sym early ∙ e)))
 
     module _ (e : EntersTree (rule_of b) (b.calls + 1) (gathered_in b ++ op ∷ []) m t (trunk_of b) (trunk_of d))
         (pushed : (trunk_of d).pushed ≡ (trunk_of b).pushed + left) (none : load.items ≡ [])
@@ -155,7 +151,7 @@ module _ {F : Type 0} (s m : RigState) (b d : Batch F) (load : GatherState) (op 
           let load_is : IsLoad t (entered_of d) load =
           record { few = omega (arith, zero, capacity, room); ops = own.are; follow = own.follow } in
           batch_is t d (subst (λ (xs : List Record). Stands t d xs) (sym no_ops) is)
-          (λ p. absurd (not_both d.early b.early joins early p)) (λ p. absurd (not_both d.early b.early joins early p))
+          (λ p. absurd (true≢false (sym (joins ∙ early) ∙ p))) (λ p. absurd (true≢false (sym (joins ∙ early) ∙ p)))
           (subst (λ (l : Option GatherState). IfSome l (HasArea t)) (sym is_load) out)
           (subst (λ (l : Option GatherState). IfSome l (IsLoad t (entered_of d))) (sym is_load) load_is)
 
@@ -166,7 +162,7 @@ module _ {F : Type 0} (s m : RigState) (b d : Batch F) (load : GatherState) (op 
         frames = subst (λ (n : ℕ). SharesAreas (areas_of b) n s.pool t.pool) (sym one_area)
             (shares_then (areas_of b) 1 1 s.pool m.pool t.pool frames (shares_same 1 m.pool t.pool e.frames));
         areas = λ p. one_area;
-        tree = λ p. absurd (not_both b.early b.early refl early p);
+        tree = λ p. absurd (true≢false (sym early ∙ p));
         pays = pays_then (pays_lent s m v lent i.is (batch_unstored b)) e.pays e.session.touches.moves;
         loses = λ told.
             let held = blocks_lent s m v lent i.is told in

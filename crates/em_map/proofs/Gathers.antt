@@ -106,6 +106,7 @@ can_enter s b ops i h = record {
   few = omega (arith, i.pushed);
   follow = h.follow;
   pushed = omega (arith, i.pushed, i.few);
+  longest = i.longest;
   waits = i.waits;
 }
 

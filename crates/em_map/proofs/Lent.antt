@@ -89,6 +89,7 @@ stands_lent s t b ops m i =
       few = i.few;
       settled = i.settled;
       unreset = i.unreset;
+      adopted = i.adopted;
       waits = λ told. subst (λ (x : Tree). WaitsUpTo (b.calls - length ops) x)
           (sym (stays.reads (back told)).model) (i.waits (back told));
       answers = λ told.

@@ -1,6 +1,6 @@
 pub mod Areas
 mod Compared
-mod Contents
+pub mod Contents
 pub mod Early
 mod Live
 mod Numbers
@@ -26,4 +26,6 @@ mod GatherCall
 mod Ends
 mod Batches
 mod Syncs
+mod Handed
+mod IntoTree
 pub mod Stays

@@ -140,6 +140,8 @@ counts_none s v sound is = record {
   longest = omega arith;
   resets = refl;
   settled = refl;
+  adopted = refl;
+  counted = refl;
   spent = refl;
   share = λ told. record { within = books_share sound.shape (is.books told) };
 }
@@ -156,6 +158,8 @@ counts_then n s m t v x w since shape same a c =
       longest = omega (arith, longest, a.longest, since);
       resets = ap (λ (z : TreeCounts). z.z) c.counts ∙ a.resets;
       settled = ap (λ (z : TreeCounts). z.y) c.counts ∙ a.settled;
+      adopted = ap (λ (z : TreeCounts). z.adopted) c.counts ∙ a.adopted;
+      counted = ap (λ (z : TreeCounts). z.counted) c.counts ∙ a.counted;
       spent = omega (arith, a.spent, c.spent);
       share = λ told. subst (λ (g : ShapeNumbers). KeepsShare g (counts_of w)) shape (c.share (same ∙ told));
     }
@@ -168,6 +172,8 @@ counts_wider n l s t v w h a = record {
   longest = omega (arith, h, a.longest);
   resets = a.resets;
   settled = a.settled;
+  adopted = a.adopted;
+  counted = a.counted;
   spent = a.spent;
   share = a.share;
 }

@@ -162,10 +162,6 @@ module _ {F : Type 0} (s : RigState) (b : Batch F) (before cs : List Command) (i
       let count = given_count s (trunk_of b) i.is told in
       omega (arith, all, due, few, parts, lots, both, count)
 
-  pub given_blocks : IsShape s.pool.shape
-      → (trunk_of b).answers.blocks ≤ ceiling b.calls (payload_of s.pool.shape)
-  given_blocks is = given_packed s b i told b.calls (omega arith) is
-
 -- The blocks of a batch between two calls are those of its tree and of the answers that it has given.
 pub held_blocks : {F : Type 0} (s : RigState) (b : Batch F) → Sound s → IsBatch s b → IsTrue s.device.told
     → length (batch_blocks s b) ≤ tree_room s.pool.shape b.calls + (trunk_of b).answers.blocks

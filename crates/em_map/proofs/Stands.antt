@@ -28,6 +28,7 @@ pub record Stands {F : Type 0} (s : RigState) (b : Batch F) (ops : List Record) 
   pub few : b.calls ≤ 2 ^ 40
   pub settled : (trunk_of b).settled ≡ b.syncs
   pub unreset : (trunk_of b).resets ≡ 0
+  pub adopted : (trunk_of b).adopted ≡ 0
   pub waits : IsTrue s.device.told → WaitsUpTo (b.calls - length ops) (model_of s (trunk_of b))
   pub answers : IsTrue s.device.told → answers_in (rule_of b) s (trunk_of b) ≤ b.calls - length ops
 
@@ -40,6 +41,7 @@ stands_is s b i = record {
   few = i.few;
   settled = i.settled;
   unreset = i.unreset;
+  adopted = i.adopted;
   waits = i.waits;
   answers = i.answers;
 }
@@ -60,6 +62,7 @@ batch_is s b i plain alone area load = record {
   few = i.few;
   settled = i.settled;
   unreset = i.unreset;
+  adopted = i.adopted;
   waits = i.waits;
   answers = i.answers;
 }
@@ -83,6 +86,7 @@ stands_next s b d ops op tree calls syncs few i =
       few = omega (arith, calls, few);
       settled = settled ∙ i.settled ∙ sym syncs;
       unreset = resets ∙ i.unreset;
+      adopted = ap (λ (v : _). v.adopted) trunk ∙ i.adopted;
       waits = λ told. subst (λ (v : _). WaitsUpTo (d.calls - length (ops ++ op ∷ [])) (model_of s v)) (sym trunk)
           (subst (λ (k : ℕ). WaitsUpTo k (model_of s (trunk_of b))) (sym n) (i.waits told));
       answers = λ told.
@@ -130,6 +134,7 @@ stands_entered s t b d ops n i e c pushed few rule calls syncs =
       few = omega (arith, calls, i.few);
       settled = c.settled ∙ i.settled ∙ sym syncs;
       unreset = c.resets ∙ i.unreset;
+      adopted = c.adopted ∙ i.adopted;
       waits = λ told. subst (λ (k : ℕ). WaitsUpTo k (model_of t (trunk_of d))) (let k : b.calls ≡ d.calls - length {A = Record} [] = omega (arith, calls) in k)
           (e.waits (back told));
       answers = λ told.

@@ -80,6 +80,7 @@ module _ {F : Type 0} (held : List ℕ) (s t : RigState) (b : Batch F) (touches 
           few = i.few;
           settled = i.settled;
           unreset = i.unreset;
+          adopted = i.adopted;
           waits = λ told. subst (λ (x : Tree). WaitsUpTo (entered_of b) x) (sym (model (back told))) (i.waits (back told));
           answers = λ told.
               let same = answers_alike (rule_of b) s t (trunk_of b) (model (back told)) (given (back told)) in

@@ -1,5 +1,5 @@
 -- A sync of a batch that holds no load: its tree is settled, and then its answers are handed out.
-use Rattle.std.specs.Prelude.{◌≡◌, Bool, ℕ, ◌+◌, ◌<◌, ◌≤◌, ◌^◌, List, [], ◌∷◌, ◌++◌, length, IsTrue, Option, None, Result, Ok, Err, IfErr, IfSome}
+use Rattle.std.specs.Prelude.{◌≡◌, Bool, ◌+◌, ◌<◌, ◌≤◌, ◌^◌, List, [], ◌∷◌, ◌++◌, length, IsTrue, Option, None, Result, Ok, Err, IfErr, IfSome}
 use Rattle.std.proofs.Common.{sym, ap, subst, ◌∙◌, arith}
 use Rattle.std.specs.List.Sorted.{IsPermutation}
 use Rattle.std.specs.Result.{IsErrAnd}
@@ -16,14 +16,12 @@ use Rattle.em_model.specs.declared.command.Command.TheVariants.{Sync}
 use Rattle.em_settle.specs.Add.{IsAddOp, add_step_of}
 use Rattle.em_settle.specs.Map.{IsMapKept, map_key_of}
 use Rattle.em_settle.specs.States.{answers_to, with_ops}
-use Rattle.em_space.specs.Queue.{Pays}
 use Rattle.em_space.specs.Rig.{RigState, Sound}
 use Rattle.em_space.specs.declared.fault.EmFault.{EmFault}
 use Rattle.em_space.proofs.Ledgers.{full_never}
 use Rattle.em_space.proofs.Paying.{pays_then}
 use Rattle.em_space.proofs.Sessions.{session_trans}
-use Rattle.em_space.proofs.Steps.{cause_after, same_frames_then}
-use Rattle.em_space.proofs.Within.{goes_within}
+use Rattle.em_space.proofs.Steps.{same_frames_then}
 use Rattle.em_chain.specs.Chain.{chain_blocks, chain_items}
 use Rattle.em_chain.specs.declared.chain.Chain.{Chain}
 use Rattle.em_tree_cost.specs.Books.{TreeCounts, count_settle}
@@ -34,7 +32,7 @@ use Rattle.em_tree_model.proofs.Takes.{nothing_owed}
 use Rattle.em_tree.specs.Calls.{CountsCall, FullIfUntrim, SettledTrunk, StopsTrunk}
 use Rattle.em_tree.specs.Handing.{HandedAnswers, HandsAnswers, StopsHanding}
 use Rattle.em_trunk.specs.Room.{FullOverRoom, WithinRoom}
-use Rattle.em_trunk.specs.Trunk.{counts_of, given_by, model_of, trunk_blocks, trunk_unstored}
+use Rattle.em_trunk.specs.Trunk.{counts_of, given_by, model_of, trunk_blocks}
 use Rattle.em_trunk.specs.declared.trunk.Trunk.{Trunk}
 use Rattle.em_combine.specs.Gather.{GatherState}
 use Rattle.em_map.specs.Batch.{HasArea, IsBatch, IsLoad, TreeHas, batch_blocks, contents_after, entered_of, gathered_in, ops_in, rule_of, trunk_of}
@@ -48,6 +46,7 @@ use Rattle.em_map.proofs.Live.{room_rises, stored_live}
 use Rattle.em_map.proofs.Numbers.{waits_still}
 use Rattle.em_map.proofs.Ordered.{in_order_of}
 use Rattle.em_map.proofs.Pushed.{ops_append}
+use Rattle.em_map.proofs.Pushing.{stops_after}
 use Rattle.em_map.proofs.Rules.{same_rule}
 use Rattle.em_map.proofs.Shares.{within_batch}
 
@@ -97,8 +96,9 @@ module _ {F : Type 0} {s m : RigState} (b d : Batch F) {x : Trunk} (sound : Soun
         let p : x.pushed ≡ (trunk_of b).pushed = ap (λ (z : TreeCounts). z.n) c.counts in
         let y : x.settled ≡ (trunk_of b).settled + 1 = ap (λ (z : TreeCounts). z.y) c.counts in
         let z : x.resets ≡ 0 = ap (λ (z : TreeCounts). z.z) c.counts ∙ is.unreset in
-        let all = within_batch s.pool.shape x.pushed n x.longest x.resets x.settled d.syncs x.spent d.syncs
-        sound.shape (omega (arith, p, size)) (omega (arith, k, is.longest, size)) z
+        let u : x.counted ≡ (trunk_of b).counted = ap (λ (z : TreeCounts). z.counted) c.counts in
+        let all = within_batch s.pool.shape (x.pushed + x.counted) n x.longest x.resets x.settled d.syncs x.spent d.syncs
+        sound.shape (omega (arith, p, size, u, is.adopted, is.is.running.numbers.counted_most)) (omega (arith, k, is.longest, size)) z
         (omega (arith, y, is.settled, syncs)) (c.share told).within (omega arith) in
         omega (arith, all, spent_same);
   }
@@ -153,6 +153,7 @@ module _ {F : Type 0} {s m : RigState} (b d : Batch F) {x : Trunk} (sound : Soun
           few = omega (arith, few, calls);
           settled = omega (arith, settled_more, is.settled, syncs);
           unreset = resets_same;
+          adopted = ap (λ (z : TreeCounts). z.adopted) (same ∙ c.counts) ∙ is.adopted;
           waits = λ told. let z = back told in
               subst (λ n. WaitsUpTo n (model_of t w)) (sym new)
               (subst (λ (u : Tree). WaitsUpTo (b.calls + 1) u) (sym (g.model (told_m z)))
@@ -224,16 +225,8 @@ module _ {F : Type 0} {s m : RigState} (b d : Batch F) {x : Trunk} (sound : Soun
   pub unhanded : {t : RigState} {e : EmFault}
       → SettledTrunk map_key_of (add_step_of (rule_of b)) IsAddOp IsMapKept s m (trunk_of b) x
       → StopsHanding m t x (trunk_of d) e → StopsTrunk s t (trunk_of b) (trunk_of d) e
-  unhanded {t} {e} f g = record {
-    goes = goes_within (batch_blocks s b) (trunk_blocks m x) s m t
-        (record { sound = f.changes.session.sound; touches = f.changes.session.touches; frames = f.changes.frames })
-        f.changes.session.within g.stops.goes;
-    frames = g.stops.frames;
-    pays = pays_then f.changes.pays
-        (subst (λ (n : ℕ). Pays (trunk_unstored x) n m t)
-        (ap (λ (p : _). p.frames) f.changes.session.touches.shape) g.stops.pays) g.stops.goes.touches.moves;
-    cause = cause_after (batch_blocks s b) s m t e f.changes.session.touches g.stops.cause;
-  }
+  unhanded {t} {e} f g = stops_after map_key_of (add_step_of (rule_of b)) IsAddOp IsMapKept [] s m t (trunk_of b) x (trunk_of d) e
+      f.changes g.stops
 
 -- What it did, by the result of handing out.
 module _ {F : Type 0} (s m t : RigState) (b d : Batch F) (x : Trunk) (sound : Sound s) (is : IsBatch s b) (few : b.calls < 2 ^ 40)

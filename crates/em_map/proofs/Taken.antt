@@ -158,7 +158,8 @@ counts_command c op n s m t b d sound i is p moves told shape few few_calls call
     let within : (N : ℕ) → (trunk_of b).pushed + n ≤ N → IsTrue s.device.told
     → (trunk_of d).spent + b.syncs ≤ synced_share s.pool.shape N b.syncs =
     λ N most z. subst (λ (q : ShapeNumbers). (trunk_of d).spent + b.syncs ≤ synced_share q N b.syncs) shape
-    (pushes_within n N b.syncs m t (trunk_of b) (trunk_of d) sound_m p since i.longest i.unreset i.settled most (told ∙ z)) in
+    (pushes_within n N b.syncs m t (trunk_of b) (trunk_of d) sound_m p since i.longest i.unreset i.settled
+    (omega (arith, i.adopted, i.is.running.numbers.counted_most)) most (told ∙ z)) in
     let S : ℕ → ℕ → Type 0 = λ N y. batch_spent d ≤ synced_share s.pool.shape N y in
     let shared : (N : ℕ) → (trunk_of b).pushed + n ≤ N → IsTrue s.device.told → S N d.syncs =
     λ N most z. subst (S N) (sym syncs)

@@ -101,7 +101,7 @@ abbrev pub entered_of : {F : Type 0} → Batch F → ℕ
 entered_of b = b.calls - length (gathered_in b)
 
 -- What ties a batch to its rig: only one that joins adds early gathers operations. Its tree counts no operation that wasn't
--- called, was settled by each sync, and was never reset; what waits there has the numbers of calls before those that are
+-- called, was settled by each sync, never reset, and wasn't adopted; what waits there has the numbers of calls before those that are
 -- gathered, and it gave or owes an answer to each of these at most.
 pub record IsBatch {F : Type 0} (s : RigState) (b : Batch F) : Type 0 where
   pub is : IsTrunk map_key_of IsAddOp IsMapKept s (trunk_of b)
@@ -114,6 +114,7 @@ pub record IsBatch {F : Type 0} (s : RigState) (b : Batch F) : Type 0 where
   pub few : b.calls ≤ 2 ^ 40
   pub settled : (trunk_of b).settled ≡ b.syncs
   pub unreset : (trunk_of b).resets ≡ 0
+  pub adopted : (trunk_of b).adopted ≡ 0
   pub waits : IsTrue s.device.told → WaitsUpTo (entered_of b) (model_of s (trunk_of b))
   pub answers : IsTrue s.device.told → answers_in (rule_of b) s (trunk_of b) ≤ entered_of b
 
@@ -278,7 +279,7 @@ pub record FinishedBatch {F : Type 0} (s t : RigState) (b : Batch F) (c : Chain)
   pub ordered : IsTrue s.device.told → (before cs : List Command) → HasCommands s b before cs
       → in_order (chain_items t c) ≡ answers_after (rule_of b) before cs
 
--- It wasn't finished: its frames and its area are back. Blocks of it may be left in use.
+-- It wasn't finished, or its tree wasn't handed out: its frames and its area are back. Blocks of it may be left in use.
 pub record UnfinishedBatch {F : Type 0} (s t : RigState) (b : Batch F) (fault : EmFault) : Type 0 where
   pub sound : Sound t
   pub touches : Touches (batch_blocks s b) s t
@@ -291,7 +292,7 @@ abbrev pub FinishesBatch : {F : Type 0} → RigState → RigState → Batch F �
 FinishesBatch s t b (Ok c) = FinishedBatch s t b c
 FinishesBatch s t b (Err fault) = UnfinishedBatch s t b fault
 
--- All calls of a batch that was finished are within its share, at each exit.
+-- All calls of a batch that was finished, or whose tree was handed out, are within its share, at each exit.
 pub record BatchCosts {F : Type 0} (s t : RigState) (b : Batch F) : Type 0 where
   pub later : s.moves ≤ t.moves
   pub share : IsTrue s.device.told

@@ -56,6 +56,7 @@ pub record CanEnter {F : Type 0} (s : RigState) (b : Batch F) (ops : List Record
   pub few : length ops ≤ b.calls
   pub follow : FollowFrom (b.calls - length ops) ops
   pub pushed : (trunk_of b).pushed + length ops ≤ 2 ^ 40
+  pub longest : (trunk_of b).longest ≤ (trunk_of b).pushed
   pub waits : IsTrue s.device.told → WaitsUpTo (b.calls - length ops) (model_of s (trunk_of b))
 
 -- They entered it: the tree counts what joining left of them.

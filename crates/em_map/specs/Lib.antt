@@ -5,3 +5,4 @@ pub mod Early
 pub mod Loading
 pub mod Batch
 pub mod Gathering
+pub mod Handing

@@ -56,6 +56,8 @@ pub record CountsPushes (n : ℕ) (s t : RigState) (v w : Trunk) : Type 0 where
   pub longest : w.longest ≤ max v.longest (v.since + n)
   pub resets : w.resets ≡ v.resets
   pub settled : w.settled ≡ v.settled
+  pub adopted : w.adopted ≡ v.adopted
+  pub counted : w.counted ≡ v.counted
   pub spent : w.spent + s.moves ≡ v.spent + t.moves
   pub share : IsTrue s.device.told → KeepsShare s.pool.shape (counts_of w)
 

@@ -25,6 +25,7 @@ ghost use Rattle.em_space.specs.Seen.{seen};
 ghost use Rattle.em_map.specs.Batch.{HasArea};
 ghost use Rattle.em_map.specs.Gathering.{GivesBack};
 
+use crate::handing::keep_pairs;
 use crate::loading::push_all;
 use em_chain::Chain;
 use em_combine::Gather;
@@ -60,15 +61,16 @@ fn give_back<D: Device>(rig: &mut Rig<'_, D>, load: Option<Gather>)
 /// closure, which the tree's rules keep.
 ///
 /// A batch that was made by `early` gathers its operations in loads of w·B in an area, which it takes at the first of them after
-/// `early` or a sync, and gives back at the next sync or at its end. A load enters the tree when it is full, and at a sync and
-/// the end; each run of adds in it is one add then. Then many adds of few keys make few moves.
+/// `early` or a sync, and gives back at the next sync or at its end. A load enters the tree when it is full, at a sync and at
+/// the end. Each run of adds of one key in it is joined to one add first, so that many adds of few keys make few moves.
 ///
-/// It holds two frames, and an area while it gathers. It can't be dropped. After a fault only `abandon` may be called.
+/// It holds two frames, and an area while it gathers. It can't be dropped: `finish`, `into_tree` or `abandon` ends it. After a
+/// fault only `abandon` may be called.
 ///
 /// After n commands, over a device that tells, its blocks, inside a call too, are within
-/// 12 · (q(n) + 1) + m · (2 + lev(q(n))) and those of the answers that it had given before the call; if it joins adds early,
-/// and those of the answers that its tree gave or owes, and of one for each call since. For blocks of B records and m frames q(n) is n/B, rounded up, and lev(q) says how often q is divided
-/// by m/4, rounded up, until at most 1 is left.
+/// 12 · (q(n) + 1) + m · (2 + lev(q(n))) and those of the answers that it had given before the call. If it joins adds early,
+/// the answers that its tree gave or owes count in place of these, and one for each call since. For blocks of B records and m
+/// frames q(n) is n/B, rounded up, and lev(q) says how often q is divided by m/4, rounded up, until at most 1 is left.
 pub struct Batch<F: Fn(u64, u64) -> u64 + Drop> {
     tree: Tree<AddSettle<F>>,
     /// Commands so far.
@@ -86,6 +88,7 @@ impl<F: Fn(u64, u64) -> u64 + Drop> Batch<F> {
     ghost use Rattle.em_map.specs.Commands.{map_op};
     ghost use Rattle.em_map.specs.Early.{left_of};
     ghost use Rattle.em_map.specs.Gathering.{CanEnter, ClosesBatch, CountsClose, CountsTree, EntersBatch, SyncsTree, TakesLoad};
+    ghost use Rattle.em_map.specs.Handing.{HandsTree};
     ghost use Rattle.em_map.specs.Loading.{CountsPushes, LoadOver, LoadWithin, answers_in};
     ghost use Rattle.em_map.specs.Batch as batches;
     ghost use Rattle.em_tree.specs.Calls.{FullIfUntrim, StopsNewTrunk};
@@ -302,6 +305,46 @@ impl<F: Fn(u64, u64) -> u64 + Drop> Batch<F> {
             }
             Err(fault) => {
                 batch.abandon(rig);
+                Err(fault)
+            }
+        }
+    }
+
+    /// Settles the tree and hands it out: no operation waits in it, and it is as small as its pairs allow. The answers that
+    /// weren't handed out are given up. The batch wasn't made by `early`.
+    ///
+    /// The tree holds the two frames; after a fault they are back. At most one move is made to hand the answers out, and two for
+    /// each of their blocks, which the tree's moves don't count.
+    ///
+    /// `Full` comes only if all blocks are in use then, and, over a device that tells, an operation waited or the tree wasn't as
+    /// small. `Damaged` comes only over a device that doesn't tell, and `DeviceFault` only if the device's count of faults rose.
+    pub fn into_tree<D: Device>(self, rig: &mut Rig<'_, D>) -> Result<Tree<AddSettle<F>>, EmFault>
+        requires sound { Sound (seen D.state rig.old) }
+        requires is { IsBatch (seen D.state rig.old) self }
+        requires ready { ⟦<AddSettle<F> as Settle>⟧.IsReady self.tree.settle }
+        requires free { CanServe (seen D.state rig.old).pool }
+        requires plain { self.early ≡ false }
+        ensures rule { IfOk result (λ tree. tree.settle ≡ self.tree.settle) }
+        ensures hands { HandsTree (seen D.state rig.old) (seen D.state rig.new) self result }
+        ensures needs { IfErr result (FullIfUntrim (seen D.state rig.old) (trunk_of self)) }
+        ensures costs { BatchCosts (seen D.state rig.old) (seen D.state rig.new) self }
+        ensures room { IsTrue (seen D.state rig.old).device.told → BatchWithin self.calls
+            (seen D.state rig.old) (seen D.state rig.new) self }
+        ensures over { IfErr result (λ fault. IsTrue (seen D.state rig.old).device.told
+            → BatchOver self.calls (seen D.state rig.old) self fault) }
+    {
+        let Batch {
+            mut tree,
+            calls: _,
+            syncs: _,
+            early: _,
+            load,
+        } = self;
+        give_back(rig, load);
+        match keep_pairs(rig, &mut tree) {
+            Ok(()) => Ok(tree),
+            Err(fault) => {
+                tree.abandon(rig);
                 Err(fault)
             }
         }

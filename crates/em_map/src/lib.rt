@@ -2,6 +2,7 @@
 #![tactic(auto)]
 
 mod batch;
+mod handing;
 mod loading;
 
 pub use batch::Batch;

@@ -2,6 +2,7 @@ pub mod AnswerLaws
 pub mod Ascending
 pub mod LiveLaws
 pub mod MapLaws
+pub mod PairLaws
 pub mod QueueLaws
 pub mod Ordered
 mod Rows

@@ -103,7 +103,7 @@ live_key apply key before (Pop ∷ cs) e h = live_key apply key before cs e h
 live_key apply key before (Interval low high ∷ cs) e h = live_key apply key before cs e h
 live_key apply key before (Stab point ∷ cs) e h = live_key apply key before cs e h
 
-set_live : (apply : Combiner) (cs : List Command) (key : ℕ) → (state_after apply no_keys cs key ≡ None → ⊥)
+pub set_live : (apply : Combiner) (cs : List Command) (key : ℕ) → (state_after apply no_keys cs key ≡ None → ⊥)
     → IsOneOf key (live_keys cs)
 set_live apply cs key h = ⊎_elim
     (λ (t : changes_key key cs ≡ true).
@@ -123,7 +123,7 @@ abbrev without : ℕ → List ℕ → List ℕ
 without l [] = []
 without l (k ∷ ks) = cond (k == l) (without l ks) (k ∷ without l ks)
 
-rises_less : (m n : ℕ) (ks : List ℕ) → m ≤ n → RisesFrom n ks → RisesFrom m ks
+pub rises_less : (m n : ℕ) (ks : List ℕ) → m ≤ n → RisesFrom n ks → RisesFrom m ks
 rises_less m n [] h r = tt
 rises_less m n (k ∷ ks) h (first, rest) = (omega (arith, h, first), rest)
 

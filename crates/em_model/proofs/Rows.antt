@@ -6,6 +6,7 @@ use Rattle.em_model.specs.Map.{Combiner, map_answers}
 use Rattle.em_model.specs.Queue.{queue_answers}
 use Rattle.em_model.specs.Stab.{stab_answers}
 use Rattle.em_model.specs.MapAnswers.{answer_record, answers_after}
+use Rattle.em_model.specs.Pairs.{pairs_after}
 use Rattle.em_model.specs.StabAnswers.{pair_record, stab_pairs}
 use Rattle.em_model.specs.Sync.{since_sync, synced_answers, syncs_of, up_to_sync}
 
@@ -70,6 +71,32 @@ live_after_five = refl
 -- so has one to which a value is added, even after a del
 live_after_adds : live_keys (Add 1 5 ∷ Del 2 ∷ Add 2 6 ∷ Add 1 7 ∷ Add 3 8 ∷ Del 3 ∷ []) ≡ 2 ∷ 1 ∷ []
 live_after_adds = refl
+
+-- keys ascend whatever the order of the puts; the last put of a key counts, and a del takes its key away
+pairs_of_three : pairs_after no_adds (Put 3 1 ∷ Put 1 2 ∷ Put 2 9 ∷ Del 2 ∷ []) ≡ (1, 2) ∷ (3, 1) ∷ []
+pairs_of_three = refl
+
+-- a key that is cleared and put again has its later value, and stands once
+pairs_put_again :
+    pairs_after no_adds (Put 7 1 ∷ Del 7 ∷ Put 5 2 ∷ Put 7 3 ∷ Put 7 4 ∷ Get 7 ∷ Sync ∷ []) ≡ (5, 2) ∷ (7, 4) ∷ []
+pairs_put_again = refl
+
+-- an add joins its value to that of its key, the old one first; alone where the key has none
+pairs_of_adds : (apply : Combiner)
+    → pairs_after apply (Add 9 1 ∷ Put 4 9 ∷ Add 4 2 ∷ Del 9 ∷ Add 9 5 ∷ Add 4 3 ∷ [])
+    ≡ (4, apply (apply 9 2) 3) ∷ (9, 5) ∷ []
+pairs_of_adds apply = refl
+
+-- the ends of the range are keys, and zero is a value
+pairs_of_the_ends : pairs_after no_adds (Put 18446744073709551615 8 ∷ Put 0 0 ∷ []) ≡ (0, 0) ∷ (18446744073709551615, 8) ∷ []
+pairs_of_the_ends = refl
+
+-- a map that was emptied has no pair, and one of no put neither
+no_pairs_left : pairs_after no_adds (Put 1 5 ∷ Sync ∷ Del 1 ∷ Get 1 ∷ []) ≡ []
+no_pairs_left = refl
+
+no_pairs_of_others : pairs_after no_adds (Push 5 1 ∷ Interval 5 5 ∷ Get 5 ∷ Pop ∷ Stab 5 ∷ Del 5 ∷ []) ≡ []
+no_pairs_of_others = refl
 
 -- elements of one key leave in the order of their pushes, whatever their values
 queue_of_one_key :

@@ -2,6 +2,7 @@ pub mod Ascending
 pub mod Live
 pub mod Map
 pub mod MapAnswers
+pub mod Pairs
 pub mod Queue
 pub mod Stab
 pub mod StabAnswers

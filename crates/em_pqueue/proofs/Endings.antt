@@ -26,9 +26,9 @@ use Rattle.em_tree_model.specs.Meaning.{tree_answers}
 use Rattle.em_tree_model.specs.Tree.{stored_in, waiting_in}
 use Rattle.em_tree.specs.Calls.{FinishCosts, FinishedTrunk, StopsFinishing}
 use Rattle.em_trunk.specs.Trunk.{TrunkHasFrames, given_by, model_of, trunk_blocks, trunk_unstored}
-use Rattle.em_trunk.specs.Trunk as trunks
 use Rattle.em_trunk.specs.declared.trunk.Trunk.{Trunk}
 use Rattle.em_trunk.proofs.Stays.{TrunkStays, trunk_stays}
+use Rattle.em_pqueue.specs.QueueLaws.{shown_share}
 use Rattle.em_pqueue.specs.ExtQueue.{AnyItem, IsExtQueue, counts_of, half_of, queue_blocks, trunk_of}
 use Rattle.em_pqueue.specs.declared.queue.ExtQueue.{ExtQueue}
 use Rattle.em_pqueue.proofs.Items.{bag_answers_none}
@@ -205,21 +205,14 @@ module _ (s a : RigState) (q : ExtQueue) (i : IsExtQueue s q) (g : GaveArea s a)
   share_left t c told =
       let st = i.stands in
       let n = st.shown in
-      let P : ShapeNumbers → Type 0 = λ x. q.tree.trunk.spent + (t.moves - a.moves)
-      ≤ tree_share x (trunks.counts_of (trunk_of q)).n (trunks.counts_of (trunk_of q)).k
-      (trunks.counts_of (trunk_of q)).z ((trunks.counts_of (trunk_of q)).y + 1) in
+      let v = trunk_of q in
+      let m = v.spent + (t.moves - a.moves) in
+      let P : ShapeNumbers → Type 0 = λ x. m ≤ tree_share x (v.pushed + v.counted) v.longest v.resets (v.settled + 1) in
       let w = subst P g.touches.shape (c.share (g.touches.told ∙ told)).within in
-      let m = q.tree.trunk.spent + (t.moves - a.moves) in
-      let v = trunks.counts_of (trunk_of q) in
-      let A : ℕ → Type 0 = λ x. m ≤ tree_share s.pool.shape x v.k v.z (v.y + 1) in
-      let B : ℕ → Type 0 = λ x. m ≤ tree_share s.pool.shape st.numbers.tree_n x v.z (v.y + 1) in
-      let C : ℕ → Type 0 = λ x. m ≤ tree_share s.pool.shape st.numbers.tree_n st.numbers.tree_k x (v.y + 1) in
-      let D : ℕ → Type 0 = λ x. m
-      ≤ tree_share s.pool.shape st.numbers.tree_n st.numbers.tree_k st.numbers.z (x + 1) in
       let E : ℕ → Type 0 = λ x. m ≤ queue_share s.pool.shape x st.numbers.k in
       let F : ℕ → Type 0 = λ x. m ≤ queue_share s.pool.shape q.calls x in
-      let z : m ≤ tree_share s.pool.shape st.numbers.tree_n st.numbers.tree_k st.numbers.z 1 =
-      subst D n.unsettled (subst C (sym n.resets) (subst B (sym n.tree_longest) (subst A (sym n.pushed) w))) in
+      let z = shown_share s.pool.shape st.numbers q m (v.settled + 1) 1 n
+      st.tree.running.numbers.counted_most w (omega arith) in
       subst F n.longest (subst E n.calls (queue_within s.pool.shape (half_of s.pool.shape) m 1
       st.numbers st.shape st.fits (omega arith) (omega arith) z))
 

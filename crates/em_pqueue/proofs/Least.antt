@@ -64,6 +64,7 @@ module _ (s : RigState) (q w : ExtQueue) (item : Option Record) (st : Stands aft
         tree_since = i ∙ (n.tree_since ∙ sym (still (λ v. (trunks.counts_of v).since)));
         resets = j ∙ (n.resets ∙ sym (still (λ v. (trunks.counts_of v).z)));
         unsettled = still (λ v. (trunks.counts_of v).y) ∙ n.unsettled;
+        none_adopted = still (λ v. (trunks.counts_of v).adopted) ∙ n.none_adopted;
       }
 
   -- the numbers afterwards

@@ -117,6 +117,7 @@ module _ (s m t : RigState) (area : List Record) (q : ExtQueue) (old : Sound s) 
         tree_since = sym (counts (λ c. c.since));
         resets = sym (counts (λ c. c.z));
         unsettled = counts (λ c. c.y);
+        none_adopted = counts (λ c. c.adopted);
       };
       fits = queue_new (load_of t.pool.shape) (half_of t.pool.shape);
       some = λ x. absurd (omega (arith, x, over.in_tree));

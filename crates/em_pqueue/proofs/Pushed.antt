@@ -76,6 +76,8 @@ one_more q w c = record {
   since = ap (λ (x : TreeCounts). x.since) c.counts;
   resets = ap (λ (x : TreeCounts). x.z) c.counts;
   unsettled = ap (λ (x : TreeCounts). x.y) c.counts;
+  adopted = ap (λ (x : TreeCounts). x.adopted) c.counts;
+  counted = ap (λ (x : TreeCounts). x.counted) c.counts;
 }
 
 -- One record was pushed.
@@ -133,6 +135,8 @@ pushed_none s q sound i = record {
     since = omega arith;
     resets = refl;
     unsettled = refl;
+    adopted = refl;
+    counted = refl;
   };
   items = λ told. refl;
   given = λ told none. none;
@@ -149,6 +153,8 @@ counts_then m n k e h g = record {
   since = omega (arith, e, h.since, g.since);
   resets = g.resets ∙ h.resets;
   unsettled = g.unsettled ∙ h.unsettled;
+  adopted = g.adopted ∙ h.adopted;
+  counted = g.counted ∙ h.counted;
 }
 
 length_push : (xs : List Record) (x : Record) → length xs + 1 ≡ length (xs ++ x ∷ [])

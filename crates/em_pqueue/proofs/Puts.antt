@@ -85,6 +85,7 @@ module _ (s : RigState) (q : ExtQueue) (item : Record) (st : Stands after_call s
             tree_since = omega (arith, n.tree_since, c.since);
             resets = n.resets ∙ sym c.resets;
             unsettled = c.unsettled ∙ n.unsettled;
+            none_adopted = c.adopted ∙ n.none_adopted;
           };
           fits = subst F (sym goes.shape) fits;
           some = λ z. omega (arith, c.since);
@@ -146,6 +147,7 @@ module _ (s : RigState) (q : ExtQueue) (item : Record) (st : Stands after_call s
               (trunks.counts_of (trunk_of w)) w.calls w.longest st.shape fits
               (omega (arith, c.pushed, n.pushed)) (omega (arith, c.longest, n.tree_longest, n.tree_since))
               (c.resets ∙ sym n.resets) (c.unsettled ∙ n.unsettled)
+              (omega (arith, c.counted, n.none_adopted, st.tree.running.numbers.counted_most))
               (omega (arith, same.calls, n.calls)) (omega (arith, same.longest, n.longest))
               (p.share told));
           pays = p.pays;
@@ -207,6 +209,7 @@ module _ (s : RigState) (q : ExtQueue) (item : Record) (st : Stands after_call s
             tree_since = n.tree_since;
             resets = n.resets;
             unsettled = n.unsettled;
+            none_adopted = n.none_adopted;
           };
           fits = queue_heap_push (load_of s.pool.shape) (half_of s.pool.shape) st.numbers st.fits
               (omega (arith, n.heap, room, st.area));

@@ -19,7 +19,7 @@ use Rattle.em_space.specs.Rig.{Cause, Goes, RigState, Sound}
 use Rattle.em_space.specs.declared.fault.EmFault.{EmFault}
 use Rattle.em_space.proofs.Paying.{pays_more}
 use Rattle.em_space.proofs.Steps.{untold_by}
-use Rattle.em_tree_cost.specs.Books.{TreeCounts, count_drain}
+use Rattle.em_tree_cost.specs.Books.{TreeCounts, count_all, count_drain}
 use Rattle.em_tree_cost.specs.ExtQueue.{ExtQueueCounts, ExtQueueFits, after_call, after_last_refill, after_refill}
 use Rattle.em_tree_cost.proofs.ExtQueue.{pushes_most, queue_last_refill, queue_refill}
 use Rattle.em_tree.specs.Calls.{CountsCall, StopsTrunk}
@@ -88,6 +88,7 @@ pub record TreeKept (c d : TreeCounts) : Type 0 where
   pub since : d.since ≡ c.since
   pub resets : d.z ≡ c.z
   pub unsettled : d.y ≡ c.y
+  pub adopted : d.adopted ≡ c.adopted
 
 pub record TreeReset (c d : TreeCounts) : Type 0 where
   pub pushed : d.n ≡ c.n
@@ -95,6 +96,7 @@ pub record TreeReset (c d : TreeCounts) : Type 0 where
   pub since : d.since ≡ 0
   pub resets : d.z ≡ c.z + 1
   pub unsettled : d.y ≡ c.y
+  pub adopted : d.adopted ≡ c.adopted
 
 -- The tree took records out, into the area of the heap: w is the queue with that tree and that heap.
 pub record TookInto (q w : ExtQueue) (area : List Record) : Type 0 where
@@ -141,7 +143,7 @@ module _ (s t : RigState) (q w : ExtQueue) (area : List Record) (st : Stands aft
 
   -- The call of the tree was refused.
   pub take_stops : (f : EmFault) → StopsTrunk s t (trunk_of q) (trunk_of w) f
-      → CountsCall (λ c. c) s t (trunk_of q) (trunk_of w)
+      → CountsCall count_all s t (trunk_of q) (trunk_of w)
       → (IsTrue s.device.told → WithinRoom q.tree.trunk.longest s t (trunk_of q))
       → (IsTrue s.device.told → FullOverRoom q.tree.trunk.longest s (trunk_of q) f) → Stops s t q w f
   take_stops f h c room over =
@@ -156,6 +158,7 @@ module _ (s t : RigState) (q w : ExtQueue) (area : List Record) (st : Stands aft
             (omega (arith, n.tree_longest, ap (λ (x : TreeCounts). x.k) e))
             (ap (λ (x : TreeCounts). x.z) e ∙ sym n.resets)
             (ap (λ (x : TreeCounts). x.y) e ∙ n.unsettled)
+            (ap (λ (x : TreeCounts). x.counted) e ∙ n.none_adopted)
             (omega (arith, same_in.calls, n.calls)) (omega (arith, same_in.longest, n.longest))
             (c.share told));
         pays = h.pays;
@@ -168,8 +171,8 @@ module _ (s t : RigState) (q w : ExtQueue) (area : List Record) (st : Stands aft
 
   module _ (n : ℕ)
       (took : TookFirst bag_key_of bag_step_of AnyItem AnyItem area n s t (trunk_of q) (trunk_of w))
-      (counts : CountsCall (λ c. c) s t (trunk_of q) (trunk_of w)
-      ⊎ CountsCall (count_drain 0) s t (trunk_of q) (trunk_of w))
+      (counts : CountsCall count_all s t (trunk_of q) (trunk_of w)
+      ⊎ CountsCall (λ c. count_drain 0 (count_all c)) s t (trunk_of q) (trunk_of w))
       (room : IsTrue s.device.told → WithinRoom q.tree.trunk.longest s t (trunk_of q)) where
     abbrev before : TreeCounts
     before = trunks.counts_of (trunk_of q)
@@ -186,26 +189,28 @@ module _ (s t : RigState) (q w : ExtQueue) (area : List Record) (st : Stands aft
 
     counted : TreeKept before after ⊎ TreeReset before after
     counted = ⊎_elim
-        (λ (c : CountsCall (λ c. c) s t (trunk_of q) (trunk_of w)). inl (record {
+        (λ (c : CountsCall count_all s t (trunk_of q) (trunk_of w)). inl (record {
           pushed = ap (λ (x : TreeCounts). x.n) c.counts;
           longest = ap (λ (x : TreeCounts). x.k) c.counts;
           since = ap (λ (x : TreeCounts). x.since) c.counts;
           resets = ap (λ (x : TreeCounts). x.z) c.counts;
           unsettled = ap (λ (x : TreeCounts). x.y) c.counts;
+          adopted = ap (λ (x : TreeCounts). x.adopted) c.counts;
         }))
-        (λ (c : CountsCall (count_drain 0) s t (trunk_of q) (trunk_of w)). inr (record {
+        (λ (c : CountsCall (λ c. count_drain 0 (count_all c)) s t (trunk_of q) (trunk_of w)). inr (record {
           pushed = ap (λ (x : TreeCounts). x.n) c.counts;
           longest = ap (λ (x : TreeCounts). x.k) c.counts;
           since = ap (λ (x : TreeCounts). x.since) c.counts;
           resets = ap (λ (x : TreeCounts). x.z) c.counts;
           unsettled = ap (λ (x : TreeCounts). x.y) c.counts;
+          adopted = ap (λ (x : TreeCounts). x.adopted) c.counts;
         }))
         counts
 
     spent : w.tree.trunk.spent + s.moves ≡ q.tree.trunk.spent + t.moves
     spent = ⊎_elim
-        (λ (c : CountsCall (λ c. c) s t (trunk_of q) (trunk_of w)). c.spent)
-        (λ (c : CountsCall (count_drain 0) s t (trunk_of q) (trunk_of w)). c.spent)
+        (λ (c : CountsCall count_all s t (trunk_of q) (trunk_of w)). c.spent)
+        (λ (c : CountsCall (λ c. count_drain 0 (count_all c)) s t (trunk_of q) (trunk_of w)). c.spent)
         counts
 
     taken_long : length (take n area) ≡ n
@@ -345,8 +350,8 @@ module _ (s t : RigState) (q w : ExtQueue) (area : List Record) (st : Stands aft
       shows : (m : ExtQueueCounts) → m.n ≡ st.numbers.n → m.k ≡ st.numbers.k
           → m.since ≡ st.numbers.since → m.heap ≡ n → m.tree_len ≡ z.in_tree
           → m.tree_n ≡ after.n → m.tree_k ≡ after.k → m.tree_since ≡ after.since
-          → m.z ≡ after.z → after.y ≡ 0 → Shows (after_call m) z
-      shows m a b c h l d e f g y =
+          → m.z ≡ after.z → after.y ≡ 0 → after.adopted ≡ 0 → Shows (after_call m) z
+      shows m a b c h l d e f g y none =
           let k = st.shown in
           record {
             calls = omega (arith, a, k.calls, same_in.calls, same_over.calls);
@@ -359,6 +364,7 @@ module _ (s t : RigState) (q w : ExtQueue) (area : List Record) (st : Stands aft
             tree_since = f ∙ sym (ap (λ v. (trunks.counts_of v).since) tree_is);
             resets = g ∙ sym (ap (λ v. (trunks.counts_of v).z) tree_is);
             unsettled = ap (λ v. (trunks.counts_of v).y) tree_is ∙ y;
+            none_adopted = ap (λ v. (trunks.counts_of v).adopted) tree_is ∙ none;
           }
 
       numbers_kept : TreeKept before after → Numbers
@@ -378,7 +384,7 @@ module _ (s t : RigState) (q w : ExtQueue) (area : List Record) (st : Stands aft
             shown = shows (after_refill n st.numbers) refl refl refl refl
                 (omega (arith, n0.in_tree, left_is)) (n0.pushed ∙ sym k.pushed)
                 (n0.tree_longest ∙ sym k.longest) (n0.tree_since ∙ sym k.since)
-                (n0.resets ∙ sym k.resets) (k.unsettled ∙ n0.unsettled);
+                (n0.resets ∙ sym k.resets) (k.unsettled ∙ n0.unsettled) (k.adopted ∙ n0.none_adopted);
             fits = queue_refill (load_of s.pool.shape) (half_of s.pool.shape) st.numbers st.fits n
                 (omega (arith, n0.heap, out.empty)) fewer within_load;
             some = λ h. omega (arith, k.since, old);
@@ -394,7 +400,7 @@ module _ (s t : RigState) (q w : ExtQueue) (area : List Record) (st : Stands aft
             shown = shows (after_last_refill n st.numbers) refl refl refl refl
                 (omega (arith, all, it, left_is)) (n0.pushed ∙ sym k.pushed)
                 (n0.tree_longest ∙ sym k.longest) (sym k.since)
-                (omega (arith, n0.resets, k.resets)) (k.unsettled ∙ n0.unsettled);
+                (omega (arith, n0.resets, k.resets)) (k.unsettled ∙ n0.unsettled) (k.adopted ∙ n0.none_adopted);
             fits = queue_last_refill (load_of s.pool.shape) (half_of s.pool.shape) st.numbers st.fits
                 n (omega (arith, n0.heap, out.empty)) (omega (arith, n0.in_tree, out.some)) within_load;
             some = λ h. absurd (omega (arith, h, all, it, left_is));

@@ -45,6 +45,7 @@ call_counted s q st =
         tree_since = n.tree_since;
         resets = n.resets;
         unsettled = n.unsettled;
+        none_adopted = n.none_adopted;
       };
       fits = st.fits;
       some = st.some;
@@ -183,6 +184,7 @@ recounted counted s w b m l st =
         tree_since = n.tree_since;
         resets = n.resets;
         unsettled = n.unsettled;
+        none_adopted = n.none_adopted;
       };
       fits = st.fits;
       some = st.some;

@@ -33,10 +33,10 @@ tree_share_rises shape m n j k z y h i =
 -- A tree with at most these numbers, which fit, is within the share of its queue.
 pub share_by : (shape : ShapeNumbers) (n : ExtQueueCounts) (c : TreeCounts) (calls longest : ℕ)
     → IsShape shape → ExtQueueFits (load_of shape) (half_of shape) n → c.n ≤ n.tree_n
-    → c.k ≤ n.tree_k → c.z ≡ n.z → c.y ≡ 0 → n.n ≤ calls → n.k ≤ longest → KeepsShare shape c
+    → c.k ≤ n.tree_k → c.z ≡ n.z → c.y ≡ 0 → c.counted ≡ 0 → n.n ≤ calls → n.k ≤ longest → KeepsShare shape c
     → c.spent ≤ queue_share shape calls longest
-share_by shape n c calls longest is fits a b z y d e s =
-    let t = tree_share_rises shape c.n n.tree_n c.k n.tree_k c.z c.y a b in
+share_by shape n c calls longest is fits a b z y none d e s =
+    let t = tree_share_rises shape (c.n + c.counted) n.tree_n c.k n.tree_k c.z c.y (omega (arith, a, none)) b in
     let u : c.spent ≤ tree_share shape n.tree_n n.tree_k c.z c.y = omega (arith, s.within, t) in
     let Z : ℕ → Type 0 = λ x. c.spent ≤ tree_share shape n.tree_n n.tree_k x c.y in
     let Y : ℕ → Type 0 = λ x. c.spent ≤ tree_share shape n.tree_n n.tree_k n.z x in

@@ -148,6 +148,7 @@ module _ (s : RigState) (q : ExtQueue) (h : HeapState) (count : ℕ) (u : Record
           tree_since = omega (arith, n.tree_since, c.since, up.long, half_is);
           resets = n.resets ∙ sym c.resets;
           unsettled = c.unsettled ∙ n.unsettled;
+          none_adopted = c.adopted ∙ n.none_adopted;
         }
 
     items_are : IsTrue s.device.told
@@ -245,6 +246,7 @@ module _ (s : RigState) (q : ExtQueue) (h : HeapState) (count : ℕ) (u : Record
             (omega (arith, c.pushed, n.pushed, long, half_is))
             (omega (arith, c.longest, n.tree_longest, n.tree_since, long, half_is))
             (c.resets ∙ sym n.resets) (c.unsettled ∙ n.unsettled)
+            (omega (arith, c.counted, n.none_adopted, st.tree.running.numbers.counted_most))
             (omega (arith, same.calls, n.calls)) (omega (arith, same.longest, n.longest)) (p.share told));
         pays = p.pays;
         spent = p.spent;

@@ -85,6 +85,7 @@ pub record Shows (n : ExtQueueCounts) (q : ExtQueue) : Type 0 where
   pub tree_since : n.tree_since ≡ (trunks.counts_of (trunk_of q)).since
   pub resets : n.z ≡ (trunks.counts_of (trunk_of q)).z
   pub unsettled : (trunks.counts_of (trunk_of q)).y ≡ 0
+  pub none_adopted : (trunks.counts_of (trunk_of q)).adopted ≡ 0
 
 -- Over a device that tells: heap and tree are the two parts of the items, and the tree answered nothing.
 pub record PartsStand (s : RigState) (q : ExtQueue) : Type 0 where

@@ -16,7 +16,6 @@ use Rattle.em_tree_cost.proofs.ExtQueue.{queue_within}
 use Rattle.em_tree_cost.proofs.Rising.{queue_share_rises, tree_room_rises}
 use Rattle.em_tree_model.specs.Tree.{Tree}
 use Rattle.em_trunk.specs.Trunk.{TrunkHasFrames}
-use Rattle.em_trunk.specs.Trunk as trunks
 use Rattle.em_trunk.proofs.Stays.{TrunkReads, TrunkStays, trunk_stays}
 use Rattle.em_pqueue.specs.Ascending.{rising_ascends}
 use Rattle.em_pqueue.specs.ExtQueue.{AnyItem, ExtQueueHasFrames, HoldsFrames, IsExtQueue, PartsStand, Shows, counts_of, half_of, items_in_tree, queue_blocks, queue_items, trunk_of}
@@ -32,17 +31,19 @@ share_of shape n spent is fits h =
     queue_within shape (half_of shape) spent 0 n is fits (omega arith) (omega arith) h
 
 -- what a shown tree has spent, in these numbers
-pub shown_share : (shape : ShapeNumbers) (n : ExtQueueCounts) (q : ExtQueue) → Shows n q
-    → q.tree.trunk.spent ≤ tree_share shape (trunks.counts_of (trunk_of q)).n
-    (trunks.counts_of (trunk_of q)).k (trunks.counts_of (trunk_of q)).z (trunks.counts_of (trunk_of q)).y
-    → q.tree.trunk.spent ≤ tree_share shape n.tree_n n.tree_k n.z 0
-shown_share shape n q h s =
-    let v = trunks.counts_of (trunk_of q) in
-    let A : ℕ → Type 0 = λ x. q.tree.trunk.spent ≤ tree_share shape x v.k v.z v.y in
-    let B : ℕ → Type 0 = λ x. q.tree.trunk.spent ≤ tree_share shape n.tree_n x v.z v.y in
-    let C : ℕ → Type 0 = λ x. q.tree.trunk.spent ≤ tree_share shape n.tree_n n.tree_k x v.y in
-    let D : ℕ → Type 0 = λ x. q.tree.trunk.spent ≤ tree_share shape n.tree_n n.tree_k n.z x in
-    subst D h.unsettled (subst C (sym h.resets) (subst B (sym h.tree_longest) (subst A (sym h.pushed) s)))
+pub shown_share : (shape : ShapeNumbers) (n : ExtQueueCounts) (q : ExtQueue) (spent y more : ℕ) → Shows n q
+    → q.tree.trunk.counted ≤ q.tree.trunk.adopted
+    → spent ≤ tree_share shape (q.tree.trunk.pushed + q.tree.trunk.counted) q.tree.trunk.longest
+    q.tree.trunk.resets y → y ≡ q.tree.trunk.settled + more
+    → spent ≤ tree_share shape n.tree_n n.tree_k n.z more
+shown_share shape n q spent y more h c s e =
+    let v = trunk_of q in
+    let A : ℕ → Type 0 = λ x. spent ≤ tree_share shape x v.longest v.resets y in
+    let B : ℕ → Type 0 = λ x. spent ≤ tree_share shape n.tree_n x v.resets y in
+    let C : ℕ → Type 0 = λ x. spent ≤ tree_share shape n.tree_n n.tree_k x y in
+    let D : ℕ → Type 0 = λ x. spent ≤ tree_share shape n.tree_n n.tree_k n.z x in
+    subst D (omega (arith, e, h.unsettled)) (subst C (sym h.resets) (subst B (sym h.tree_longest)
+    (subst A (omega (arith, c, h.none_adopted, h.pushed)) s)))
 
 pub frames_of : (q : ExtQueue) (s : RigState) → IsExtQueue s q → HoldsFrames s q
 frames_of q s i =
@@ -56,8 +57,9 @@ frames_of q s i =
       k_most = omega (arith, n.calls, n.longest, st.fits.k_most);
       since_most = omega (arith, n.since, n.longest, st.fits.since_most);
       share = λ told. rw (← n.calls, ← n.longest) (share_of s.pool.shape st.numbers q.tree.trunk.spent
-          st.shape st.fits (shown_share s.pool.shape st.numbers q n
-          (books_share st.shape (st.tree.books told))));
+          st.shape st.fits (shown_share s.pool.shape st.numbers q q.tree.trunk.spent
+          q.tree.trunk.settled 0 n st.tree.running.numbers.counted_most (books_share st.shape (st.tree.books told))
+          (omega arith)));
     } in
     record { has = has; fits = i.counts.fits }
 

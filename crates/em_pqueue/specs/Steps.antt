@@ -61,6 +61,8 @@ pub record PushesMore (n : ℕ) (c d : TreeCounts) : Type 0 where
   pub since : d.since ≡ c.since + n
   pub resets : d.z ≡ c.z
   pub unsettled : d.y ≡ c.y
+  pub adopted : d.adopted ≡ c.adopted
+  pub counted : d.counted ≡ c.counted
 
 -- These records went into the tree, one after another; nothing else changed.
 pub record PushedDown (xs : List Record) (s t : RigState) (q w : ExtQueue) : Type 0 where

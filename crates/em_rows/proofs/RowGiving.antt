@@ -17,6 +17,7 @@ use Rattle.em_chain.proofs.Sessions.{ceiling_rises}
 use Rattle.em_lines.specs.declared.text.FileKind.{FileKind}
 use Rattle.em_lines.specs.declared.text.FileKind.TheVariants as files
 use Rattle.em_ends.specs.declared.stop.Stop.{Stop}
+use Rattle.em_services.specs.DumpLaws.{pairs_records_few}
 use Rattle.em_services.specs.Service.{MakesService, RisesBySize, WithinAllowance, records_for, size_of}
 use Rattle.em_services.specs.SizeLaws.{size_rises}
 use Rattle.em_services.specs.declared.service.Service.{Ghosts as ServiceGhosts}
@@ -48,6 +49,7 @@ records_most : (apply : Combiner) (kind : FileKind) (cs : List Command)
 records_most apply files.Map cs = records_few apply [] cs
 records_most apply files.Queue cs = omega arith
 records_most apply files.Stab cs = omega arith
+records_most apply files.Dump cs = pairs_records_few apply cs
 
 -- whose list is packed.
 pub records_blocks : (apply : Combiner) (kind : FileKind) (cs : List Command) (s t : RigState) (c : Chain)

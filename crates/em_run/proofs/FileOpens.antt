@@ -60,7 +60,7 @@ ended_as {took} apply early tells kind x y shape blocks old mid new status devic
 -- So are the most blocks that it had in use.
 pub most_as : (apply : Combiner) (early tells : Bool) (kind : FileKind) (x y : List ℕ) (s t : RigState) (slots : Slot → SlotState)
     → Touches [] s t → (IsTrue tells → x ≡ y)
-    → KeepsTextRoom by_cost.room tells kind x (slots First).left t
+    → KeepsTextRoom (by_cost kind).room tells kind x (slots First).left t
     → KeepsRoom (asked_of_file apply early kind y) tells s t slots
 most_as apply early tells kind x y s t slots touches e most = λ z d.
     let few : t.most ≤ room t.pool.shape (run_size kind x (slots First).left) = most z (touches.told ∙ d) in

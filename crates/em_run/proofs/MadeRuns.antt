@@ -22,7 +22,7 @@ use Rattle.em_run.specs.Origin.{UnlessSummed, asked_on}
 use Rattle.em_words.specs.declared.job.Origin.TheVariants.{Made}
 use Rattle.em_words.specs.declared.job.Task.{Task}
 use Rattle.em_words.specs.declared.job.Task.TheVariants.{Answer, Eval}
-use Rattle.em_lines.specs.declared.text.FileKind.TheVariants.{Map, Queue, Stab}
+use Rattle.em_lines.specs.declared.text.FileKind.TheVariants.{Map, Queue, Stab, Dump}
 use Rattle.em_ends.specs.declared.status.Status.{Status}
 use Rattle.em_ends.specs.declared.status.Status.TheVariants.{Done, Malformed, ReadFault, WriteFault, DeviceFault, Full, NoMemory, Damaged}
 use Rattle.em_ends.specs.declared.status.Status.TheVariants as status
@@ -59,6 +59,7 @@ asked_made : (task : Task) (start count : ℕ)
 asked_made (Answer Map combine early) start count = refl
 asked_made (Answer Queue combine early) start count = refl
 asked_made (Answer Stab combine early) start count = refl
+asked_made (Answer Dump combine early) start count = refl
 asked_made (Eval uninit wide) start count = refl
 
 -- the outside of the task's run: the shelf and the tally never fail

@@ -3,7 +3,6 @@
 use Rattle.std.proofs.Common.{IfSome, ◌*◌, ◌+◌, ℕ, zero, suc, ◌-◌, ◌≤◌, Bool, true, false, cond, List, [], ◌∷◌, length, take, arith, Option}
 use Rattle.std.specs.List.{sum_by}
 use Rattle.std.proofs.lemmas.List.Sums.{sum_by-append}
-use Rattle.em_record.specs.Cost.{cost}
 use Rattle.em_record.specs.Shape.{ShapeNumbers}
 use Rattle.em_chain.proofs.Sessions.{ceiling_rises}
 use Rattle.em_io.specs.Shelf.{SlotState}
@@ -22,14 +21,14 @@ use Rattle.em_lines.specs.CommandLine.{good_commands}
 use Rattle.em_eval.specs.EvalSize.{circuit_read, eval_cost, given_of, passes_read, rounds_of, steps_after, steps_read}
 use Rattle.em_run.specs.Made.{read_whole}
 use Rattle.em_lines.specs.RunSize.{commands_taken, run_size}
-use Rattle.em_answers.specs.Limits.{moves_size, syncs_in}
+use Rattle.em_answers.specs.Limits.{cost_for, moves_size, syncs_in}
 use Rattle.em_answers.proofs.Sizes.{map_rises}
 use Rattle.em_model.proofs.SyncLaws.{syncs-take}
 use Rattle.std.proofs.Math.Nat.{mul-le-mul}
 use Rattle.em_words.specs.declared.job.Task.{Task}
 use Rattle.em_words.specs.declared.job.Task.TheVariants.{Answer, Eval}
 use Rattle.em_lines.specs.declared.text.FileKind.{FileKind}
-use Rattle.em_lines.specs.declared.text.FileKind.TheVariants.{Map, Queue, Stab}
+use Rattle.em_lines.specs.declared.text.FileKind.TheVariants.{Map, Queue, Stab, Dump}
 use Rattle.em_eval.proofs.EvalCosts.{eval_cost_rises}
 use Rattle.em_eval.proofs.EvalRoom.{eval_room_rises}
 use Rattle.em_lines.proofs.ReadLaws.{within_grows}
@@ -63,6 +62,7 @@ size_rises : (kind : FileKind) (text left less : List ℕ) → length less ≤ l
     → run_size kind text left ≤ run_size kind text less
 size_rises Map text left less h = taken_rises Map text left less h
 size_rises Queue text left less h = taken_rises Queue text left less h
+size_rises Dump text left less h = taken_rises Dump text left less h
 size_rises Stab text left less h =
     let taken = taken_rises Stab text left less h in
     let pairs = pairs_rise [] (good_commands Stab text) (commands_taken Stab text left)
@@ -90,6 +90,8 @@ syncs_rise : (kind : FileKind) (text left less : List ℕ) → length less ≤ l
     → syncs_in kind text left ≤ syncs_in kind text less
 syncs_rise Map text left less h = syncs-take (commands_taken Map text left) (commands_taken Map text less)
     (good_commands Map text) (taken_rises Map text left less h)
+syncs_rise Dump text left less h = syncs-take (commands_taken Dump text left) (commands_taken Dump text less)
+    (good_commands Dump text) (taken_rises Dump text left less h)
 syncs_rise Queue text left less h = omega arith
 syncs_rise Stab text left less h = omega arith
 
@@ -98,19 +100,28 @@ moved_rises : (kind : FileKind) (early : Bool) (shape : ShapeNumbers) (text left
     → length less ≤ length left → moves_size kind early shape text left ≤ moves_size kind early shape text less
 moved_rises Map early shape text left less h = map_rises early shape text left less (taken_rises Map text left less h)
 moved_rises Queue early shape text left less h = size_rises Queue text left less h
+moved_rises Dump early shape text left less h = size_rises Dump text left less h
 moved_rises Stab early shape text left less h = size_rises Stab text left less h
 
--- the transfer cost of a whole file is no less
+-- the transfer cost of no fewer commands is no less
+cost_for_rises : (kind : FileKind) (shape : ShapeNumbers) (few many : ℕ) → few ≤ many
+    → cost_for kind shape few ≤ cost_for kind shape many
+cost_for_rises Map shape few many h = cost_rises shape few many h
+cost_for_rises Queue shape few many h = cost_rises shape few many h
+cost_for_rises Stab shape few many h = cost_rises shape few many h
+cost_for_rises Dump shape few many h = omega (arith, cost_rises shape few many h)
+
+-- nor is that of a whole file
 file_rises : (kind : FileKind) (early : Bool) (shape : ShapeNumbers) (text left : List ℕ)
-    → (syncs_in kind text left + 1) * cost shape (moves_size kind early shape text left)
-    ≤ (syncs_in kind text [] + 1) * cost shape (moves_size kind early shape text [])
+    → (syncs_in kind text left + 1) * cost_for kind shape (moves_size kind early shape text left)
+    ≤ (syncs_in kind text [] + 1) * cost_for kind shape (moves_size kind early shape text [])
 file_rises kind early shape text left =
     let few = moves_size kind early shape text left in
     let many = moves_size kind early shape text [] in
-    let more = cost_rises shape few many (moved_rises kind early shape text left [] (omega arith)) in
+    let more = cost_for_rises kind shape few many (moved_rises kind early shape text left [] (omega arith)) in
     let syncs = syncs_rise kind text left [] (omega arith) in
-    mul-le-mul {n₁ = syncs_in kind text left + 1} {m₁ = cost shape few}
-    {n₂ = syncs_in kind text [] + 1} {m₂ = cost shape many} (omega (arith, syncs)) more
+    mul-le-mul {n₁ = syncs_in kind text left + 1} {m₁ = cost_for kind shape few}
+    {n₂ = syncs_in kind text [] + 1} {m₂ = cost_for kind shape many} (omega (arith, syncs)) more
 
 -- more steps take no fewer rounds
 more_rounds : (wide : Bool) (few many : ℕ) → few ≤ many → rounds_of wide few ≤ rounds_of wide many

@@ -13,13 +13,14 @@ use Rattle.em_words.specs.declared.job.Task.{Task}
 use Rattle.em_words.specs.declared.job.Task.TheVariants.{Answer, Eval}
 use Rattle.em_ends.specs.declared.status.Status.{Status}
 use Rattle.em_ends.specs.declared.status.Status.TheVariants.{Done}
-use Rattle.em_lines.specs.declared.text.FileKind.TheVariants.{Map, Queue, Stab}
+use Rattle.em_lines.specs.declared.text.FileKind.TheVariants.{Map, Queue, Stab, Dump}
 
--- the kind of the texts that are made for a task
+-- the kind of the texts that are made for a task; no words ask for made texts of a dump, which would be those of a map
 abbrev pub kind_for : Task → GenKind
 kind_for (Answer Map combine early) = gen.Map
 kind_for (Answer Queue combine early) = gen.Queue
 kind_for (Answer Stab combine early) = gen.Stab
+kind_for (Answer Dump combine early) = gen.Map
 kind_for (Eval uninit wide) = gen.Eval
 
 -- the texts that are made for a task, by slot

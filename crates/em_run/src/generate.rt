@@ -21,13 +21,13 @@ use em_record::Failed;
 use em_space::Rig;
 use em_words::{Task, task_name};
 
-/// The kind of the texts that are made for a task.
+/// The kind of the texts that are made for a task. For a dump none are made; it would have those of a map.
 fn kind_for(task: Task) -> GenKind
     ensures { result ≡ kind_for task }
 {
     match task {
         Task::Answer {
-            kind: FileKind::Map,
+            kind: FileKind::Map | FileKind::Dump,
             ..
         } => GenKind::Map,
         Task::Answer {

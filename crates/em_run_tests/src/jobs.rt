@@ -137,6 +137,26 @@ fn adds_joined_early_take_few_blocks(rt: HostRuntime) -> Result<(), Fail> {
     Ok(())
 }
 
+/// 2,000 commands fill 16 blocks, which are divided by the fan-out 16 once until one is left: their room at this shape is
+/// 96 * 17 + 2 * 64 * 4 = 2144. Leaf, root and a block of commands are in use at once.
+#[test]
+fn a_map_is_dumped_in_its_room(rt: HostRuntime) -> Result<(), Fail> {
+    let mut text = Vec::new(rt.alloc());
+    for _ in 0..1000 {
+        for byte in b"put 9 1\nput 3 2\n" {
+            text.push(*byte)?;
+        }
+    }
+    let words = "dump --block=128 --frames=64 --blocks=2144 a";
+    let Some((done, out, most)) = run_words(&rt, words, &text, b"")? else {
+        return Ok(assert!(rt; false, "these words name a job"));
+    };
+    assert!(rt; done);
+    assert!(rt; out.bytes() == b"3 2\n9 1\n".as_slice());
+    assert!(rt; most >= 3 && most <= 2144, "{most} blocks");
+    Ok(())
+}
+
 /// Words that name no job run none.
 #[test]
 fn no_job_is_run_for_other_words(rt: HostRuntime) -> Result<(), Fail> {

@@ -9,6 +9,11 @@ pub both_still : {T E : Type 0} (Is Ready : Type 0) (result : Result T E) → On
 both_still Is Ready (Ok x) is ready = (is, ready)
 both_still Is Ready (Err fault) is ready = tt
 
+pub all_still : {T E : Type 0} (Is Ready Plain : Type 0) (result : Result T E) → OnOk result Is → Ready → Plain
+    → OnOk result (Is × Ready × Plain)
+all_still Is Ready Plain (Ok x) is ready plain = (is, ready, plain)
+all_still Is Ready Plain (Err fault) is ready plain = tt
+
 -- What holds anyway, also if a call answered Ok.
 pub ok_still : {T E : Type 0} (Is : Type 0) (result : Result T E) → Is → OnOk result Is
 ok_still Is (Ok x) is = is

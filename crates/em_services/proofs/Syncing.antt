@@ -1,21 +1,18 @@
 -- A sync of a batch, and its answers in order.
-use Rattle.std.proofs.Common.{◌≡◌, ℕ, ◌+◌, ◌*◌, ◌≤◌, ◌<◌, List, [], ◌∷◌, ◌++◌, length, length-append, ap, sym, subst, refl, ◌∙◌, arith, IsTrue, Some, Result, Ok, Err, OnOk, OnErr, IfOk, IfErr}
+use Rattle.std.proofs.Common.{◌≡◌, ℕ, ◌+◌, ◌*◌, ◌≤◌, ◌<◌, List, [], ◌∷◌, ◌++◌, length, ap, sym, refl, ◌∙◌, arith, IsTrue, Some, Result, Ok, Err, OnOk, OnErr, IfOk, IfErr}
 use Rattle.em_record.specs.Cost.{room}
 use Rattle.em_record.proofs.Order.{length_order}
 use Rattle.em_record.specs.Shape.{ShapeNumbers, fan_of, payload_of}
 use Rattle.em_record.specs.declared.record.Record.{Record}
-use Rattle.em_frames.specs.Pool.{SameFrames, singles_of}
 use Rattle.em_model.specs.MapAnswers.{answers_after}
 use Rattle.em_model.specs.declared.command.Command.{Command}
 use Rattle.em_model.specs.declared.command.Command.TheVariants.{Sync}
 use Rattle.em_space.specs.Queue.{Pays}
-use Rattle.em_space.specs.Rig.{Cause, RigState, Sound, Touches}
+use Rattle.em_space.specs.Rig.{Cause, Goes, RigState, Sound}
 use Rattle.em_space.specs.declared.fault.EmFault.{EmFault}
 use Rattle.em_space.proofs.Paying.{pays_more, pays_then}
-use Rattle.em_space.proofs.Sessions.{session_as, session_others, session_then}
+use Rattle.em_space.proofs.Sessions.{session_as, session_then}
 use Rattle.em_space.proofs.Steps.{cause_after}
-use Rattle.em_space.proofs.Apart.{off_left}
-use Rattle.em_space.proofs.Within.{touches_within}
 use Rattle.em_chain.specs.Chain.{chain_blocks, chain_items}
 use Rattle.em_chain.specs.Counts.{ceiling}
 use Rattle.em_chain.specs.declared.chain.Chain.{Chain}
@@ -23,22 +20,19 @@ use Rattle.em_chain.proofs.Counts.{packed_blocks}
 use Rattle.em_chain.proofs.Readers.{length_items}
 use Rattle.em_plain.specs.Room.{StaysWithin}
 use Rattle.em_tree_cost.specs.Shares.{tree_room}
-use Rattle.em_tree_cost.proofs.Rising.{queue_share_rises, tree_room_rises}
-use Rattle.em_tree_walk.proofs.Losses.{chain_length}
-use Rattle.em_map.specs.Areas.{KeepsAreas, SharesAreas}
+use Rattle.em_tree_cost.proofs.Rising.{queue_share_rises}
+use Rattle.em_map.specs.Areas.{KeepsAreas}
 use Rattle.em_map.specs.Batch.{BatchHasFrames, BatchOver, BatchWithin, CountsSync, HasCommands, StopsBatch, SyncedBatch, answers_room, areas_of, batch_blocks, batch_spent, batch_unstored, rule_of}
 use Rattle.em_map.specs.declared.batch.Batch.{Batch}
-use Rattle.em_map.proofs.Rooms.{held_blocks, none_given}
-use Rattle.em_map.proofs.Stays.{BatchStays, batch_beside}
-use Rattle.em_ready.proofs.RoomLaws.{over_used, room_rises, when_full}
+use Rattle.em_ready.proofs.RoomLaws.{over_used, when_full}
 use Rattle.em_services.specs.BatchService.{AreAnswers, IsGivenBatch, OrdersAnswers, answers_share, batch_counts, entered_size, map_share, map_size, ordering_moves, ordering_room}
 use Rattle.em_services.specs.InOrder.{lists_room}
-use Rattle.em_services.specs.Service.{CanSync, FramesOut, FullOverRoom, GivesAtSync, WithinAllowance, WithinRoom}
-use Rattle.em_services.specs.BatchLaws.{frames_stay}
-use Rattle.em_services.proofs.AnswerOrder.{answers_lack, answers_most}
+use Rattle.em_services.specs.Service.{CanSync, FullOverRoom, GivesAtSync, WithinAllowance, WithinRoom}
+use Rattle.em_services.proofs.AnswerOrder.{answers_lack}
 use Rattle.em_services.proofs.BatchAnswers.{ceiling_share}
-use Rattle.em_services.proofs.BatchSizes.{answers_later, batch_room, entered_all, entered_later}
-use Rattle.em_services.proofs.Moves.{call_moves, share_at, sync_spends, times_rise, two_rooms, within_map}
+use Rattle.em_services.proofs.BatchSizes.{entered_later}
+use Rattle.em_services.proofs.Handed.{handed_beside, handed_blocks, handed_count, handed_entered, handed_frames, handed_goes, handed_has, handed_is, handed_size, handed_told, handed_tree, handed_used, handed_within, settled_room}
+use Rattle.em_services.proofs.Moves.{call_moves, share_at, sync_spends, times_rise, two_rooms}
 use Rattle.em_services.proofs.SyncRoom.{sync_room}
 
 -- reading and releasing a list of no more blocks
@@ -48,34 +42,11 @@ list_more order blocks most all few h = omega (arith, few, h)
 list_less : (order most all : ℕ) → order + 3 * most ≤ all → order ≤ all
 list_less order most all h = omega (arith, h)
 
--- What a batch holds while it is settled is within the room of a command more.
-own_room : {F : Type 0} (s : RigState) (b : Batch F) → IsGivenBatch s b → Sound s → IsTrue s.device.told
-    → tree_room s.pool.shape b.calls + answers_room s b b.calls ≤ room s.pool.shape (b.calls + 1)
-own_room s b i sound z =
-    let one = batch_room s b b.calls i sound.shape z (omega arith) in
-    let more = room_rises s.pool.shape b.calls (b.calls + 1) (omega arith) in
-    omega (arith, one, more)
-
--- The tree was settled, and handed out the answers: no more of them than commands, and within their size,
+-- The tree was settled, and handed out the answers, which can be put in order.
 module _ {F : Type 0} (s m : RigState) (b d : Batch F) (c : Chain) (f : SyncedBatch s m b d c) (i : IsGivenBatch s b) where
   told_m : IsTrue s.device.told → IsTrue m.device.told
-  told_m z = f.session.touches.told ∙ z
+  told_m z = handed_told s m b d c f i z
 
-  handed_count : IsTrue s.device.told → c.count ≤ b.calls
-  handed_count z =
-      let n = length_items m c f.chain (told_m z) in
-      let l = answers_most (rule_of b) i.before i.since (chain_items m c) (f.ordered z i.before i.since i.has) in
-      let calls = i.has.calls in
-      omega (arith, n, l, calls)
-
-  handed_size : IsTrue s.device.told → (before cs : List Command) → HasCommands s b before cs
-      → c.count ≤ map_size b.early s.pool.shape (before ++ cs ++ Sync ∷ [])
-  handed_size z before cs h =
-      let n = length_items m c f.chain (told_m z) in
-      let l = answers_later s b before cs h (chain_items m c) (Sync ∷ []) (f.ordered z before cs h) in
-      omega (arith, n, l)
-
-  -- which can be put in order,
   pub handed_are : CanSync (areas_of b) s.pool → AreAnswers m c
   handed_are free = record {
     sound = f.session.sound;
@@ -87,128 +58,55 @@ module _ {F : Type 0} (s m : RigState) (b d : Batch F) (c : Chain) (f : SyncedBa
     areas = omega (arith, f.frames.areas, free.areas);
     is = f.chain;
     few = λ z.
-        let n = handed_count (sym f.session.touches.told ∙ z) in
+        let n = handed_count s m b d c f i (sym f.session.touches.told ∙ z) in
         let few = i.is.few in omega (arith, n, few);
     lacks = λ z. answers_lack (rule_of b) i.before i.since (chain_items m c)
         (f.ordered (sym f.session.touches.told ∙ z) i.before i.since i.has);
   }
-
-  -- in packed blocks.
-  handed_blocks : IsTrue s.device.told → c.blocks ≡ ceiling c.count (payload_of m.pool.shape)
-  handed_blocks z = packed_blocks m c f.session.sound.shape.block_low f.chain (told_m z) (f.packed z)
-
-  handed_used : IsTrue s.device.told → m.used + length (batch_blocks s b) ≡ s.used + (c.blocks + length (batch_blocks m d))
-  handed_used z =
-      let used = f.loses z in
-      let own = chain_length f.chain (told_m z) in
-      let parts = length-append (chain_blocks m c) (batch_blocks m d) in
-      omega (arith, used, own, parts)
 
   -- The queue's moves, those of both lists, and those of reading and releasing the second one.
   order_share : (n : ℕ) → c.count ≤ n → IsTrue s.device.told
       → ordering_moves m c + 3 * ceiling c.count (payload_of m.pool.shape) ≤ answers_share s.pool.shape n
   order_share n few z =
       let low = f.session.sound.shape.block_low in
-      let blocks = handed_blocks z in
+      let blocks = handed_blocks s m b d c f i z in
       let most = ceiling_share m.pool.shape c.count n few (omega (arith, low)) in
       let queue = queue_share_rises m.pool.shape (2 * c.count) (2 * n) (2 * c.count) (2 * n)
       (omega (arith, few)) (omega (arith, few)) in
       rw (← f.frames.shape) (omega (arith, blocks, most, queue))
 
-  calls_one : d.calls ≤ b.calls + 1
-  calls_one =
-      let before = i.has.calls in
-      let after = (f.commands i.before i.since i.has).calls in
-      let one = length-append (i.before ++ i.since) (Sync ∷ []) in
-      let all = length-append i.before i.since in
-      omega (arith, after, before, one, all)
-
   -- The batch's tree beside the queue and both lists,
   order_beside : IsTrue s.device.told
       → length (batch_blocks m d) + ordering_room m c ≤ room s.pool.shape (b.calls + 1)
   order_beside z =
-      let few = handed_count z in
-      let blocks = handed_blocks z in
-      let has = f.commands i.before i.since i.has in
-      let own = held_blocks m d f.session.sound f.is (told_m z) in
-      let none = none_given m d (i.before ++ i.since ++ Sync ∷ []) f.session.sound f.is has (told_m z) in
-      let rises = tree_room_rises m.pool.shape d.calls (b.calls + 1) calls_one in
+      let few = handed_count s m b d c f i z in
+      let blocks = handed_blocks s m b d c f i z in
+      let own = handed_tree s m b d c f i z in
       let fits = sync_room m.pool.shape c.count (b.calls + 1) (lists_room m c) f.session.sound.shape
       (omega (arith, few)) (omega (arith, blocks)) in
-      rw (← f.frames.shape) (omega (arith, own, none, rises, fits))
+      rw (← f.frames.shape) (omega (arith, own, fits))
 
   -- and they were put in order, or the call gave up.
   module _ (t : RigState) (n : CountsSync s m b d) (sound : Sound s) where
-    order_touches : (result : Result Chain EmFault) → OrdersAnswers m t c result → Touches (chain_blocks m c) m t
-    order_touches (Ok e) o = o.session.touches
-    order_touches (Err fault) o = o.goes.touches
-
-    order_sound : (result : Result Chain EmFault) → OrdersAnswers m t c result → Sound t
-    order_sound (Ok e) o = o.session.sound
-    order_sound (Err fault) o = o.goes.sound
-
-    order_frames : (result : Result Chain EmFault) → OrdersAnswers m t c result → SameFrames m.pool t.pool
-    order_frames (Ok e) o = o.frames
-    order_frames (Err fault) o = o.goes.frames
-
-    -- its area came back, and no other is out
-    order_shares : (result : Result Chain EmFault) → OrdersAnswers m t c result
-        → SharesAreas (areas_of b) (areas_of d) s.pool t.pool
-    order_shares result o =
-        let same = order_frames result o in
-        record {
-          shape = same.shape ∙ f.frames.shape;
-          free = same.free ∙ f.frames.free;
-          areas = let none = f.areas in omega (arith, none, f.frames.areas, same.free_areas);
-          rack = same.rack ∙ f.frames.rack;
-          peak = omega (arith, f.frames.peak, same.peak);
-        }
+    order_goes : (result : Result Chain EmFault) → OrdersAnswers m t c result → Goes (chain_blocks m c) m t
+    order_goes (Ok e) o = record { sound = o.session.sound; touches = o.session.touches; frames = o.frames }
+    order_goes (Err fault) o = o.goes
 
     pub synced_goes : (result : Result Chain EmFault) → OrdersAnswers m t c result
         → KeepsAreas (areas_of b) (areas_of d) (batch_blocks s b) s t
-    synced_goes result o = record {
-      sound = order_sound result o;
-      touches = touches_within s m t (batch_blocks s b) (chain_blocks m c) f.session.touches
-          (record { off = λ z j u k. off_left j (chain_blocks m c) (batch_blocks m d) (f.session.within.off z j u k) })
-          (order_touches result o);
-      frames = order_shares result o;
-    }
-
-    -- its two frames are out
-    frames_out : (result : Result Chain EmFault) → OrdersAnswers m t c result → FramesOut 2 (areas_of d) t.pool
-    frames_out result o =
-        let out = f.is.is.running.frames.out in
-        let same = order_frames result o in
-        let shape = ap singles_of same.shape in
-        let none = f.areas in
-        record { is = omega (arith, out, same.free, shape); areas = λ some. absurd (omega (arith, none, some)) }
+    synced_goes result o = handed_goes s m b d c f i t (order_goes result o)
 
     pub synced_frames : (result : Result Chain EmFault) → OrdersAnswers m t c result → BatchHasFrames t d
-    synced_frames result o = frames_stay d (chain_blocks m c) m t
-        (record { tree = f.is.is.running.frames; area = f.is.area }) (order_touches result o) (frames_out result o)
-
-    beside : (result : Result Chain EmFault) → OrdersAnswers m t c result → BatchStays m t d
-    beside result o =
-        let out = frames_out result o in
-        batch_beside (chain_blocks m c) m t d (order_touches result o) out.is out.areas f.is
-        (λ z. session_others (chain_blocks m c) (batch_blocks m d) f.session (sym f.session.touches.told ∙ z))
+    synced_frames result o = handed_frames s m b d c f i t (order_goes result o)
 
     pub synced_is : (result : Result Chain EmFault) → OrdersAnswers m t c result → OnOk result (IsGivenBatch t d)
-    synced_is (Ok e) o =
-        let st = beside (Ok e) o in
-        record {
-          is = st.is;
-          before = i.before ++ i.since ++ Sync ∷ [];
-          since = [];
-          has = st.commands (i.before ++ i.since ++ Sync ∷ []) [] (f.commands i.before i.since i.has);
-        }
+    synced_is (Ok e) o = handed_is s m b d c f i t (order_goes (Ok e) o)
     synced_is (Err fault) o = tt
 
     pub synced_has : (result : Result Chain EmFault) → OrdersAnswers m t c result
         → OnOk result ((before cs : List Command) → HasCommands s b before cs
         → HasCommands t d (before ++ cs ++ Sync ∷ []) [])
-    synced_has (Ok e) o = λ before cs h.
-        (beside (Ok e) o).commands (before ++ cs ++ Sync ∷ []) [] (f.commands before cs h)
+    synced_has (Ok e) o = handed_has s m b d c f i t (order_goes (Ok e) o)
     synced_has (Err fault) o = tt
 
     pub synced_items : (result : Result Chain EmFault) → OrdersAnswers m t c result
@@ -233,17 +131,11 @@ module _ {F : Type 0} (s m : RigState) (b d : Batch F) (c : Chain) (f : SyncedBa
         let all : e.blocks ≡ ceiling c.count (payload_of m.pool.shape) = blocks ∙ shape ∙ fill in
         omega (arith, all)
 
-    -- all its commands entered the tree
-    entered_is : (before cs : List Command) → HasCommands s b before cs
-        → entered_size d ≡ map_size b.early s.pool.shape (before ++ cs ++ Sync ∷ [])
-    entered_is before cs h =
-        entered_all s m b d f.frames.shape n.early (before ++ cs ++ Sync ∷ []) f.areas (f.commands before cs h)
-
     sync_spent : (e : Chain) → OrdersAnswers m t c (Ok e) → IsTrue s.device.told
         → t.moves + 3 * e.blocks + (batch_counts b).spent s.pool.shape ≤ s.moves + (batch_counts d).spent s.pool.shape
     sync_spent e o z =
-        let all = entered_is i.before i.since i.has in
-        let few = handed_size z i.before i.since i.has in
+        let all = handed_entered s m b d c f i n i.before i.since i.has in
+        let few = handed_size s m b d c f i z i.before i.since i.has in
         let less = entered_later s b i.before i.since i.has (Sync ∷ []) in
         let rest = order_share (entered_size d) (omega (arith, all, few)) z in
         let blocks = ordered_blocks e o z in
@@ -262,15 +154,15 @@ module _ {F : Type 0} (s m : RigState) (b d : Batch F) (c : Chain) (f : SyncedBa
       packed = λ z. o.packed (told_m z);
       session = session_as (chain_blocks t e ++ batch_blocks t d)
           (session_then (chain_blocks m c) (chain_blocks t e) (batch_blocks m d) f.session o.session)
-          (λ z. ap (λ ks. chain_blocks t e ++ ks) ((beside (Ok e) o).blocks (told_m z)));
+          (λ z. ap (λ ks. chain_blocks t e ++ ks) ((handed_beside s m b d c f i t (order_goes (Ok e) o)).blocks (told_m z)));
       n = n.calls;
       syncs = n.syncs;
       pays = pays_then f.pays (pays_more {p = batch_unstored d} {q = batch_unstored d} o.pays (omega arith))
           o.session.touches.moves;
       used = λ z.
           let used = o.used in
-          let first = handed_used z in
-          let same = ap (λ (ks : List ℕ). length ks) ((beside (Ok e) o).blocks (told_m z)) in
+          let first = handed_used s m b d c f i z in
+          let same = ap (λ (ks : List ℕ). length ks) ((handed_beside s m b d c f i t (order_goes (Ok e) o)).blocks (told_m z)) in
           omega (arith, used, first, same);
       spent = λ z. sync_spent e o z;
     }
@@ -280,11 +172,7 @@ module _ {F : Type 0} (s m : RigState) (b d : Batch F) (c : Chain) (f : SyncedBa
         → OnOk result (IsTrue s.device.told → (before cs : List Command) → HasCommands s b before cs
         → (batch_counts d).spent s.pool.shape
         ≤ (d.syncs + 1) * map_share s.pool.shape (map_size b.early s.pool.shape (before ++ cs ++ Sync ∷ [])))
-    synced_within (Ok e) o = λ z before cs h.
-        let size = map_size b.early s.pool.shape (before ++ cs ++ Sync ∷ []) in
-        let all = within_map s.pool.shape size d.syncs (batch_spent d) (n.joined z before cs h) in
-        subst (λ (k : ℕ). batch_spent d + d.syncs * answers_share s.pool.shape k ≤ (d.syncs + 1) * map_share s.pool.shape size)
-        (sym (entered_is before cs h)) all
+    synced_within (Ok e) o = handed_within s m b d c f i n
     synced_within (Err fault) o = tt
 
     ordered_moves : (result : Result Chain EmFault) → OrdersAnswers m t c result → IsTrue m.device.told
@@ -300,7 +188,7 @@ module _ {F : Type 0} (s m : RigState) (b d : Batch F) (c : Chain) (f : SyncedBa
         let size = map_size b.early s.pool.shape (before ++ cs ++ Sync ∷ []) in
         let moves : t.moves ≤ m.moves + ordering_moves m c = ordered_moves result o (told_m z) in
         let own = n.moves in
-        let rest = order_share size (handed_size z before cs h) z in
+        let rest = order_share size (handed_size s m b d c f i z before cs h) z in
         let share = share_at s.pool.shape (batch_spent d) size size d.syncs (b.syncs + 1) refl n.syncs
         (n.joined z before cs h) in
         call_moves s.pool.shape size (entered_size b) b.syncs (b.syncs + 1) (batch_spent b) (batch_spent d)
@@ -320,14 +208,14 @@ module _ {F : Type 0} (s m : RigState) (b d : Batch F) (c : Chain) (f : SyncedBa
       is = two_rooms (length (batch_blocks s b)) c.blocks (length (batch_blocks m d))
           (tree_room s.pool.shape b.calls + answers_room s b b.calls) (ordering_room m c)
           (room s.pool.shape (b.calls + 1)) s.used m.used s.most m.most t.most (w z).most
-          (order_stays result o (told_m z)).is (handed_used z) (own_room s b i sound z) (order_beside z);
+          (order_stays result o (told_m z)).is (handed_used s m b d c f i z) (settled_room s b i sound z) (order_beside z);
     }
 
     pub synced_full : (result : Result Chain EmFault) → OrdersAnswers m t c result
         → IfErr result (FullOverRoom (Some room) ((batch_counts b).n + 1) (batch_blocks s b) s)
     synced_full (Ok e) o = tt
     synced_full (Err fault) o = λ z.
-        let used = handed_used z in
+        let used = handed_used s m b d c f i z in
         let two = order_beside z in
         when_full fault (λ k. k + c.blocks < m.used + ordering_room m c)
         (λ k. k + length (batch_blocks s b) < s.used + room s.pool.shape (b.calls + 1))
@@ -366,13 +254,13 @@ module _ {F : Type 0} (s t : RigState) (b d : Batch F) (fault : EmFault) (h : St
 
   pub unsynced_room : (IsTrue s.device.told → BatchWithin b.calls s t b)
       → WithinRoom (Some room) ((batch_counts b).n + 1) (batch_blocks s b) s t
-  unsynced_room w = λ z. let most = (w z).most in let own = own_room s b i sound z in record { is = omega (arith, most, own) }
+  unsynced_room w = λ z. let most = (w z).most in let own = settled_room s b i sound z in record { is = omega (arith, most, own) }
 
   pub unsynced_full : (IsTrue s.device.told → BatchOver b.calls s b fault)
       → FullOverRoom (Some room) ((batch_counts b).n + 1) (batch_blocks s b) s fault
   unsynced_full over = λ z. over_used fault (length (batch_blocks s b)) s.used
       (tree_room s.pool.shape b.calls + answers_room s b b.calls) (room s.pool.shape (b.calls + 1)) s t
-      (over z).full h.cause h.goes.touches.blocks (own_room s b i sound z)
+      (over z).full h.cause h.goes.touches.blocks (settled_room s b i sound z)
 
   pub unsynced_owes : Pays (batch_counts b).unstored (2 * s.pool.shape.frames) s t
   unsynced_owes = pays_more h.pays (omega arith)

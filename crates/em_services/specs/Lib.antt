@@ -1,6 +1,8 @@
 pub mod BatchLaws
 pub mod BatchService
+pub mod DumpLaws
 pub mod InOrder
+pub mod Listing
 pub mod ScanLaws
 pub mod ScanService
 pub mod Service

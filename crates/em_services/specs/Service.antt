@@ -1,13 +1,14 @@
 -- What every service promises: docs/CONTRACTS.md, "Services".
-use Rattle.std.specs.Prelude.{ℕ, ◌+◌, ◌*◌, ◌++◌, List, false, IsTrue, Option, Some, None, ◌≡◌, ◌≤◌, IfSome, [], length, ◌<◌}
+use Rattle.std.specs.Prelude.{ℕ, ◌+◌, ◌*◌, ◌++◌, List, false, IsTrue, Option, Some, None, ◌≡◌, ◌≤◌, IfSome, [], length, map, ◌<◌}
 use Rattle.em_record.specs.Shape.{ShapeNumbers, fan_of, IsShape}
 use Rattle.em_lines.specs.declared.text.FileKind.{FileKind}
-use Rattle.em_lines.specs.declared.text.FileKind.TheVariants.{Map, Queue, Stab}
+use Rattle.em_lines.specs.declared.text.FileKind.TheVariants.{Map, Queue, Stab, Dump}
 use Rattle.em_frames.specs.Pool.{PoolCounts, LentFrames, singles_of}
 use Rattle.em_space.specs.Rig.{RigState, Sound, Touches, IfFull}
 use Rattle.em_record.specs.declared.record.Record.{Record}
 use Rattle.em_model.specs.Map.{Combiner}
 use Rattle.em_model.specs.MapAnswers.{answers_after}
+use Rattle.em_model.specs.Pairs.{pairs_after}
 use Rattle.em_model.specs.Sync.{syncs_of}
 use Rattle.em_model.specs.declared.command.Command.{Command}
 use Rattle.em_space.specs.Held.{Within}
@@ -18,6 +19,7 @@ use Rattle.em_chain.specs.declared.chain.Chain.{Chain}
 use Rattle.em_map.specs.Areas.{GivenWithAreas}
 use Rattle.em_plain.specs.Room.{StaysWithin}
 use Rattle.em_model.specs.StabAnswers.{stab_pairs}
+use Rattle.em_settle.specs.Map.{map_record}
 use Rattle.em_space.specs.declared.fault.EmFault.{EmFault}
 
 -- The numbers of a service.
@@ -32,18 +34,29 @@ pub record ServiceCounts : Type 0 where
   -- the blocks that it holds and that weren't stored since they came into use
   pub unstored : ℕ
 
--- the records of the answers to some commands of a file of this kind that come after others: of a map those to the later
--- ones, since a sync gave the others; of an interval list those to all
+-- the records of pairs of a key and its value: (K, 0, 0, V)
+abbrev pub records_of_pairs : List (ℕ × ℕ) → List Record
+records_of_pairs pairs = map (λ p. map_record p.0 p.1) pairs
+
+-- the records that are due at the end of a file of this kind, after some commands that come after others: of a map the answers
+-- to the later ones, since a sync gave the others; of an interval list those to all; of a dump the pairs that all leave
 abbrev pub records_for : Combiner → FileKind → List Command → List Command → List Record
 records_for apply Map before commands = answers_after apply before commands
 records_for apply Queue before commands = []
 records_for apply Stab before commands = stab_pairs (before ++ commands)
+records_for apply Dump before commands = records_of_pairs (pairs_after apply (before ++ commands))
 
--- how many syncs there are among some commands of a file of this kind: only a map's file has any
+-- those that are due at a sync: only a map's file has any
+abbrev pub records_at_sync : Combiner → FileKind → List Command → List Command → List Record
+records_at_sync apply Map before commands = answers_after apply before commands
+records_at_sync apply kind before commands = []
+
+-- how many syncs there are among some commands of a file of this kind: only one of a map's commands has any
 abbrev pub syncs_for : FileKind → List Command → ℕ
 syncs_for Map commands = syncs_of commands
 syncs_for Queue commands = 0
 syncs_for Stab commands = 0
+syncs_for Dump commands = syncs_of commands
 
 -- the size of some commands of a file of this kind: their number, and for stabs that of the pairs that
 -- their answers report
@@ -51,6 +64,7 @@ abbrev pub size_of : FileKind → List Command → ℕ
 size_of Map commands = length commands
 size_of Queue commands = length commands
 size_of Stab commands = length commands + length (stab_pairs commands)
+size_of Dump commands = length commands
 
 -- A number of moves or blocks doesn't fall where the size rises.
 abbrev pub RisesBySize : (ShapeNumbers → ℕ → ℕ) → Type 0
@@ -132,7 +146,7 @@ pub record TakesCommand (allowance room : Option (ShapeNumbers → ℕ → ℕ))
 abbrev pub list_moves : Chain → ℕ
 list_moves c = 3 * c.blocks
 
--- A sync came: the answers that were due are a chain beside the service's blocks, and all of these were its own or weren't
+-- A sync came: the records that were due are a chain beside the service's blocks, and all of these were its own or weren't
 -- in use. What reading and releasing the chain takes is in its moves.
 pub record GivesAtSync (allowance room : Option (ShapeNumbers → ℕ → ℕ)) (held now : List ℕ)
     (c d : ServiceCounts) (old new : RigState) (answers : Chain) : Type 0 where

@@ -9,7 +9,7 @@ use Rattle.em_model.specs.declared.command.Command.{Command}
 use Rattle.em_model.proofs.AnswerLaws.{answers_few}
 use Rattle.em_model.proofs.StabLaws.{stab_answers_from-append}
 use Rattle.em_lines.specs.declared.text.FileKind.{FileKind}
-use Rattle.em_lines.specs.declared.text.FileKind.TheVariants.{Map, Queue, Stab}
+use Rattle.em_lines.specs.declared.text.FileKind.TheVariants.{Map, Queue, Stab, Dump}
 use Rattle.em_services.specs.Service.{size_of}
 
 pub no_area : 0 ≤ 1
@@ -30,6 +30,7 @@ pairs_rise n (x ∷ xs) ys =
 pub size_rises : (kind : FileKind) (cs more : List Command) → size_of kind cs ≤ size_of kind (cs ++ more)
 size_rises Map cs more = omega (arith, length-append cs more)
 size_rises Queue cs more = omega (arith, length-append cs more)
+size_rises Dump cs more = omega (arith, length-append cs more)
 size_rises Stab cs more =
     let later = stab_answers_from (intervals_after [] cs) more in
     let all = ap (λ (xs : List (List ℕ)). length (pairs_from 0 xs)) (stab_answers_from-append [] cs more) in
@@ -44,3 +45,7 @@ map_answers_few apply before cs =
 
 pub stab_answers_few : (cs : List Command) → length (stab_pairs cs) ≤ length cs + length (stab_pairs cs)
 stab_answers_few cs = omega arith
+
+-- at a sync nothing is due
+pub none_few : {n : ℕ} → 0 ≤ n
+none_few = omega arith

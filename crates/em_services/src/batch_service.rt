@@ -53,7 +53,7 @@ fn new_batch<D: Device, F: Fn(u64, u64) -> u64 + Drop>(
 }
 
 /// Gives a batch a command of its file that is no sync.
-fn give_batch<D: Device, F: Fn(u64, u64) -> u64 + Drop>(
+pub(crate) fn give_batch<D: Device, F: Fn(u64, u64) -> u64 + Drop>(
     batch: &mut Batch<F>,
     rig: &mut Rig<'_, D>,
     command: Command,
@@ -147,6 +147,8 @@ impl<F: Fn(u64, u64) -> u64 + Drop> Service for Batch<F> {
     ghost size_rises = { laws.size_rises };
 
     ghost answers_few = { laws.answers_few };
+
+    ghost synced_few = { laws.answers_few };
 
     ghost frames_of = { λ b s h. laws.frames_of b s h.0 };
 

@@ -121,6 +121,8 @@ impl<F: Fn(u64, u64) -> u64 + Drop> Service for ScanMap<F> {
 
     ghost answers_few = { λ m s before cs h. sizes.map_answers_few (apply_of m.settle.kind) before cs };
 
+    ghost synced_few = { λ m s before cs h. sizes.map_answers_few (apply_of m.settle.kind) before cs };
+
     ghost frames_of = { λ m s h. h.0.list.writer.frame };
 
     ghost n_is = { laws.map_n_is };
@@ -216,6 +218,8 @@ impl Service for ScanStab {
     ghost size_rises = { λ v shape cs more. sizes.size_rises kind.Stab cs more };
 
     ghost answers_few = { λ v s before cs h. sizes.stab_answers_few (before ++ cs) };
+
+    ghost synced_few = { λ v s before cs h. sizes.none_few };
 
     ghost frames_of = { λ v s h. h.writer.frame };
 

@@ -1,5 +1,5 @@
-//! What answers a map or stab file. A service takes the commands one after another. A sync has it give the
-//! records of the answers that weren't given, and go on; at the end it is given up for those of the others:
+//! What answers a map or stab file, or dumps a map. A service takes the commands one after another. A sync has it give the
+//! records that are due then, and go on; at the end it is given up for those that are due there:
 //!
 //!     new → take → take → sync → take → .. → answers → a chain
 //!                           ↘ a chain
@@ -19,7 +19,7 @@ ghost use Rattle.em_chain.specs.Chain.{chain_items, empty_chain};
 ghost use Rattle.em_chain.specs.Effects.{Unmoved};
 ghost use Rattle.em_lines.specs.Kind.{IsOfKind};
 ghost use Rattle.em_map.specs.Areas.{KeepsAreas};
-ghost use Rattle.em_services.specs.Service.{CanAnswer, CanSync, CanTake, FramesOut, GivesFrames, GivesAtSync, LeavesAnswers, MakesService, RisesBySize, ServiceCounts, TakesCommand, WithinAllowance, WithinRoom, records_for, size_of, syncs_for, FullOverRoom};
+ghost use Rattle.em_services.specs.Service.{CanAnswer, CanSync, CanTake, FramesOut, GivesFrames, GivesAtSync, LeavesAnswers, MakesService, RisesBySize, ServiceCounts, TakesCommand, WithinAllowance, WithinRoom, records_at_sync, records_for, size_of, syncs_for, FullOverRoom};
 ghost use Rattle.em_lines.specs.declared.text.FileKind as kinds;
 ghost use Rattle.em_lines.specs.declared.text.FileKind.TheVariants as kind;
 
@@ -29,8 +29,8 @@ use em_lines::FileKind;
 use em_model::Command;
 use em_space::{EmFault, Rig};
 
-/// A map or an interval list that answers its commands together, at each sync and at the end, over blocks of a
-/// rig's device. An interval list has no sync.
+/// A map or an interval list that answers its commands together, at each sync and at the end, or a map that gives its pairs at
+/// the end, over blocks of a rig's device. An interval list has no sync.
 ///
 /// A service can't be dropped: `answers` and `abandon` give its frames back. After a fault of `take` or `sync`
 /// only `abandon` may be called.
@@ -132,10 +132,9 @@ pub trait Service {
             (seen D.state rig.old) (seen D.state rig.new)) }
         ensures cause { IfErr result (Cause (seen D.state rig.old) (seen D.state rig.new)) };
 
-    /// A sync, if the files of its kind have any: it counts as a command. The records of the answers to the commands
-    /// since the last one, in order: their list stands beside the service's blocks, and the service goes on. For other
-    /// kinds nothing is done, and the list is empty. More frames must be free than for a command, so that it may make
-    /// a queue.
+    /// A sync, if the files of its kind have any: it counts as a command. The records that are due at it, in order: their list
+    /// stands beside the service's blocks, and the service goes on. For other kinds nothing is done, and the list is empty. More
+    /// frames must be free than for a command, so that it may make a queue.
     fn sync<D: Device>(&mut self, rig: &mut Rig<'_, D>) -> Result<Chain, EmFault>
         requires sound { Sound (seen D.state rig.old) }
         requires is { IsService self.old (seen D.state rig.old) }
@@ -157,7 +156,7 @@ pub trait Service {
         ensures items { IsOfKind KIND variants.Sync → IfOk result (λ c.
             IsTrue (seen D.state rig.old).device.told
             → (before cs : List commands.Command) → Has self.old (seen D.state rig.old) before cs
-            → chain_items (seen D.state rig.new) c ≡ records_for (combiner self.old) KIND before cs) }
+            → chain_items (seen D.state rig.new) c ≡ records_at_sync (combiner self.old) KIND before cs) }
         ensures room { WithinRoom room ((counts self.old).n + 1)
             (blocks self.old (seen D.state rig.old))
             (seen D.state rig.old) (seen D.state rig.new) }
@@ -182,8 +181,8 @@ pub trait Service {
             × (self.new ≡ self.old) × (seen D.state rig.new ≡ seen D.state rig.old) }
         ensures cause { IfErr result (Cause (seen D.state rig.old) (seen D.state rig.new)) };
 
-    /// The records of the answers to its commands since the last sync, in order. Its blocks are released. More
-    /// frames must be free than for a command, so that it may make a queue.
+    /// The records that are due at the end, in order. Its blocks are released. More frames must be free than for a command, so
+    /// that it may make a queue.
     fn answers<D: Device>(self, rig: &mut Rig<'_, D>) -> Result<Chain, EmFault>
         requires sound { Sound (seen D.state rig.old) }
         requires is { IsService self (seen D.state rig.old) }
@@ -231,8 +230,8 @@ pub trait Service {
     /// What ties it to its blocks has the part on frames.
     ghost frames_of: { (v : Self) (s : RigState) → IsService v s → HasItsFrames v s };
 
-    /// Its own size of some commands is at most their size, and no less with more commands after them. The answers that
-    /// are due are no more than that.
+    /// Its own size of some commands is at most their size, and no less with more commands after them. The records that are due at
+    /// the end, or at a sync, are no more than that.
     ghost size_most: { (v : Self) (shape : ShapeNumbers) (cs : List commands.Command)
         → size v shape cs ≤ size_of KIND cs };
 
@@ -242,6 +241,10 @@ pub trait Service {
     ghost answers_few: { (v : Self) (s : RigState) (before cs : List commands.Command)
         → Has v s before cs
         → length (records_for (combiner v) KIND before cs) ≤ size v s.pool.shape (before ++ cs) };
+
+    ghost synced_few: { (v : Self) (s : RigState) (before cs : List commands.Command)
+        → Has v s before cs
+        → length (records_at_sync (combiner v) KIND before cs) ≤ size v s.pool.shape (before ++ cs) };
 
     /// Its commands are counted, and its syncs are no more than those among them.
     ghost n_is: { (v : Self) (s : RigState) (before cs : List commands.Command) → Has v s before cs

@@ -96,6 +96,8 @@ impl Service for Stab {
 
     ghost answers_few = { λ v s before cs h. sizes.stab_answers_few (before ++ cs) };
 
+    ghost synced_few = { λ v s before cs h. sizes.none_few };
+
     ghost frames_of = { laws.frames_of };
 
     ghost n_is = { laws.n_is };

@@ -126,11 +126,15 @@ fn drawn(alloc: Global, said: Said, lines: u64, keys: u64, asks: u64) -> Result<
     let half = lines / 2;
     for number in 0..lines {
         match kind {
-            FileKind::Map if number % 100 == 99 => add_line(&mut text, b"sync", &[])?,
-            FileKind::Map if number < half => {
+            FileKind::Map | FileKind::Dump if number % 100 == 99 => {
+                add_line(&mut text, b"sync", &[])?;
+            }
+            FileKind::Map | FileKind::Dump if number < half => {
                 add_map_line(&mut text, &mut state, adds, keys, 20, asks)?;
             }
-            FileKind::Map => add_map_line(&mut text, &mut state, adds, keys, 90, asks)?,
+            FileKind::Map | FileKind::Dump => {
+                add_map_line(&mut text, &mut state, adds, keys, 90, asks)?;
+            }
             FileKind::Stab => add_stab_line(&mut text, &mut state, keys, asks)?,
             FileKind::Queue if number < half => {
                 add_queue_line(&mut text, &mut state, keys, asks)?;
@@ -218,6 +222,8 @@ fn answer<D: Device, H: Shelf, W: Sink>(
     }
     match kind {
         FileKind::Map => run_listed(combine, rig, shelf, out),
+        // Pairs have no list beside their structure.
+        FileKind::Dump => run_open(kind, combine, false, rig, shelf, out),
         FileKind::Stab => run_service::<D, H, W, ScanStab>((), rig, shelf, out),
         FileKind::Queue => match ScanQueue::new(rig) {
             Ok(queue) => run_queue(rig, queue, shelf, out),

@@ -145,6 +145,8 @@ module _ (key : Record → Record) (IsOp IsKept : Record → Type 0) (op : Recor
         pushed_most = n.pushed_most;
         settled_most = n.settled_most;
         resets_most = n.resets_most;
+        adopted_most = n.adopted_most;
+        counted_most = n.counted_most;
         spent_most = omega (arith, n.spent_most, later);
         root_below = rw (goes.touches.blocks) n.root_below;
       }

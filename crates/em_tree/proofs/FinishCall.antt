@@ -18,12 +18,13 @@ use Rattle.em_space.proofs.Steps.{cause_after, goes_trans, same_frames_then, tou
 use Rattle.em_chain.specs.Writer.{writer_blocks}
 use Rattle.em_chain.specs.declared.chain.Chain.{Chain}
 use Rattle.em_tree_blocks.specs.Reading.{tree_blocks}
-use Rattle.em_tree_cost.specs.Books.{KeepsBooks, TreeCounts, count_moves}
-use Rattle.em_tree_cost.specs.Counters.{Sums}
+use Rattle.em_tree_cost.specs.Books.{Balanced, IsCounted, TreeCounts, count_moves, count_settle}
+use Rattle.em_tree_cost.specs.Counters.{Counters, Sums}
 use Rattle.em_tree_cost.specs.Effects.{SameRoot}
-use Rattle.em_tree_cost.specs.Paid.{settle_toll, toll_of}
+use Rattle.em_tree_cost.specs.Paid.{settle_rest, toll_of}
 use Rattle.em_tree_cost.specs.Shares.{floors_of, tree_share}
-use Rattle.em_tree_cost.proofs.InCall.{call_begins, call_debt, call_refused, call_settle}
+use Rattle.em_tree_cost.proofs.Books.{books_counted, counted_then}
+use Rattle.em_tree_cost.proofs.InCall.{call_begins, call_settle, charge_debt}
 use Rattle.em_tree.specs.Calls.{FinishCosts, FinishesTrunk, StopsFinishing}
 use Rattle.em_trunk.specs.Counting.{counted_settling}
 use Rattle.em_trunk.specs.Debts.{owing_all}
@@ -88,22 +89,28 @@ given_later t u w (Err fault) h = h.touches.moves
 
 -- Moves after a settling are paid for: but for 64 of them, by what the settling is charged.
 released_share : {shape : ShapeNumbers} {t u : Sums} (c : TreeCounts) (m r d : ℕ) → IsShape shape
-    → KeepsBooks shape c 0 t → Charges shape c.k 0 m 0 (shape.block * d) t u
-    → d + (r - 64) ≤ settle_toll shape c.k → c.spent + m + r ≤ tree_share shape c.n c.k c.z (c.y + 1)
+    → Balanced shape c t → Charges shape c.k 0 m 0 (shape.block * d) t u
+    → d + (r - 64) ≤ settle_rest shape c.k → c.spent + m + r ≤ tree_share shape (c.n + c.counted) c.k c.z (c.y + 1)
 released_share {shape = shape} {t = t} {u = u} c m r d is b h most =
     let more = r - 64 in
     let rest = min r 64 in
     let B = shape.block in
     let few : rest ≤ 64 = min-le_right r 64 in
     let same : SameRoot u u = record { root = refl; blocks = refl } in
-    let start = books_less c (count_moves 0 c) 0 0 refl refl refl refl refl (omega arith) (omega arith) b in
-    let all = charges_books h c 0 refl start in
+    let start = books_less c (count_moves 0 c) 0 0 refl refl refl refl refl refl (omega arith) (omega arith) b.books in
+    let P : Counters → Type 0 = λ cs. IsCounted shape c cs t in
+    let here = subst P (sym start.1) b.counted in
+    let all = charges_books h c 0 refl start.0 in
     let sum : B * more + B * d ≤ B * (d + more) = omega arith in
-    let e = call_settle more u is (call_begins all) (d + more) same (sums_stay u) (omega (arith, sum)) most in
-    let f = call_debt rest u is (call_begins e) (B * rest) (sums_stay u) same (omega arith) in
+    let e = call_settle more u is (call_begins all.call.books) start.0.counters t (d + more) same (sums_stay u)
+    (omega (arith, sum)) most here all.only.still in
+    let f = charge_debt rest u is (call_begins e.books) (B * rest) (sums_stay u) same (omega arith) in
+    let now = count_settle more (count_moves (m + 0) c) in
+    let known = counted_then shape now e.books.paid.fits f.0.books.paid.fits (omega (arith, f.0.books.n, e.books.n)) f.1
+    (omega arith) e.counted in
     let k : B * rest ≤ B * (64 * floors_of shape c.k) = mul-le-mul_left B (omega (arith, few)) in
     let toll : B * rest ≤ toll_of shape c.k = omega (arith, k) in
-    let within = call_refused f is (inl (omega (arith, toll))) in
+    let within = books_counted f.0.books is known (omega (arith, toll)) in
     let split : more + rest ≡ r = omega arith in
     omega (arith, within, split)
 

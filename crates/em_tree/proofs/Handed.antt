@@ -25,7 +25,7 @@ use Rattle.em_tree_model.specs.Tree.{Tree}
 use Rattle.em_tree_model.specs.Tree.Tree.{end, entry}
 use Rattle.em_tree_blocks.specs.Reading.{tree_blocks}
 use Rattle.em_tree_blocks.proofs.Frames.{TreeStays, tree_stays}
-use Rattle.em_tree_cost.specs.Books.{KeepsBooks}
+use Rattle.em_tree_cost.specs.Books.{Balanced}
 use Rattle.em_tree_cost.specs.Outline.{sums_of}
 use Rattle.em_tree_outline.specs.Outline.{outline_of}
 use Rattle.em_tree_walk.specs.Lows.{LowsKeep}
@@ -102,6 +102,8 @@ module _ (key : Record → Record) (IsOp IsKept : Record → Type 0) (s t : RigS
         pushed_most = n.pushed_most;
         settled_most = n.settled_most;
         resets_most = n.resets_most;
+        adopted_most = n.adopted_most;
+        counted_most = n.counted_most;
         spent_most = omega (arith, n.spent_most, later);
         root_below = rw (goes.touches.blocks) n.root_below;
       }
@@ -239,10 +241,10 @@ module _ (key : Record → Record) (IsOp IsKept : Record → Type 0) (s t : RigS
             (root_of t v) in
             subst B2 (sym shape) (subst B (sym (kept z)) (i.thin (back z)));
         books = λ z.
-            let K : Tree → Type 0 = λ x. KeepsBooks s.pool.shape (counts_of v) 0
+            let K : Tree → Type 0 = λ x. Balanced s.pool.shape (counts_of v)
             (sums_of (2 * wide_of s.pool.shape * s.pool.shape.block) v.level (outline_of x)
             v.buffer.count v.buffer.blocks) in
-            let K2 : ShapeNumbers → Type 0 = λ p. KeepsBooks p (counts_of v) 0
+            let K2 : ShapeNumbers → Type 0 = λ p. Balanced p (counts_of v)
             (sums_of (2 * wide_of p * p.block) v.level (outline_of (root_of t v)) v.buffer.count
             v.buffer.blocks) in
             subst K2 (sym shape) (subst K (sym (kept z)) (i.books (back z)));

@@ -13,6 +13,6 @@ module _ {key : Record → Record} {IsOp IsKept : Record → Type 0} {s : RigSta
   -- It has at most two levels more than `lev` of the blocks of k operations.
   pub trunk_low : IsLow s.pool.shape v
   trunk_low =
-      let b = i.books told in
+      let b = (i.books told).books in
       let P : ℕ → Type 0 = λ k. v.level ≤ 2 + lev s.pool.shape (blocks_of s.pool.shape k) in
       record { most = subst P b.k (height_most sound.shape b.paid) }

@@ -83,6 +83,8 @@ module _ (key : Record → Record) (step : Option Record → Record → Step)
             settled = refl;
             resets = refl;
             spent = refl;
+            adopted = refl;
+            counted = refl;
           };
           pays = pays_more (pays_kept (trunk_unstored v) (omega arith) g.touches.moves) (omega arith);
           cause = (

@@ -2,15 +2,14 @@
 use Rattle.std.proofs.Common.{◌≡◌, ℕ, zero, suc, ◌+◌, ◌*◌, ◌<◌, ◌≤◌, refl, sym, ◌∙◌, subst, arith, IsTrue}
 use Rattle.std.specs.Prelude.{Option, Some, None, Result, Ok, Err, IsErrAnd}
 use Rattle.std.proofs.Math.Nat.{mul-add}
-use Rattle.em_record.specs.Cost.{blocks_of}
 use Rattle.em_record.specs.Shape.{ShapeNumbers, fan_of}
 use Rattle.em_record.specs.declared.record.Record.{Record}
 use Rattle.em_space.specs.Rig.{RigState}
 use Rattle.em_space.specs.declared.fault.EmFault.{EmFault}
 use Rattle.em_settle.specs.declared.step.Step.{Step}
-use Rattle.em_tree_cost.specs.Shares.{floors_of}
 use Rattle.em_tree_model.specs.Ranges.{least_record}
 use Rattle.em_tree_walk.specs.declared.searching.Range.{Range}
+use Rattle.em_tree_cost.specs.Paid.{settle_rest}
 use Rattle.em_trunk.specs.Debts.{KeepsOwing, MayOwe, owing_now, owing_to, settling_toll}
 use Rattle.em_tree_buffers.specs.Emptying.{SettlesLevel}
 use Rattle.em_tree.specs.Levels.{CanEmptyNext, EmptiesNext, EmptyingLevel, LeavesEmpty}
@@ -213,10 +212,8 @@ module _ (key : Record → Record) (step : Option Record → Record → Step)
               let n = may_now told m in
               let toll = may_toll (deepest s v * searches) (owing_now level t w) h.debt so_far.can.sound n.0
               (h.owes (told_on told)) in
-              let T : ShapeNumbers → Type 0 = λ g. n.0.debt + h.debt
-              ≤ 64 * (blocks_of g w.longest + 1) * floors_of g w.longest in
-              let K : ℕ → Type 0 = λ k. n.0.debt + h.debt
-              ≤ 64 * (blocks_of s.pool.shape k + 1) * floors_of s.pool.shape k in
+              let T : ShapeNumbers → Type 0 = λ g. n.0.debt + h.debt ≤ settle_rest g w.longest in
+              let K : ℕ → Type 0 = λ k. n.0.debt + h.debt ≤ settle_rest s.pool.shape k in
               let within : n.0.debt + h.debt ≤ settling_toll s v =
               subst K so_far.works.numbers.longest (subst T same_shape toll) in
               let e = n.1 in

@@ -38,3 +38,4 @@ pub mod Handed
 pub mod TakeCall
 pub mod RoomCalls
 pub mod NewTree
+pub mod Adopted

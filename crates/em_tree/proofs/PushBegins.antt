@@ -14,12 +14,12 @@ use Rattle.em_chain.proofs.Counts.{writer_blocks_are}
 use Rattle.em_chain.proofs.Tight.{tight_filled}
 use Rattle.em_tree_model.specs.Ranges.{least_record}
 use Rattle.em_tree_model.specs.Tree.{Tree}
-use Rattle.em_tree_cost.specs.Books.{InCall, KeepsBooks, count_moves, count_push}
-use Rattle.em_tree_cost.specs.Counters.{Sums}
+use Rattle.em_tree_cost.specs.Books.{Balanced, InCall, IsCounted, KeepsBooks, count_moves, count_push}
+use Rattle.em_tree_cost.specs.Counters.{Counters, Sums}
 use Rattle.em_tree_cost.specs.Effects.{SumsPush}
 use Rattle.em_tree_cost.specs.Outline.{Outline, sums_of}
 use Rattle.em_tree_cost.specs.Sizes.{IsCeil}
-use Rattle.em_tree_cost.proofs.Books.{books_push}
+use Rattle.em_tree_cost.proofs.Books.{books_push, counted_pushing}
 use Rattle.em_tree_cost.proofs.InCall.{call_begins}
 use Rattle.em_tree_cost.proofs.Ceilings.{ceiling_is}
 use Rattle.em_tree_outline.specs.Outline.{outline_of}
@@ -94,6 +94,8 @@ module _ {key : Record → Record} {IsOp IsKept : Record → Type 0} {s : RigSta
           pushed_most = omega (arith, few);
           settled_most = n.settled_most;
           resets_most = n.resets_most;
+          adopted_most = n.adopted_most;
+          counted_most = n.counted_most;
           spent_most = n.spent_most;
           root_below = n.root_below;
         };
@@ -140,7 +142,7 @@ module _ {key : Record → Record} {IsOp IsKept : Record → Type 0} {s : RigSta
         w.buffer.blocks) (app.root told)))
 
     -- The operation pays for the append.
-    pub append_books : KeepsBooks s.pool.shape (count_push (m.moves - s.moves) (counts_of v)) 0 (sums_in m w)
+    pub append_books : Balanced s.pool.shape (count_push (m.moves - s.moves) (counts_of v)) (sums_in m w)
     append_books =
         let shape = s.pool.shape in
         let c = count_push (m.moves - s.moves) (counts_of v) in
@@ -148,25 +150,30 @@ module _ {key : Record → Record} {IsOp IsKept : Record → Type 0} {s : RigSta
         let ceil = subst C app.frames.shape (packed_ceil m w.buffer app.session.sound
         (app.session.touches.told ∙ told) app.buffer (app.packed told)) in
         let u = sums_of (half shape) v.level (outline_of (root_of s v)) w.buffer.count w.buffer.blocks in
-        let K : Sums → Type 0 = KeepsBooks shape c 0 in
-        subst K same_sums (books_push (i.books told) (m.moves - s.moves) u sound.shape few
-        (sums_appended (half shape) v.level (outline_of (root_of s v)) v.buffer.count w.buffer.count
-        v.buffer.blocks w.buffer.blocks app.count) app.count
-        (moves_within s.moves m.moves v.buffer.blocks w.buffer.blocks app.moves app.session.touches.moves)
-        ceil)
+        let K : Sums → Type 0 = Balanced shape c in
+        let b = i.books told in
+        let more = sums_appended (half shape) v.level (outline_of (root_of s v)) v.buffer.count w.buffer.count
+        v.buffer.blocks w.buffer.blocks app.count in
+        let next = books_push b.books (m.moves - s.moves) u sound.shape few more app.count
+        (moves_within s.moves m.moves v.buffer.blocks w.buffer.blocks app.moves app.session.touches.moves) ceil in
+        let C2 : Counters → Type 0 = λ cs. IsCounted shape c cs u in
+        subst K same_sums (record {
+          books = next.0;
+          counted = subst C2 (sym next.1) (counted_pushing shape (counts_of v) more b.counted);
+        })
 
     -- So the call has its steps after it.
     pub begun_steps : HasSteps 0 m w
     begun_steps =
         let c = count_push (m.moves - s.moves) (counts_of v) in
         let fresh : KeepsBooks s.pool.shape (since_call c) 0 (sums_in m w) =
-        books_anew (omega arith) append_books in
-        let start = books_less (since_call c) (count_moves 0 (since_call c)) 0 0 refl refl refl refl refl
+        books_anew (omega arith) append_books.books in
+        let start = books_less (since_call c) (count_moves 0 (since_call c)) 0 0 refl refl refl refl refl refl
         (omega arith) (omega arith) fresh in
         let B : ShapeNumbers → Type 0 = λ h. InCall h (count_moves 0 (since_call c)) 0 0 0 (sums_in m w) in
         let most = longest_few in
-        let steps : w.steps ≡ step_allowance s.pool.shape c.n c.k = ap (λ (z : Trunk). z.steps) app.is in
-        let L : ShapeNumbers → Type 0 = λ h. w.steps + 0 ≡ step_allowance h c.n c.k in
+        let steps : w.steps ≡ step_allowance s.pool.shape (c.n + c.k) c.k = ap (λ (z : Trunk). z.steps) app.is in
+        let L : ShapeNumbers → Type 0 = λ h. w.steps + 0 ≡ step_allowance h (c.n + c.k) c.k in
         record {
           counts = since_call c;
           owed = 0;
@@ -176,7 +183,7 @@ module _ {key : Record → Record} {IsOp IsKept : Record → Type 0} {s : RigSta
           few = omega (arith, most, few);
           none_taken = refl;
           none_settled = refl;
-          books = subst B (sym app.frames.shape) (call_begins start);
+          books = subst B (sym app.frames.shape) (call_begins start.0);
           may = record { either = inl (omega arith) };
           left = subst L (sym app.frames.shape) (omega (arith, steps));
         }

@@ -14,17 +14,18 @@ use Rattle.em_space.proofs.Steps.{same_frames_then}
 use Rattle.em_chain.specs.Writer.{writer_items}
 use Rattle.em_tree_model.specs.Ranges.{least_record}
 use Rattle.em_tree_model.specs.Tree.{Tree}
-use Rattle.em_tree_cost.specs.Books.{KeepsBooks, TreeCounts, count_push}
+use Rattle.em_tree_cost.specs.Books.{Balanced, TreeCounts, count_push}
 use Rattle.em_tree_cost.specs.Paid.{toll_of}
 use Rattle.em_tree_cost.specs.Shares.{floors_of, tree_share}
 use Rattle.em_tree_cost.proofs.Books.{books_share}
+use Rattle.em_tree.proofs.Counted.{running_moved, same_counts}
 use Rattle.em_tree_walk.proofs.Losses.{loses_then}
 use Rattle.em_tree.specs.Calls.{ChangesTrunk, CountsCall, KeepsShare, PushesOp, StopsTrunk}
 use Rattle.em_trunk.specs.Counting.{counted_moves, counted_push}
 use Rattle.em_trunk.specs.Events.{Charges, ChargesUpTo, Continues}
 use Rattle.em_trunk.specs.Meaning.{IsLater}
 use Rattle.em_tree.specs.Pushing.{Appended, NeedsMore, PushedOp, PushesTo, StopsPush}
-use Rattle.em_trunk.specs.Trunk.{IsRunning, IsTrunk, counts_of, given_by, model_of, root_of, sums_in, trunk_blocks}
+use Rattle.em_trunk.specs.Trunk.{IsTrunk, counts_of, given_by, model_of, root_of, sums_in, trunk_blocks}
 use Rattle.em_trunk.specs.Works.{SameNumbers}
 use Rattle.em_trunk.specs.declared.trunk.Trunk.{Trunk}
 use Rattle.em_trunk.proofs.Ends.{pushed_books, refused_push_share, stopped_share}
@@ -41,53 +42,6 @@ toll_some shape k =
     let some : 2 ≤ 64 * floors_of shape k = omega arith in
     mul-le-mul_right shape.block some
 
--- with other moves, a tree stands as it does
-pub running_moves : {key : Record → Record} {IsOp IsKept : Record → Type 0} {t : RigState} {w : Trunk} (m : ℕ)
-    → w.spent + m ≤ t.moves → IsRunning key IsOp IsKept t w
-    → IsRunning key IsOp IsKept t (counted_moves m w)
-running_moves m most r =
-    let n = r.numbers in
-    record {
-      frames = record { buffer = r.frames.buffer; answers = r.frames.answers; out = r.frames.out };
-      numbers = record {
-        level_some = n.level_some;
-        level_most = n.level_most;
-        since_most = n.since_most;
-        longest_most = n.longest_most;
-        pushed_most = n.pushed_most;
-        settled_most = n.settled_most;
-        resets_most = n.resets_most;
-        spent_most = most;
-        root_below = n.root_below;
-      };
-      buffer = r.buffer;
-      answers = r.answers;
-      stands = λ told. (let st = r.stands told in record {
-        holds = st.holds;
-        stored = st.stored;
-        formed = st.formed;
-        is = st.is;
-        turn = st.turn;
-        lows = st.lows;
-        sized = st.sized;
-        bounded = st.bounded;
-        packed = st.packed;
-        answers_packed = st.answers_packed;
-      });
-    }
-
--- numbers of which each is the same
-pub same_counts : (a b : TreeCounts) → a.n ≡ b.n → a.k ≡ b.k → a.since ≡ b.since → a.spent ≡ b.spent
-    → a.z ≡ b.z → a.y ≡ b.y → a ≡ b
-same_counts a b n k since spent z y =
-    let N : ℕ → TreeCounts = λ x. record a { n = x } in
-    let K : ℕ → TreeCounts = λ x. record a { n = b.n; k = x } in
-    let S : ℕ → TreeCounts = λ x. record a { n = b.n; k = b.k; since = x } in
-    let M : ℕ → TreeCounts = λ x. record a { n = b.n; k = b.k; since = b.since; spent = x } in
-    let Z : ℕ → TreeCounts = λ x. record a { n = b.n; k = b.k; since = b.since; spent = b.spent; z = x } in
-    let Y : ℕ → TreeCounts = λ x. record b { y = x } in
-    ap N n ∙ (ap K k ∙ (ap S since ∙ (ap M spent ∙ (ap Z z ∙ ap Y y))))
-
 -- a tree after a push, with its moves counted
 abbrev pub ended : RigState → RigState → Trunk → Trunk
 ended s t w = counted_moves (t.moves - s.moves) w
@@ -97,12 +51,12 @@ pub ended_counts : (s t : RigState) (v w : Trunk) → SameNumbers (counted_push 
     → counts_of (ended s t w) ≡ count_push 0 (record (counts_of v) { spent = (ended s t w).spent })
 ended_counts s t v w h = same_counts (counts_of (ended s t w))
     (count_push 0 (record (counts_of v) { spent = (ended s t w).spent })) h.pushed h.longest h.since
-    (omega arith) h.resets h.settled
+    (omega arith) h.resets h.settled h.adopted h.counted
 
 pub counts_by : (s t : RigState) (v w : Trunk) → SameNumbers (counted_push s.pool.shape v) w
     → s.moves ≤ t.moves
     → (IsTrue s.device.told → v.spent + (t.moves - s.moves)
-    ≤ tree_share s.pool.shape (v.pushed + 1) (max v.longest (v.since + 1)) v.resets v.settled)
+    ≤ tree_share s.pool.shape (v.pushed + 1 + v.counted) (max v.longest (v.since + 1)) v.resets v.settled)
     → CountsCall (count_push 0) s t v (ended s t w)
 counts_by s t v w h later share =
     let same : w.spent ≡ v.spent = h.spent in
@@ -129,7 +83,7 @@ module _ (key : Record → Record) (step : Option Record → Record → Step) (I
         omega (arith, a, b)
 
     -- The books are kept over the whole call.
-    ended_books : IsTrue s.device.told → KeepsBooks s.pool.shape (counts_of (ended s t w)) 0 (sums_in t w)
+    ended_books : IsTrue s.device.told → Balanced s.pool.shape (counts_of (ended s t w)) (sums_in t w)
     ended_books told =
         let a = h.appended in
         let m = h.mid in
@@ -143,10 +97,10 @@ module _ (key : Record → Record) (step : Option Record → Record → Step) (I
         (sums_in m h.after) (sums_in t w) in
         let K : ℕ → Type 0 = λ k. Charges s.pool.shape k 0 (t.moves - m.moves) h.spare 0
         (sums_in m h.after) (sums_in t w) in
-        pushed_books (counts_of v) (counts_of (ended s t w)) (m.moves - s.moves) (t.moves - m.moves) h.spare
+        pushed_books (counts_of v) (counts_of (ended s t w)) (m.moves - s.moves) (t.moves - m.moves) h.spare sound.shape
         (append_books sound few i told m h.after a)
         (subst K longest (subst S first.shape (h.works.charges (first.told ∙ told))))
-        n.pushed n.longest n.since n.resets n.settled (omega (arith, spent, first_moves, last_moves))
+        n.pushed n.longest n.since n.resets n.settled n.adopted n.counted (omega (arith, spent, first_moves, last_moves))
 
     ended_trunk : IsTrunk key IsOp IsKept t (ended s t w)
     ended_trunk =
@@ -155,14 +109,14 @@ module _ (key : Record → Record) (step : Option Record → Record → Step) (I
         let back = λ (z : IsTrue t.device.told).
         (let y : IsTrue s.device.told = sym first.told ∙ (sym last.told ∙ z) in y) in
         let shape : t.pool.shape ≡ s.pool.shape = last.shape ∙ first.shape in
-        let K : ShapeNumbers → Type 0 = λ g. KeepsBooks g (counts_of (ended s t w)) 0 (sums_in t w) in
+        let K : ShapeNumbers → Type 0 = λ g. Balanced g (counts_of (ended s t w)) (sums_in t w) in
         let n = numbers in
         let spent = n.spent in
         let longest = n.longest in
         let old = i.running.numbers.spent_most in
         let moves = later in
         record {
-          running = running_moves (t.moves - s.moves) (omega (arith, spent, old, moves)) h.works.running;
+          running = running_moved (t.moves - s.moves) (omega (arith, spent, old, moves)) h.works.running;
           few = h.few;
           unused = λ e. absurd (omega (arith, e, longest));
           silent = λ z e. absurd (omega (arith, e, longest));
@@ -222,13 +176,13 @@ module _ (key : Record → Record) (step : Option Record → Record → Step) (I
         ⊎ ((m : RigState) × (x : Trunk) × Appended op s m (counted_push s.pool.shape v) x
         × ChargesUpTo s.pool.shape (max v.longest (v.since + 1)) 0 (t.moves - m.moves) 0 (sums_in m x))
         → v.spent + (t.moves - s.moves)
-        ≤ tree_share s.pool.shape (v.pushed + 1) (max v.longest (v.since + 1)) v.resets v.settled
+        ≤ tree_share s.pool.shape (v.pushed + 1 + v.counted) (max v.longest (v.since + 1)) v.resets v.settled
     stopped_within told (inl two) = refused_push_share (counts_of v) (t.moves - s.moves) sound.shape few
         (omega (arith, two)) (i.books told) (toll_some s.pool.shape (max v.longest (v.since + 1)))
     stopped_within told (inr (m, x, a, up)) =
         let c = count_push (m.moves - s.moves) (counts_of v) in
-        let all = stopped_share c 0 (t.moves - m.moves) 0 sound.shape
-        (append_books sound few i told m x a) up (omega arith) in
+        let b = append_books sound few i told m x a in
+        let all = stopped_share c 0 (t.moves - m.moves) sound.shape b.books b.counted up (omega arith) in
         omega (arith, all)
 
     pub stopped_counts : CountsCall (count_push 0) s t v (ended s t w)

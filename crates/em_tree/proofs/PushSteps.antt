@@ -103,7 +103,7 @@ module _ (key : Record → Record) (IsOp IsKept : Record → Type 0) (op : Recor
             answers = rw (goes.frames.shape) f.answers;
             out = rw (goes.frames.free, goes.frames.shape) f.out;
           };
-          numbers = record { pushed = refl; longest = refl; since = refl; settled = refl; resets = refl; spent = refl };
+          numbers = record { pushed = refl; longest = refl; since = refl; settled = refl; resets = refl; spent = refl; adopted = refl; counted = refl };
           pays = pays_of_owes 0 (trunk_unstored v) (2 * fan_of s.pool.shape + 3) costs.owes_err
               (omega arith);
           cause = cause;

@@ -44,6 +44,8 @@ module _ {op : Record} {s m : RigState} {v w : Trunk} (app : Appended op s m v w
     settled = ap (λ (z : Trunk). z.settled) app.is;
     resets = ap (λ (z : Trunk). z.resets) app.is;
     spent = ap (λ (z : Trunk). z.spent) app.is;
+    adopted = ap (λ (z : Trunk). z.adopted) app.is;
+    counted = ap (λ (z : Trunk). z.counted) app.is;
   }
 
   pub appended_model : IsTrue s.device.told → model_of m w ≡ model_with op s v

@@ -1,5 +1,5 @@
 -- The room of a tree over its calls.
-use Rattle.std.proofs.Common.{◌≡◌, ℕ, ◌+◌, ◌*◌, ◌^◌, ◌<◌, ◌≤◌, List, length, refl, sym, ap, ◌∙◌, subst, arith, IsTrue, Result, Ok, Err, IsErrAnd, inl, inr}
+use Rattle.std.proofs.Common.{◌≡◌, ℕ, ◌+◌, ◌^◌, ◌<◌, ◌≤◌, List, length, refl, sym, ap, ◌∙◌, subst, arith, IsTrue, Result, Ok, Err, IsErrAnd, inl, inr}
 use Rattle.std.specs.Prelude.{IfErr, Option, max}
 use Rattle.em_record.specs.Shape.{ShapeNumbers}
 use Rattle.em_record.specs.declared.record.Record.{Record}
@@ -14,7 +14,7 @@ use Rattle.em_tree_cost.specs.Shares.{tree_room}
 use Rattle.em_tree_cost.proofs.Books.{books_refused_push}
 use Rattle.em_tree_model.specs.Tree.{Tree}
 use Rattle.em_tree_outline.specs.Outline.{outline_of}
-use Rattle.em_trunk.specs.Counting.{counted_push, counted_settling, with_steps}
+use Rattle.em_trunk.specs.Counting.{counted_push, counted_settling, counted_all}
 use Rattle.em_tree_visits.specs.FirstVisits.{TakesAllFirst}
 use Rattle.em_tree.specs.Pushing.{Appended, PushesTo}
 use Rattle.em_trunk.specs.Room.{FullOverRoom, HasCounters, KeepsIn, MayHold, StopsIn, WithinRoom, most_held}
@@ -37,9 +37,10 @@ counters_kept k same x =
       counters = x.counters;
       k_is = x.k ∙ same;
       few = (let e = x.n in let f = x.few in omega (arith, e, f));
+      few_adopted = (let e = x.adopted in let f = x.few_adopted in omega (arith, e, f));
       fits = x.paid.fits;
       root = x.paid.root;
-      split = omega arith;
+      parts = omega arith;
     }
 
 -- a clause on a fault, over a device that tells
@@ -59,15 +60,15 @@ module _ {key : Record → Record} {IsOp IsKept : Record → Type 0} {s : RigSta
   -- the operations that wait were pushed since the last reset
   waits_since : (sums_in s v).waiting ≤ v.since
   waits_since =
-      let b = i.books told in
-      let a = b.paid.fits.since_pushed in
+      let b = (i.books told).books in
+      let a = b.paid.fits.sums.since_pushed in
       let e = b.since in
       omega (arith, a, e)
 
   -- A call that pushes nothing begins with this.
   pub rest_holds : MayHold (v.answers.count + (sums_in s v).waiting) 0 s v
   rest_holds = record {
-    counters = counters_kept v.longest refl (i.books told);
+    counters = counters_kept v.longest refl (i.books told).books;
     answers = omega arith;
   }
 
@@ -144,7 +145,7 @@ module _ {key : Record → Record} {IsOp IsKept : Record → Type 0} {s : RigSta
   -- and a call that takes records out.
   pub taking_room : (step : Option Record → Record → Step) (area : List Record) {t : RigState} (w : Trunk)
       (r : Result Taken EmFault)
-      → TakesAllFirst key step IsOp IsKept area s t (with_steps s.pool.shape v) w r
+      → TakesAllFirst key step IsOp IsKept area s t (counted_all s.pool.shape v) w r
       → WithinRoom v.longest s t v × IfErr r (FullOverRoom v.longest s v)
   taking_room step area w (Ok x) h =
       let b = rest_holds in
@@ -220,7 +221,7 @@ module _ {key : Record → Record} {IsOp IsKept : Record → Type 0} {s : RigSta
     push_holds : MayHold push_answers 0 s pushed
     push_holds = record {
       counters = counters_kept push_k refl
-          (books_refused_push (i.books told) 0 sound.shape few (omega arith));
+          (books_refused_push (i.books told).books 0 sound.shape few (omega arith)).0;
       answers = omega arith;
     }
 
@@ -236,7 +237,7 @@ module _ {key : Record → Record} {IsOp IsKept : Record → Type 0} {s : RigSta
         omega (arith, answers, root, count) in
         record {
           counters = counters_as m.pool.shape x.longest a.session.touches.shape longest
-              (counters_kept push_k refl (append_books sound few i told m x a));
+              (counters_kept push_k refl (append_books sound few i told m x a).books);
           answers = sum;
         }
 

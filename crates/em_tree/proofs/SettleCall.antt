@@ -29,7 +29,8 @@ use Rattle.em_tree.specs.Trimmed.{IsTrimTrunk, SettlesTrim, StopsSettledTrim}
 use Rattle.em_tree.proofs.Counted.{counts_settled}
 use Rattle.em_tree.proofs.Joins.{stopped_books}
 use Rattle.em_tree.proofs.RoomCalls.{settling_room}
-use Rattle.em_tree.proofs.SettledTrims.{numbers_then, trim_books, trim_later, trim_numbers, trim_settled}
+use Rattle.em_trunk.proofs.Works.{numbers_then}
+use Rattle.em_tree.proofs.SettledTrims.{trim_books, trim_later, trim_numbers, trim_settled}
 use Rattle.em_tree.proofs.SettlingTolls.{stopped_toll}
 use Rattle.em_tree.proofs.TrimLooks.{root_leaf}
 use Rattle.em_tree.proofs.TrimTolls.{trimmed_toll}
@@ -56,7 +57,7 @@ module _ (key : Record → Record) (step : Option Record → Record → Step)
     x = h.emptied
 
     late_numbers : SameNumbers begun w
-    late_numbers = numbers_then begun x w h.settled.works.numbers h.stops.stops.numbers
+    late_numbers = numbers_then h.settled.works.numbers h.stops.stops.numbers
 
     late_later : s.moves ≤ t.moves
     late_later =
@@ -96,8 +97,7 @@ module _ (key : Record → Record) (step : Option Record → Record → Step)
         (λ trim. (let few = h.stops.quiet mid trim in (refl, omega (arith, few)))) in
         let few = stopped_books (counts_of v) (m.moves - s.moves) 0 h.settled.debt (t.moves - m.moves) sound.shape
         (is.books told) (a.charges told) (no_fee h.settled.debt (t.moves - m.moves) _ _ toll) in
-        let c = counts_settled (t.moves - s.moves) (v.settled + 1) v w n.pushed n.longest n.since n.resets n.settled
-        refl in
+        let c = counts_settled s.pool.shape (t.moves - s.moves) v w n in
         let P : TreeCounts → Type 0 = KeepsShare s.pool.shape in
         let spent = n.spent in
         subst P (sym c) (record { within = omega (arith, few, spent, first, last) })
@@ -134,8 +134,7 @@ module _ (key : Record → Record) (step : Option Record → Record → Step)
   early_share fault h told =
       let m = t.moves - s.moves in
       let n = h.stops.numbers in
-      let c = counts_settled m (v.settled + 1) v w n.pushed n.longest n.since n.resets n.settled
-      refl in
+      let c = counts_settled s.pool.shape m v w n in
       let P : TreeCounts → Type 0 = KeepsShare s.pool.shape in
       let few = stopped_settling (counts_of v) m h.debt sound.shape (is.books told) (h.stops.charges told)
       (stopped_toll key step IsOp IsKept s t v w sound is h told) in
@@ -197,8 +196,7 @@ module _ (key : Record → Record) (step : Option Record → Record → Step)
       let n = settle_numbers r h in
       let later = settling_later r h in
       record {
-        counts = counts_settled (t.moves - s.moves) (v.settled + 1) v w n.pushed n.longest n.since
-            n.resets n.settled refl;
+        counts = counts_settled s.pool.shape (t.moves - s.moves) v w n;
         spent = omega (arith, n.spent, later);
         share = settling_share r h;
       }

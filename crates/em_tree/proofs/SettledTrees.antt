@@ -8,7 +8,7 @@ use Rattle.em_settle.specs.declared.step.Step.{Step}
 use Rattle.em_space.specs.Rig.{RigState}
 use Rattle.em_space.specs.declared.fault.EmFault.{EmFault}
 use Rattle.em_chain.specs.Writer.{writer_items}
-use Rattle.em_tree_cost.specs.Paid.{settle_toll}
+use Rattle.em_tree_cost.specs.Paid.{settle_rest}
 use Rattle.em_tree_cost.specs.Shares.{levels_of}
 use Rattle.em_tree_model.specs.Pouring.{pour}
 use Rattle.em_tree_model.specs.Ranges.{least_record}
@@ -37,8 +37,8 @@ abbrev leaf_owing_by : ShapeNumbers → ℕ → ℕ
 leaf_owing_by h k = h.block * (35 + 3 * levels_of h k)
 
 -- what such a call pays for by itself, by numbers
-pub toll_same : (g h : ShapeNumbers) (k n : ℕ) → h ≡ g → n ≡ k → settle_toll h n ≡ settle_toll g k
-toll_same g h k n e f = ap (λ (z : ShapeNumbers). settle_toll z n) e ∙ ap (λ (z : ℕ). settle_toll g z) f
+pub toll_same : (g h : ShapeNumbers) (k n : ℕ) → h ≡ g → n ≡ k → settle_rest h n ≡ settle_rest g k
+toll_same g h k n e f = ap (λ (z : ShapeNumbers). settle_rest z n) e ∙ ap (λ (z : ℕ). settle_rest g z) f
 
 owing_sum : (B m a b c d e x y z : ℕ) → B * d + b + m * x ≤ a + m * y → B * e + c + m * y ≤ b + m * z
     → B * (d + e) + c + m * x ≤ a + m * z

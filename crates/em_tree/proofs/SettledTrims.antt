@@ -12,7 +12,7 @@ use Rattle.em_space.proofs.Steps.{same_frames_then}
 use Rattle.em_chain.specs.Writer.{writer_blocks}
 use Rattle.em_tree_blocks.specs.Reading.{tree_blocks}
 use Rattle.em_tree_blocks.proofs.Entries.{tree_level}
-use Rattle.em_tree_cost.specs.Books.{KeepsBooks}
+use Rattle.em_tree_cost.specs.Books.{Balanced}
 use Rattle.em_tree_cost.specs.Outline.{IsLevel, leaves_of, stored_of}
 use Rattle.em_tree_cost.specs.Shares.{levels_of}
 use Rattle.em_tree_cost.proofs.Ceilings.{blocks_ceil}
@@ -35,21 +35,11 @@ use Rattle.em_tree.specs.Calls.{ChangesTrunk, SettledTrunk}
 use Rattle.em_tree.specs.Trimmed.{CanTrimTrunk, SettledTrim, SumsJoin, leaves_gone}
 use Rattle.em_tree.proofs.Counted.{none_thin, running_moved}
 use Rattle.em_tree.proofs.Joins.{FitsLevel, trimmed_books}
+use Rattle.em_trunk.proofs.Works.{numbers_then}
 use Rattle.em_tree.proofs.TrimOutlines.{trim_held, trim_low, trim_stored}
 use Rattle.em_tree.proofs.TrimTolls.{trimmed_toll}
 use Rattle.em_tree.proofs.TrimmedTrees.{none_in_model}
 use Rattle.em_tree.proofs.Unused.{silent_all}
-
--- the numbers stay over two steps
-pub numbers_then : (u v w : Trunk) → SameNumbers u v → SameNumbers v w → SameNumbers u w
-numbers_then u v w a b = record {
-  pushed = b.pushed ∙ a.pushed;
-  longest = b.longest ∙ a.longest;
-  since = b.since ∙ a.since;
-  settled = b.settled ∙ a.settled;
-  resets = b.resets ∙ a.resets;
-  spent = b.spent ∙ a.spent;
-}
 
 module _ (key : Record → Record) (step : Option Record → Record → Step)
     (IsOp IsKept : Record → Type 0) (s t : RigState) (v w : Trunk) (sound : Sound s)
@@ -63,7 +53,7 @@ module _ (key : Record → Record) (step : Option Record → Record → Step)
   x = h.emptied
 
   pub trim_numbers : SameNumbers (counted_settling s.pool.shape v) w
-  trim_numbers = numbers_then (counted_settling s.pool.shape v) x w h.settled.works.numbers h.trimmed.made.numbers
+  trim_numbers = numbers_then h.settled.works.numbers h.trimmed.made.numbers
 
   pub trim_later : s.moves ≤ t.moves
   trim_later =
@@ -133,7 +123,7 @@ module _ (key : Record → Record) (step : Option Record → Record → Step)
         }
 
     -- The books are kept.
-    books : KeepsBooks s.pool.shape (counts_of (counted_moves (t.moves - s.moves) w)) 0 (sums_in t w)
+    books : Balanced s.pool.shape (counts_of (counted_moves (t.moves - s.moves) w)) (sums_in t w)
     books =
         let made = h.trimmed.made in
         let on = made.told told_mid in
@@ -158,7 +148,7 @@ module _ (key : Record → Record) (step : Option Record → Record → Step)
           root = made.drained.empty ∙ sym empty.empty;
           blocks = made.drained.unwritten ∙ sym empty.unwritten;
         })
-        fits_level toll n.pushed n.longest n.since n.resets n.settled
+        fits_level toll n.pushed n.longest n.since n.resets n.settled n.adopted n.counted
         (let spent = n.spent in omega (arith, spent, first, last))
 
     -- Its level and its blocks are those that so many records need.
@@ -211,7 +201,7 @@ module _ (key : Record → Record) (step : Option Record → Record → Step)
         blocks = (let e = made.drained.unwritten in omega (arith, e));
         thin = λ z. none_thin (full_limit t.pool.shape) some t w (can_then.none z);
         books = λ z.
-            let P : ShapeNumbers → Type 0 = λ g. KeepsBooks g (counts_of (counted_moves moves w)) 0 (sums_in t w) in
+            let P : ShapeNumbers → Type 0 = λ g. Balanced g (counts_of (counted_moves moves w)) (sums_in t w) in
             subst P (sym (shape_end (back z))) (books (back z));
       }
 
@@ -243,5 +233,5 @@ module _ (key : Record → Record) (step : Option Record → Record → Step)
   }
 
   pub trim_books : IsTrue s.device.told
-      → KeepsBooks s.pool.shape (counts_of (counted_moves (t.moves - s.moves) w)) 0 (sums_in t w)
+      → Balanced s.pool.shape (counts_of (counted_moves (t.moves - s.moves) w)) (sums_in t w)
   trim_books told = books told

@@ -29,6 +29,8 @@ module _ {key : Record → Record} {IsOp IsKept : Record → Type 0} {s : RigSta
           pushed_most = n.pushed_most;
           settled_most = omega (arith, few);
           resets_most = n.resets_most;
+          adopted_most = n.adopted_most;
+          counted_most = n.counted_most;
           spent_most = n.spent_most;
           root_below = n.root_below;
         };

@@ -11,11 +11,11 @@ use Rattle.em_space.specs.Rig.{RigState, Sound}
 use Rattle.em_space.specs.declared.fault.EmFault.{EmFault}
 use Rattle.em_tree_blocks.specs.Reading.{tree_blocks}
 use Rattle.em_tree_cost.specs.Counters.{Counters, Sums}
-use Rattle.em_tree_cost.specs.Paid.{FitsShape, settle_toll}
+use Rattle.em_tree_cost.specs.Paid.{FitsShape, settle_rest}
 use Rattle.em_tree_cost.specs.Shares.{levels_of}
 use Rattle.em_tree_cost.proofs.Ceilings.{blocks_ceil, blocks_most}
-use Rattle.em_tree_cost.proofs.Heights.{splits_few}
-use Rattle.em_tree_cost.proofs.Settling.{settle_most}
+use Rattle.em_tree_cost.proofs.Heights.{parts_few}
+use Rattle.em_tree_cost.proofs.Fusing.{fuse_settle_most}
 use Rattle.em_trunk.specs.Counting.{counted_settling}
 use Rattle.em_trunk.specs.Debts.{MayOwe, owing_all}
 use Rattle.em_tree.specs.Settling.{SettledAll, StopsSettling}
@@ -49,25 +49,26 @@ small_release L q leaves r one none few most =
 
 -- A settling's debt with the moves of a release, but for 64, is within the toll.
 released_fits : {shape : ShapeNumbers} {cs : Counters} {u : Sums} (debt r : ℕ) → IsShape shape
-    → FitsShape shape cs u → debt ≤ settle_toll shape cs.k
+    → FitsShape shape cs u → debt ≤ settle_rest shape cs.k
     → debt ≤ 10 * blocks_of shape cs.k + u.leaves * (63 * levels_of shape cs.k)
     → r ≤ 2 * (1 + u.leaves * (levels_of shape cs.k + 1) + 2 * blocks_of shape cs.k) + 1
-    → debt + (r - 64) ≤ settle_toll shape cs.k
+    → debt + (r - 64) ≤ settle_rest shape cs.k
 released_fits {shape = shape} {cs = cs} {u = u} debt r is a toll owed most =
     let q = blocks_of shape cs.k in
     let L = levels_of shape cs.k in
-    let some = a.leaves_some in
+    let some = a.sums.leaves_some in
     elim (cases_lt 0 cs.k) [
       | inl more ↦
-          let all = settle_most (debt + r) is a (inr (more, release_sum L q u.leaves debt r some owed most)) in
+          let sum = release_sum L q u.leaves debt r some owed most in
+          let all = fuse_settle_most is a (debt + r) (inr (more, omega (arith, sum))) in
           omega (arith, all)
       | inr none ↦
           let c = blocks_ceil shape cs.k is in
           let z : q ≤ 0 = blocks_most shape cs.k 0 is (omega (arith, none)) in
-          let splits = splits_few is a in
-          let leaves = a.leaves_are in
+          let parts = parts_few is a in
+          let leaves = a.sums.leaves_are in
           let small = small_release L q u.leaves r (one_level shape cs.k is none) z
-          (omega (arith, leaves, splits, z)) most in
+          (omega (arith, leaves, parts, z)) most in
           omega (arith, small, toll)
     ]
 
@@ -89,12 +90,12 @@ module _ (key : Record → Record) (step : Option Record → Record → Step)
         (on.0, omega (arith, e))
 
     -- the toll at the end is the same
-    pub same_toll : settle_toll t.pool.shape w.longest ≡ settle_toll s.pool.shape v.longest
+    pub same_toll : settle_rest t.pool.shape w.longest ≡ settle_rest s.pool.shape v.longest
     same_toll = toll_same s.pool.shape t.pool.shape v.longest w.longest x.works.session.touches.shape
         x.works.numbers.longest
 
     -- The settling went well,
-    pub settled_toll : x.debt ≤ settle_toll s.pool.shape v.longest
+    pub settled_toll : x.debt ≤ settle_rest s.pool.shape v.longest
     settled_toll =
         let few = may_toll 0 0 0 x.works.session.sound ended.0 (omega arith) in
         let less = ended.1 in
@@ -103,7 +104,7 @@ module _ (key : Record → Record) (step : Option Record → Record → Step)
 
     -- with the blocks' release, but for 64 moves of it,
     pub released_toll : (r : ℕ) → r ≤ 2 * length (tree_blocks w.level t w.root) + 1
-        → x.debt + (r - 64) ≤ settle_toll s.pool.shape v.longest
+        → x.debt + (r - 64) ≤ settle_rest s.pool.shape v.longest
     released_toll r most =
         let m = ended.0 in
         let less = ended.1 in
@@ -118,11 +119,11 @@ module _ (key : Record → Record) (step : Option Record → Record → Step)
         let O : ℕ → Type 0 = λ n. m.debt + 0 ≤ 10 * blocks_of shape n + (sums_in t w).leaves * (63 * levels_of shape n) in
         let own = subst O (sym k) owed in
         let toll = may_toll 0 0 0 sound_t m (omega arith) in
-        let T : ℕ → Type 0 = λ n. m.debt + 0 ≤ settle_toll shape n in
+        let T : ℕ → Type 0 = λ n. m.debt + 0 ≤ settle_rest shape n in
         let paid = subst T (sym k) toll in
         let full = (blocks_ceil shape cs.k sound_t.shape).holds in
-        let since = f.since_pushed in
-        let since_k = f.since_most in
+        let since = f.sums.since_pushed in
+        let since_k = f.sums.since_most in
         let stored : (sums_in t w).stored ≤ blocks_of shape cs.k * shape.block =
         omega (arith, full, since, since_k) in
         let L : ℕ → Type 0 = λ n. w.level ≤ levels_of shape n in
@@ -131,7 +132,7 @@ module _ (key : Record → Record) (step : Option Record → Record → Step)
         (levels_of shape cs.k) (blocks_of shape cs.k) low stored in
         let all = released_fits {u = sums_in t w} x.debt r sound_t.shape f (omega (arith, paid, less))
         (omega (arith, own, less)) (omega (arith, most, held)) in
-        let R : ℕ → Type 0 = λ n. x.debt + (r - 64) ≤ settle_toll shape n in
+        let R : ℕ → Type 0 = λ n. x.debt + (r - 64) ≤ settle_rest shape n in
         let here = subst R k all in
         let E : ℕ → Type 0 = λ n. x.debt + (r - 64) ≤ n in
         subst E same_toll here
@@ -140,7 +141,7 @@ module _ (key : Record → Record) (step : Option Record → Record → Step)
   pub stopped_toll : {fault : EmFault}
       → (x : StopsSettling (owing_all s (counted_settling s.pool.shape v)) s t
       (counted_settling s.pool.shape v) w fault)
-      → IsTrue s.device.told → x.debt ≤ settle_toll s.pool.shape v.longest
+      → IsTrue s.device.told → x.debt ≤ settle_rest s.pool.shape v.longest
   stopped_toll x told =
       let few = x.owes told (begun told) in
       omega (arith, few)

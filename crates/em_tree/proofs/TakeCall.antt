@@ -13,12 +13,12 @@ use Rattle.em_settle.specs.declared.step.Step.{Step}
 use Rattle.em_tree_model.specs.Owed.{owed}
 use Rattle.em_tree_model.specs.Taking.{LeavesTaken}
 use Rattle.em_tree_model.proofs.Taking.{leaves_taken, rising_ascends}
-use Rattle.em_tree_cost.specs.Books.{KeepsBooks, TreeCounts, count_drain, count_moves}
+use Rattle.em_tree_cost.specs.Books.{Balanced, TreeCounts, count_all, count_drain, count_moves}
 use Rattle.em_tree_cost.proofs.Books.{books_share}
 use Rattle.em_tree_cost.proofs.InCall.{call_begins}
 use Rattle.em_trunk.specs.Buffers.{IsThin}
 use Rattle.em_tree.specs.Calls.{CountsCall, KeepsShare, StopsTrunk}
-use Rattle.em_trunk.specs.Counting.{counted_moves, counted_reset, with_steps}
+use Rattle.em_trunk.specs.Counting.{counted_moves, counted_reset, counted_all}
 use Rattle.em_trunk.specs.Spots.{EachRead}
 use Rattle.em_tree_visits.specs.FirstVisits.{CanTakeAll, EndsAs, EndsBooks, LeavesEmpty, LeavesMore, TakesAllFirst, TakesOn, TookAllFirst}
 use Rattle.em_tree.specs.Taking.{CountsTake, TakesFirstTo, TookFirst}
@@ -28,9 +28,7 @@ use Rattle.em_trunk.specs.declared.trunk.Trunk.{Trunk}
 use Rattle.em_tree_visits.specs.declared.visiting.Taken.{Taken}
 use Rattle.em_trunk.proofs.Bounded.{limit_some}
 use Rattle.em_trunk.proofs.Charges.{books_less}
-use Rattle.em_tree.proofs.PushEnds.{same_counts}
-use Rattle.em_tree.proofs.Counted.{running_moved}
-use Rattle.em_trunk.proofs.StepWorks.{running_steps}
+use Rattle.em_tree.proofs.Counted.{running_moved, same_counts}
 use Rattle.em_trunk.proofs.Steps.{books_anew, since_call}
 use Rattle.em_tree.proofs.Unused.{one_leaf, silent_on}
 use Rattle.em_trunk.specs.Works.{FullIfWaits, CanWork}
@@ -51,13 +49,47 @@ reset_on s t w = counted_reset (counted_moves (t.moves - s.moves) w)
 module _ (key : Record → Record) (step : Option Record → Record → Step) (IsOp IsKept : Record → Type 0)
     {s : RigState} {v : Trunk} (sound : Sound s) (is : IsTrunk key IsOp IsKept s v) where
   abbrev begun : Trunk
-  begun = with_steps s.pool.shape v
+  begun = counted_all s.pool.shape v
+
+  running_all : IsRunning key IsOp IsKept s v → IsRunning key IsOp IsKept s begun
+  running_all r =
+      let n = r.numbers in
+      record {
+        frames = record { buffer = r.frames.buffer; answers = r.frames.answers; out = r.frames.out };
+        numbers = record {
+          level_some = n.level_some;
+          level_most = n.level_most;
+          since_most = n.since_most;
+          longest_most = n.longest_most;
+          pushed_most = n.pushed_most;
+          settled_most = n.settled_most;
+          resets_most = n.resets_most;
+          adopted_most = n.adopted_most;
+          counted_most = omega arith;
+          spent_most = n.spent_most;
+          root_below = n.root_below;
+        };
+        buffer = r.buffer;
+        answers = r.answers;
+        stands = λ told. (let st = r.stands told in record {
+          holds = st.holds;
+          stored = st.stored;
+          formed = st.formed;
+          is = st.is;
+          turn = st.turn;
+          lows = st.lows;
+          sized = st.sized;
+          bounded = st.bounded;
+          packed = st.packed;
+          answers_packed = st.answers_packed;
+        });
+      }
 
   -- The call can begin,
   pub begun_works : CanServe s.pool → CanWork key IsOp IsKept s begun
   begun_works free = record {
     sound = sound;
-    running = running_steps begun.steps is.running;
+    running = running_all is.running;
     free = omega (arith, free.singles);
     areas = free.areas;
     rack = free.rack;
@@ -80,7 +112,7 @@ module _ (key : Record → Record) (step : Option Record → Record → Step) (I
           few = begun_few;
           none_taken = refl;
           none_settled = refl;
-          books = call_begins (books_anew (omega arith) (is.books told));
+          books = call_begins (books_anew (omega arith) (is.books told).books);
           left = omega arith;
         } in
         (x, refl, refl, refl);
@@ -137,14 +169,15 @@ module _ (key : Record → Record) (step : Option Record → Record → Step) (I
         more told = (let P : Bool → Type 0 = λ b. EndsAs b key step x.count t w in subst P some (h.ends told))
 
         more_books : IsTrue s.device.told
-            → KeepsBooks s.pool.shape (counts_of (moved_on s t w)) 0 (sums_in t w)
+            → Balanced s.pool.shape (counts_of (moved_on s t w)) (sums_in t w)
         more_books told =
             let P : Bool → Type 0 = λ b. EndsBooks b s.pool.shape m (counts_of v) (sums_in t w) in
-            let e = subst P some (h.books told (counts_of v) refl (is.books told)) in
+            let e = subst P some (h.books told (counts_of v) refl (is.books told).books) in
             let n = on.numbers in
             let spent = spent_is in
-            books_less (count_moves m (counts_of v)) (counts_of (moved_on s t w)) 0 0 n.pushed n.longest n.since
-            n.resets n.settled (omega (arith, spent)) (omega arith) e
+            let x = books_less (count_moves m (counts_of v)) (counts_of (moved_on s t w)) 0 0 n.pushed n.longest n.since
+            n.resets n.settled n.adopted (omega (arith, spent)) (omega arith) e in
+            record { books = x.0; counted = inl (n.counted ∙ sym n.adopted) }
 
         pub takes_more : TookFirst key step IsOp IsKept area x.count s t v (moved_on s t w)
         takes_more =
@@ -159,7 +192,7 @@ module _ (key : Record → Record) (step : Option Record → Record → Step) (I
                 blocks = (let z = drained.unwritten in omega (arith, z));
                 thin = thin_as;
                 books = λ z.
-                    let P : ShapeNumbers → Type 0 = λ g. KeepsBooks g (counts_of (moved_on s t w)) 0
+                    let P : ShapeNumbers → Type 0 = λ g. Balanced g (counts_of (moved_on s t w))
                     (sums_in t w) in
                     subst P (sym shape_is) (more_books (back z));
               };
@@ -175,15 +208,15 @@ module _ (key : Record → Record) (step : Option Record → Record → Step) (I
                   inl (record { many = e.many; some = e.some; resets = on.numbers.resets });
             }
 
-        pub counts_more : CountsCall (λ c. c) s t v (moved_on s t w)
+        pub counts_more : CountsCall count_all s t v (moved_on s t w)
         counts_more =
             let n = on.numbers in
             let spent = spent_is in
             let later = on.session.touches.moves in
             record {
               counts = same_counts (counts_of (moved_on s t w))
-                  (record (counts_of v) { spent = (moved_on s t w).spent }) n.pushed n.longest n.since refl n.resets
-                  n.settled;
+                  (count_all (record (counts_of v) { spent = (moved_on s t w).spent })) n.pushed n.longest n.since refl
+                  n.resets n.settled n.adopted n.counted;
               spent = omega (arith, spent, later);
               share = λ told. record { within = books_share sound.shape (more_books told) };
             }
@@ -194,15 +227,16 @@ module _ (key : Record → Record) (step : Option Record → Record → Step) (I
         empty told = (let P : Bool → Type 0 = λ b. EndsAs b key step x.count t w in subst P none (h.ends told))
 
         reset_books : IsTrue s.device.told
-            → KeepsBooks s.pool.shape (counts_of (reset_on s t w)) 0 (sums_in t w)
+            → Balanced s.pool.shape (counts_of (reset_on s t w)) (sums_in t w)
         reset_books told =
             let P : Bool → Type 0 = λ b. EndsBooks b s.pool.shape m (counts_of v) (sums_in t w) in
-            let e = subst P none (h.books told (counts_of v) refl (is.books told)) in
+            let e = subst P none (h.books told (counts_of v) refl (is.books told).books) in
             let n = on.numbers in
             let spent = spent_is in
             let resets = n.resets in
-            books_less (count_drain m (counts_of v)) (counts_of (reset_on s t w)) 0 0 n.pushed n.longest refl
-            (omega (arith, resets)) n.settled (omega (arith, spent)) (omega arith) e
+            let x = books_less (count_drain m (counts_of v)) (counts_of (reset_on s t w)) 0 0 n.pushed n.longest refl
+            (omega (arith, resets)) n.settled n.adopted (omega (arith, spent)) (omega arith) e in
+            record { books = x.0; counted = inl (n.counted ∙ sym n.adopted) }
 
         -- it stands as it did
         reset_runs : v.resets < 2 ^ 100 → IsRunning key IsOp IsKept t (reset_on s t w)
@@ -221,6 +255,8 @@ module _ (key : Record → Record) (step : Option Record → Record → Step) (I
                 pushed_most = n.pushed_most;
                 settled_most = n.settled_most;
                 resets_most = omega (arith, resets, few);
+                adopted_most = n.adopted_most;
+                counted_most = n.counted_most;
                 spent_most = spent;
                 root_below = n.root_below;
               };
@@ -253,7 +289,7 @@ module _ (key : Record → Record) (step : Option Record → Record → Step) (I
                 blocks = (let z = drained.unwritten in omega (arith, z));
                 thin = thin_as;
                 books = λ z.
-                    let P : ShapeNumbers → Type 0 = λ g. KeepsBooks g (counts_of (reset_on s t w)) 0
+                    let P : ShapeNumbers → Type 0 = λ g. Balanced g (counts_of (reset_on s t w))
                     (sums_in t w) in
                     subst P (sym shape_is) (reset_books (back z));
               };
@@ -271,12 +307,12 @@ module _ (key : Record → Record) (step : Option Record → Record → Step) (I
                     contents = e.contents;
                     stored = e.stored;
                     waiting = e.waiting;
-                    level = (one_leaf sound.shape (reset_books told) refl).level;
+                    level = (one_leaf sound.shape (reset_books told).books refl).level;
                     resets = omega (arith, r);
                   });
             }
 
-        pub counts_rest : CountsCall (count_drain 0) s t v (reset_on s t w)
+        pub counts_rest : CountsCall (λ c. count_drain 0 (count_all c)) s t v (reset_on s t w)
         counts_rest =
             let n = on.numbers in
             let spent = spent_is in
@@ -284,8 +320,8 @@ module _ (key : Record → Record) (step : Option Record → Record → Step) (I
             let later = on.session.touches.moves in
             record {
               counts = same_counts (counts_of (reset_on s t w))
-                  (count_drain 0 (record (counts_of v) { spent = (reset_on s t w).spent })) n.pushed n.longest refl
-                  (omega arith) (omega (arith, resets)) n.settled;
+                  (count_drain 0 (count_all (record (counts_of v) { spent = (reset_on s t w).spent }))) n.pushed n.longest
+                  refl (omega arith) (omega (arith, resets)) n.settled n.adopted n.counted;
               spent = omega (arith, spent, later);
               share = λ told. record { within = books_share sound.shape (reset_books told) };
             }
@@ -302,21 +338,21 @@ module _ (key : Record → Record) (step : Option Record → Record → Step) (I
             cause = h.cause;
           }
 
-      pub counts_stopped : CountsCall (λ c. c) s t v (moved_on s t w)
+      pub counts_stopped : CountsCall count_all s t v (moved_on s t w)
       counts_stopped =
           let n = h.numbers in
           let spent = n.spent in
           let later = h.goes.touches.moves in
           let same = same_counts (counts_of (moved_on s t w))
-          (record (counts_of v) { spent = (moved_on s t w).spent }) n.pushed n.longest n.since refl n.resets
-          n.settled in
+          (count_all (record (counts_of v) { spent = (moved_on s t w).spent })) n.pushed n.longest n.since refl n.resets
+          n.settled n.adopted n.counted in
           let P : TreeCounts → Type 0 = KeepsShare s.pool.shape in
           record {
             counts = same;
             spent = omega (arith, spent, later);
             share = λ told. subst P (sym same) (record {
               within =
-                  let all = h.share told (counts_of v) 0 refl (call_begins (is.books told)) in
+                  let all = h.share told (counts_of v) 0 refl (call_begins (is.books told).books) in
                   omega (arith, all, spent);
             });
           }
@@ -327,24 +363,24 @@ module _ (key : Record → Record) (step : Option Record → Record → Step) (I
     (laws : IsSettle key step IsOp IsKept) where
   -- no move was taken back
   pub taking_later : (r : Result Taken EmFault)
-      → TakesAllFirst key step IsOp IsKept area s t (with_steps s.pool.shape v) w r → s.moves ≤ t.moves
+      → TakesAllFirst key step IsOp IsKept area s t (counted_all s.pool.shape v) w r → s.moves ≤ t.moves
   taking_later (Ok x) h = h.takes.session.touches.moves
   taking_later (Err fault) h = h.goes.touches.moves
 
   pub taking_spent : (r : Result Taken EmFault)
-      → TakesAllFirst key step IsOp IsKept area s t (with_steps s.pool.shape v) w r → w.spent ≤ s.moves
+      → TakesAllFirst key step IsOp IsKept area s t (counted_all s.pool.shape v) w r → w.spent ≤ s.moves
   taking_spent (Ok x) h =
       let a = h.takes.numbers.spent in let b = is.running.numbers.spent_most in omega (arith, a, b)
   taking_spent (Err fault) h =
       let a = h.numbers.spent in let b = is.running.numbers.spent_most in omega (arith, a, b)
 
   pub taking_err : (r : Result ℕ EmFault) (fault : EmFault) → IsErrAnd r (λ f. f ≡ fault)
-      → StopsVisit 0 0 s t (with_steps s.pool.shape v) w fault
+      → StopsVisit 0 0 s t (counted_all s.pool.shape v) w fault
       → TakesFirstTo key step IsOp IsKept area s t v (moved_on s t w) r
       × CountsTake s t v (moved_on s t w) r
   taking_err (Ok n) fault e h = absurd e
   taking_err (Err f) fault e h =
-      let P : EmFault → Type 0 = λ z. StopsTrunk s t v (moved_on s t w) z × CountsCall (λ c. c) s t v
+      let P : EmFault → Type 0 = λ z. StopsTrunk s t v (moved_on s t w) z × CountsCall count_all s t v
       (moved_on s t w) in
       subst P (sym e) (
         takes_stopped key step IsOp IsKept sound is laws h,
@@ -354,9 +390,9 @@ module _ (key : Record → Record) (step : Option Record → Record → Step) (I
 -- The whole call, by its parts.
 module _ (key : Record → Record) (step : Option Record → Record → Step) (IsOp IsKept : Record → Type 0)
     {s : RigState} {v x : Trunk} (shape : ShapeNumbers) (same : shape ≡ s.pool.shape)
-    (counted : x ≡ with_steps shape v) (sound : Sound s) (is : IsTrunk key IsOp IsKept s v) where
-  begun_as : x ≡ with_steps s.pool.shape v
-  begun_as = counted ∙ ap (λ g. with_steps g v) same
+    (counted : x ≡ counted_all shape v) (sound : Sound s) (is : IsTrunk key IsOp IsKept s v) where
+  begun_as : x ≡ counted_all s.pool.shape v
+  begun_as = counted ∙ ap (λ g. counted_all g v) same
 
   pub take_works : CanServe s.pool → CanWork key IsOp IsKept s x
   take_works free =
@@ -388,7 +424,7 @@ module _ (key : Record → Record) (step : Option Record → Record → Step) (I
   module _ (laws : IsSettle key step IsOp IsKept) (t : RigState) (w : Trunk) (area : List Record) {before : ℕ}
       (start : before ≡ s.moves) where
     from_begun : (r : Result Taken EmFault) → TakesAllFirst key step IsOp IsKept area s t x w r
-        → TakesAllFirst key step IsOp IsKept area s t (with_steps s.pool.shape v) w r
+        → TakesAllFirst key step IsOp IsKept area s t (counted_all s.pool.shape v) w r
     from_begun r h =
         let P : Trunk → Type 0 = λ z. TakesAllFirst key step IsOp IsKept area s t z w r in subst P begun_as h
 
@@ -419,7 +455,7 @@ module _ (key : Record → Record) (step : Option Record → Record → Step) (I
           subst Q (sym moved_as) (taking_err key step IsOp IsKept s t v w area sound is laws r fault e (subst P begun_as h))
 
       module _ (taken : Taken) (h : TookAllFirst key step IsOp IsKept taken area s t x w) where
-        took : TookAllFirst key step IsOp IsKept taken area s t (with_steps s.pool.shape v) w
+        took : TookAllFirst key step IsOp IsKept taken area s t (counted_all s.pool.shape v) w
         took = (let P : Trunk → Type 0 = λ z. TookAllFirst key step IsOp IsKept taken area s t z w in
             subst P begun_as h)
 

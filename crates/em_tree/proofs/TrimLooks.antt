@@ -39,7 +39,7 @@ use Rattle.em_tree.specs.Trimmed.{CanTrimTrunk, IsTrimTrunk, MadeTrim, MakesTrim
 
 -- the numbers that stay
 same_numbers : (v : Trunk) → SameNumbers v v
-same_numbers v = record { pushed = refl; longest = refl; since = refl; settled = refl; resets = refl; spent = refl }
+same_numbers v = record { pushed = refl; longest = refl; since = refl; settled = refl; resets = refl; spent = refl; adopted = refl; counted = refl }
 
 -- no leaf is gone
 none_gone : (w B : ℕ) (t : Sums) → 1 ≤ t.leaves → SumsJoin w B (t.leaves - t.leaves) t t

@@ -13,8 +13,10 @@ use Rattle.em_chain.specs.Counts.{ceiling}
 use Rattle.em_chain.specs.Writer.{writer_blocks}
 use Rattle.em_tree_blocks.specs.Reading.{tree_blocks}
 use Rattle.em_tree_cost.specs.Shares.{levels_of}
-use Rattle.em_tree_cost.proofs.Ceilings.{blocks_ceil, ceil_mono, ceiling_is}
-use Rattle.em_tree_cost.proofs.Heights.{root_levels, splits_few}
+use Rattle.std.specs.Int.{div_ceil}
+use Rattle.em_tree_cost.specs.Counters.{parts_since}
+use Rattle.em_tree_cost.proofs.Ceilings.{blocks_ceil, ceil_mono, ceiling_is, ceil_is}
+use Rattle.em_tree_cost.proofs.Heights.{root_levels, parts_few}
 use Rattle.em_tree_cost.proofs.Levels.{levels_most}
 use Rattle.em_tree_trim.specs.Trimming.{trim_room}
 use Rattle.em_tree_walk.proofs.Losses.{writer_length}
@@ -26,13 +28,13 @@ use Rattle.em_trunk.proofs.Rooms.{answers_blocks}
 use Rattle.em_tree.specs.Trimmed.{CanTrimTrunk}
 
 -- The tree's blocks, and those that trimming needs.
-fits_sum : (tree answers given leaves splits q L frames : ℕ) → tree ≤ 1 + leaves * (L + 1) + 2 * q
-    → leaves ≤ 1 + splits → 16 * splits ≤ q → L ≤ 24 → 64 ≤ frames → answers ≤ given
-    → tree + answers + (4 * leaves + 4) ≤ 7 * q + 5 + 3 * L + 2 * frames + given
-fits_sum tree answers given leaves splits q L frames held few rare low wide all =
-    let m : leaves * (L + 1) ≤ (1 + splits) * (L + 1) = mul-le-mul_right (L + 1) few in
-    let o : splits * (L + 1) ≤ splits * 25 = mul-le-mul_left splits (omega (arith, low)) in
-    omega (arith, held, few, rare, low, wide, all, m, o)
+fits_sum : (tree answers given leaves parts q most L frames : ℕ) → tree ≤ 1 + leaves * (L + 1) + 2 * q
+    → leaves ≤ 1 + parts → 8 * parts ≤ q → 85 * q ≤ most * 8 → L ≤ 24 → 64 ≤ frames → answers ≤ given
+    → tree + answers + (4 * leaves + 4) ≤ most + 5 + 3 * L + 2 * frames + given
+fits_sum tree answers given leaves parts q most L frames held few rare up low wide all =
+    let m : leaves * (L + 1) ≤ (1 + parts) * (L + 1) = mul-le-mul_right (L + 1) few in
+    let o : parts * (L + 1) ≤ parts * 25 = mul-le-mul_left parts (omega (arith, low)) in
+    omega (arith, held, few, rare, up, low, wide, all, m, o)
 
 module _ {key : Record → Record} {IsOp IsKept : Record → Type 0} {s : RigState} {v : Trunk}
     (run : IsRunning key IsOp IsKept s v) (is : IsShape s.pool.shape) (told : IsTrue s.device.told)
@@ -58,17 +60,19 @@ module _ {key : Record → Record} {IsOp IsKept : Record → Type 0} {s : RigSta
       let q = blocks_of sh cs.k in
       let L = levels_of sh cs.k in
       let root = root_levels is f in
-      let most = f.k_most in
+      let most = f.sums.k_most in
       let few = c.few in
-      let top : cs.k ≤ 2 ^ 103 = omega (arith, most, few) in
+      let adopted = c.few_adopted in
+      let top : cs.k ≤ 2 ^ 103 = omega (arith, most, few, adopted) in
       let low = levels_most sh cs.k is top in
       let whole = (blocks_ceil sh cs.k is).holds in
-      let since = f.since_pushed in
-      let since_k = f.since_most in
+      let since = f.sums.since_pushed in
+      let since_k = f.sums.since_most in
       let stored : (sums_in s v).stored ≤ q * sh.block = omega (arith, since, since_k, whole) in
       let held = held_few key IsOp IsKept s v run is told (can.none told) L q root stored in
-      let splits = splits_few is f in
-      let leaves = f.leaves_are in
+      let parts = parts_few is f in
+      let leaves = f.sums.leaves_are in
+      let up = (ceil_is (85 * q) 8 (omega arith)).holds in
       let b = writer_blocks s v.buffer in
       let x = writer_blocks s v.answers in
       let t = tree_blocks v.level s v.root in
@@ -79,7 +83,8 @@ module _ {key : Record → Record} {IsOp IsKept : Record → Type 0} {s : RigSta
       let none = can.drained.unwritten in
       let given = few_answers g h in
       let sum = fits_sum (length t) v.answers.blocks (ceiling g (payload_of sh)) (sums_in s v).leaves
-      cs.splits_since q L sh.frames held (omega (arith, leaves)) splits (omega (arith, low)) is.frames_low given in
+      (parts_since cs) q (div_ceil (85 * q) 8) L sh.frames held (omega (arith, leaves)) parts up (omega (arith, low))
+      is.frames_low given in
       let M : ℕ → Type 0 = λ k. length (trunk_blocks s v) + trim_room (sums_in s v).leaves ≤ most_held sh k g in
       let all : M cs.k = omega (arith, sum, n1, n2, lb, lx, none) in
       subst M c.k_is all

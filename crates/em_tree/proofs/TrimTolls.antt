@@ -11,12 +11,12 @@ use Rattle.em_space.specs.Rig.{RigState, Sound}
 use Rattle.em_tree_blocks.proofs.Entries.{tree_level}
 use Rattle.em_tree_cost.specs.Fusing.{fusing_debt, split_fee}
 use Rattle.em_tree_cost.specs.Outline.{IsLevel, inner_of}
-use Rattle.em_tree_cost.specs.Paid.{settle_toll}
+use Rattle.em_tree_cost.specs.Paid.{settle_rest}
 use Rattle.em_tree_cost.specs.Parts.{settle_debt}
 use Rattle.em_tree_cost.specs.Shares.{levels_of}
 use Rattle.em_tree_cost.proofs.Ceilings.{blocks_most}
 use Rattle.em_tree_cost.proofs.Fusing.{fuse_settle_most}
-use Rattle.em_tree_cost.proofs.Heights.{splits_few}
+use Rattle.em_tree_cost.proofs.Heights.{parts_few}
 use Rattle.em_tree_cost.proofs.Outlines.{inner_most}
 use Rattle.em_tree_outline.specs.Outline.{outline_of}
 use Rattle.em_tree_outline.proofs.Outlines.{outline_level}
@@ -86,7 +86,7 @@ module _ (key : Record → Record) (step : Option Record → Record → Step)
   -- Operations were pushed,
   used_toll : m ≤ looking_moves t w + making_moves t w → r + 1 ≤ (sums_in t w).leaves → 1 ≤ w.longest
       → x.debt + m + r * split_fee (wide_of t.pool.shape) (levels_of t.pool.shape w.longest)
-      ≤ settle_toll t.pool.shape w.longest
+      ≤ settle_rest t.pool.shape w.longest
   used_toll most gone some =
       let shape = t.pool.shape in
       let e = ended key step IsOp IsKept s t v w sound is x told in
@@ -104,18 +104,18 @@ module _ (key : Record → Record) (step : Option Record → Record → Step)
       let V : ℕ → Type 0 = λ j. w.level ≤ levels_of shape j in
       let low : w.level ≤ L = subst V a.longest (level_most sound_t.shape b) in
       let sum = trim_sum q L n w.level (inner_of (outline_of (root_of t w))) (wide_of shape) x.debt m r
-      f.leaves_some low (omega arith) inner_few gone (omega (arith, owed, less)) most in
+      f.sums.leaves_some low (omega arith) inner_few gone (omega (arith, owed, less)) most in
       let P : ℕ → Type 0 = λ j. (1 ≤ j) × (x.debt + m + r * split_fee (wide_of shape) (levels_of shape w.longest)
       ≤ settle_debt (levels_of shape j) (blocks_of shape j) n + fusing_debt (wide_of shape) (levels_of shape j) n) in
       let T : ℕ → Type 0 = λ j. x.debt + m + r * split_fee (wide_of shape) (levels_of shape w.longest)
-      ≤ settle_toll shape j in
-      subst T k (fuse_settle_most (x.debt + m + r * split_fee (wide_of shape) (levels_of shape w.longest))
-      sound_t.shape f (inr (subst P (sym k) (some, sum))))
+      ≤ settle_rest shape j in
+      subst T k (fuse_settle_most sound_t.shape f (x.debt + m + r * split_fee (wide_of shape) (levels_of shape w.longest))
+      (inr (subst P (sym k) (some, sum))))
 
   -- or none was: the tree is trim.
   unused_toll : (IsTrimTrunk t w → (r ≡ 0) × (m ≤ looking_moves t w)) → w.longest ≤ 0
       → x.debt + m + r * split_fee (wide_of t.pool.shape) (levels_of t.pool.shape w.longest)
-      ≤ settle_toll t.pool.shape w.longest
+      ≤ settle_rest t.pool.shape w.longest
   unused_toll quiet none =
       let shape = t.pool.shape in
       let e = ended key step IsOp IsKept s t v w sound is x told in
@@ -129,10 +129,10 @@ module _ (key : Record → Record) (step : Option Record → Record → Step)
       let n = (sums_in t w).leaves in
       -- the tree after the settling
       let q : blocks_of shape cs.k ≤ 0 = blocks_most shape cs.k 0 sound_t.shape (omega (arith, none, k)) in
-      let splits = splits_few sound_t.shape f in
-      let leaves = f.leaves_are in
+      let splits = parts_few sound_t.shape f in
+      let leaves = f.sums.leaves_are in
       let few : n ≤ 1 = omega (arith, leaves, splits, q) in
-      let some = f.leaves_some in
+      let some = f.sums.leaves_some in
       let V : ℕ → Type 0 = λ j. w.level ≤ levels_of shape j in
       let low = subst V a.longest (level_most sound_t.shape b) in
       let high = one_level shape w.longest sound_t.shape none in
@@ -145,23 +145,23 @@ module _ (key : Record → Record) (step : Option Record → Record → Step)
       let inner = inner_few in
       let flat : (w.level - 1) * n ≡ 0 * n = ap (λ (j : ℕ). (j - 1) * n) level in
       -- the tree before it
-      let c = is.books told in
+      let c = (is.books told).books in
       let g = c.paid.fits in
       let j : c.counters.k ≡ v.longest = c.k in
       let longest = x.works.numbers.longest in
       let zero_of : v.longest ≤ 0 = omega (arith, none, longest) in
       let q0 : blocks_of s.pool.shape c.counters.k ≤ 0 =
       blocks_most s.pool.shape c.counters.k 0 sound.shape (omega (arith, zero_of, j)) in
-      let splits0 = splits_few sound.shape g in
-      let leaves0 = g.leaves_are in
-      let some0 = g.leaves_some in
+      let splits0 = parts_few sound.shape g in
+      let leaves0 = g.sums.leaves_are in
+      let some0 = g.sums.leaves_some in
       let one0 : (sums_in s v).leaves ≡ 1 = omega (arith, leaves0, splits0, q0, some0) in
       let low0 : v.level ≤ levels_of s.pool.shape v.longest = level_most sound.shape c in
       let high0 = one_level s.pool.shape v.longest sound.shape zero_of in
       let up0 = is.running.numbers.level_some in
       let level0 : v.level ≡ 1 = omega (arith, low0, high0, up0) in
-      let since = g.since_pushed in
-      let since_k = g.since_most in
+      let since = g.sums.since_pushed in
+      let since_k = g.sums.since_most in
       let empty : (sums_in s v).stored + (sums_in s v).waiting ≡ 0 =
       omega (arith, since, since_k, j, zero_of) in
       let B = s.pool.shape.block in
@@ -179,18 +179,18 @@ module _ (key : Record → Record) (step : Option Record → Record → Step)
       (split_fee (wide_of shape) (levels_of shape w.longest)) (omega (arith, block)) (omega (arith, few, some))
       last empty high0 (omega (arith, inner, flat)) few only.1 only.0 in
       let T : ℕ → Type 0 = λ i. x.debt + m + r * split_fee (wide_of shape) (levels_of shape w.longest)
-      ≤ settle_toll shape i in
-      subst T k (fuse_settle_most (x.debt + m + r * split_fee (wide_of shape) (levels_of shape w.longest))
-      sound_t.shape f (inl all))
+      ≤ settle_rest shape i in
+      subst T k (fuse_settle_most sound_t.shape f (x.debt + m + r * split_fee (wide_of shape) (levels_of shape w.longest))
+      (inl all))
 
   -- A settling, and making the tree trim.
   pub trimmed_toll : m ≤ looking_moves t w + making_moves t w → r + 1 ≤ (sums_in t w).leaves
       → (IsTrimTrunk t w → (r ≡ 0) × (m ≤ looking_moves t w))
       → x.debt + m + r * split_fee (wide_of s.pool.shape) (levels_of s.pool.shape v.longest)
-      ≤ settle_toll s.pool.shape v.longest
+      ≤ settle_rest s.pool.shape v.longest
   trimmed_toll most gone quiet =
       let P : ShapeNumbers → ℕ → Type 0 = λ g k.
-      x.debt + m + r * split_fee (wide_of g) (levels_of g k) ≤ settle_toll g k in
+      x.debt + m + r * split_fee (wide_of g) (levels_of g k) ≤ settle_rest g k in
       let here : P t.pool.shape w.longest = elim (cases_lt 0 w.longest) [
         | inl some ↦ used_toll most gone some
         | inr none ↦ unused_toll quiet none

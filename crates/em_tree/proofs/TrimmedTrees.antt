@@ -141,6 +141,8 @@ module _ (key : Record → Record) (step : Option Record → Record → Step) (I
         pushed_most = n.pushed_most;
         settled_most = n.settled_most;
         resets_most = n.resets_most;
+        adopted_most = n.adopted_most;
+        counted_most = n.counted_most;
         spent_most = omega (arith, n.spent_most, later);
         root_below = in_use_below t new.block h.session.sound h.leads.in_use;
       }
@@ -262,6 +264,8 @@ module _ (key : Record → Record) (step : Option Record → Record → Step) (I
       settled = refl;
       resets = refl;
       spent = refl;
+      adopted = refl;
+      counted = refl;
     };
     drained = record { empty = can.drained.empty; unwritten = can.drained.unwritten };
     answers = refl;
@@ -303,6 +307,8 @@ trunk_unmade {s = s} {t = t} {v = v} run can sound h =
         settled = refl;
         resets = refl;
         spent = refl;
+        adopted = refl;
+        counted = refl;
       };
       cause = h.cause;
       moves = h.moves;

@@ -20,7 +20,7 @@ use Rattle.em_tree_blocks.specs.Node.{buffer_of, linked_block}
 use Rattle.em_tree_blocks.specs.Reading.{AreStored, IsTreeAt, entries_at, row_blocks, row_of, stored_chain, tree_at, tree_blocks}
 use Rattle.em_tree_blocks.proofs.Entries.{tree_level}
 use Rattle.em_tree_cost.specs.Books.{KeepsBooks, TreeCounts}
-use Rattle.em_tree_cost.specs.Counters.{Sums}
+use Rattle.em_tree_cost.specs.Counters.{Sums, parts_since}
 use Rattle.em_tree_cost.specs.Outline.{IsLevel, Outline, inner_of, leaves_of, node_of, stored_of}
 use Rattle.em_tree_cost.proofs.Outlines.{inner_most}
 use Rattle.em_tree_model.specs.Meaning.{tree_answers, tree_contents}
@@ -54,18 +54,18 @@ one_leaf {shape = shape} {t = t} is b none =
     let f = b.paid.fits in
     let cs = b.counters in
     let since : cs.since ≡ 0 = b.since ∙ none in
-    let wide : 1 ≤ 2 * wide_of shape = omega (arith, is.frames_low, is.frames_multiple) in
-    let size : 1 * shape.block ≤ 2 * wide_of shape * shape.block = mul-le-mul_right shape.block wide in
+    let wide : 1 ≤ wide_of shape = omega (arith, is.frames_low, is.frames_multiple) in
+    let size : 1 * shape.block ≤ wide_of shape * shape.block = mul-le-mul_right shape.block wide in
     let low = is.block_low in
-    let each : 1 * cs.splits_since ≤ 2 * wide_of shape * shape.block * cs.splits_since =
-    mul-le-mul_right cs.splits_since (omega (arith, size, low)) in
-    let splits : cs.splits_since ≡ 0 = omega (arith, each, f.splits_since_most, since) in
+    let each : 1 * parts_since cs ≤ wide_of shape * shape.block * parts_since cs =
+    mul-le-mul_right (parts_since cs) (omega (arith, size, low)) in
+    let parts : parts_since cs ≡ 0 = omega (arith, each, f.sums.parts_since_most, since) in
     record {
       level = ⊎_elim (λ (one : t.level ≡ 1). one)
-          (λ (some : 1 ≤ cs.splits_since). (let e : t.level ≡ 1 = absurd (omega (arith, some, splits)) in e))
-          f.level_split;
-      leaves = omega (arith, f.leaves_are, f.leaves_some, splits);
-      stored = omega (arith, f.since_pushed, since);
+          (λ (some : 2 ≤ parts_since cs). (let e : t.level ≡ 1 = absurd (omega (arith, some, parts)) in e))
+          f.root.level_parts;
+      leaves = omega (arith, f.sums.leaves_are, f.sums.leaves_some, parts);
+      stored = omega (arith, f.sums.since_pushed, since);
     }
 
 -- what a tree holds at most in which nothing waits: its nodes and leaves, and a block for each record
@@ -191,6 +191,6 @@ module _ (key : Record → Record) (step : Option Record → Record → Step) (I
   pub unused_blocks : IsShape s.pool.shape → length (tree_blocks v.level s v.root) ≤ 2
   unused_blocks shape =
       let n = is.running.numbers in
-      let one = one_leaf shape (is.books told) (omega (arith, n.since_most, unused)) in
+      let one = one_leaf shape (is.books told).books (omega (arith, n.since_most, unused)) in
       let few = few_blocks key IsOp IsKept s v is.running shape told (none_unused is unused told) one.level in
       omega (arith, few, one.leaves, one.stored)

@@ -25,9 +25,10 @@ use Rattle.em_trunk.specs.Meaning.{IsSettled, LeavesMeaning}
 use Rattle.em_trunk.specs.Trunk.{IsTrunk, TrunkHasFrames, counts_of, given_by, model_of, root_of, trunk_blocks, trunk_unstored}
 use Rattle.em_trunk.specs.declared.trunk.Trunk.{Trunk}
 
--- the moves of its calls are within the share, by the numbers that it has then
+-- the moves of its calls are within the share, by the numbers that it has then: the operations, and the adopted records that
+-- count
 abbrev pub KeepsShare : ShapeNumbers → TreeCounts → Type 0
-KeepsShare shape c = WithinShare shape c.n c.k c.z c.y c.spent
+KeepsShare shape c = WithinShare shape (c.n + c.counted) c.k c.z c.y c.spent
 
 -- A new tree: it holds two frames and two blocks, nothing is stored in it, and nothing waits.
 pub record IsNewTrunk (key : Record → Record) (IsOp IsKept : Record → Type 0) (s t : RigState)

@@ -6,3 +6,4 @@ pub mod Finishing
 pub mod Taking
 pub mod Handing
 pub mod Trimmed
+pub mod Adopting

@@ -11,7 +11,7 @@ use Rattle.em_settle.specs.declared.step.Step.{Step}
 use Rattle.em_tree_model.specs.Meaning.{tree_contents}
 use Rattle.em_tree_model.specs.Taking.{HasContents, LeavesTaken}
 use Rattle.em_tree_model.specs.Tree.{stored_in, waiting_in}
-use Rattle.em_tree_cost.specs.Books.{count_drain}
+use Rattle.em_tree_cost.specs.Books.{count_all, count_drain}
 use Rattle.em_tree_walk.specs.Paid.{LosesNone}
 use Rattle.em_tree.specs.Calls.{CountsCall, StopsTrunk}
 use Rattle.em_trunk.specs.Trunk.{IsTrunk, given_by, model_of, trunk_blocks, trunk_unstored}
@@ -57,7 +57,8 @@ TakesFirstTo key step IsOp IsKept area s t v w (Ok n) =
     TookFirst key step IsOp IsKept area n s t v w
 TakesFirstTo key step IsOp IsKept area s t v w (Err fault) = StopsTrunk s t v w fault
 
--- what it counts, by its result: its moves, and a reset if it was one
+-- what it counts, by its result: its moves, and a reset if it was one; and from then on all records that the tree was adopted
+-- with
 abbrev pub CountsTake : RigState → RigState → Trunk → Trunk → Result ℕ EmFault → Type 0
-CountsTake s t v w (Ok n) = CountsCall (λ c. c) s t v w ⊎ CountsCall (count_drain 0) s t v w
-CountsTake s t v w (Err fault) = CountsCall (λ c. c) s t v w
+CountsTake s t v w (Ok n) = CountsCall count_all s t v w ⊎ CountsCall (λ c. count_drain 0 (count_all c)) s t v w
+CountsTake s t v w (Err fault) = CountsCall count_all s t v w

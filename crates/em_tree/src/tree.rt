@@ -17,12 +17,13 @@ ghost use Rattle.em_tree_cost.specs.Books.{count_push, count_settle};
 use crate::emptying::push_op;
 use crate::ending::finish_blocks;
 use crate::settling::settle_trim;
-use em_chain::Chain;
+use em_chain::{Chain, Writer};
 use em_frames::{Area, Device};
 use em_record::Record;
 use em_settle::Settle;
 use em_space::{EmFault, Rig};
 use em_tree_visits::{Taken, take_all_first};
+use em_tree_walk::Root;
 use em_trunk::Trunk;
 
 /// A tree of operations and stored records. It holds two frames, and can't be dropped: `finish` makes
@@ -34,6 +35,7 @@ pub struct Tree<S: Settle> {
 
 impl<S: Settle> Tree<S> {
     ghost use Rattle.std.specs.Prelude.{Ok, Err, IfOk, IfErr};
+    ghost use Rattle.em_tree.specs.Adopting.{CanAdopt, IsAdopted};
     ghost use Rattle.em_tree.specs.Calls.{CountsCall, FinishCosts, FinishesTrunk, FullIfUntrim, IsLow, IsNewTrunk, PushesOp, SettlesTrunk, StopsNewTrunk};
     ghost use Rattle.em_space.specs.Rig.{IfFull};
     ghost use Rattle.em_tree.specs.Finishing.{FullIfUsed};
@@ -58,6 +60,38 @@ impl<S: Settle> Tree<S> {
     {
         let trunk = Trunk::new(rig)?;
         Ok(Tree { settle, trunk })
+    }
+
+    /// A tree over nodes and leaves that lie in blocks already, with `count` records. It holds two frames, and nothing is moved.
+    /// The records count as pushed from the first call of `take_first` on: before it they cost no move.
+    pub fn adopt<D: Device>(rig: &mut Rig<'_, D>, settle: S, root: Root, count: u64) -> Tree<S>
+        requires sound { Sound (seen D.state rig.old) }
+        requires free { 2 < (seen D.state rig.old).pool.free }
+        requires can { CanAdopt (S.key_of settle) (S.IsKept settle) (seen D.state rig.old) root count }
+        ensures rule { result.settle ≡ settle }
+        ensures adopts { IsAdopted (S.key_of settle) (S.IsOp settle) (S.IsKept settle)
+            (seen D.state rig.old) (seen D.state rig.new) root count result.trunk }
+    {
+        let buffer = Writer::new(rig);
+        let answers = Writer::new(rig);
+        Tree {
+            settle,
+            trunk: Trunk {
+                root: root.block,
+                level: root.level,
+                buffer,
+                answers,
+                pushed: 0,
+                longest: count as u128,
+                since: count as u128,
+                settled: 0,
+                resets: 0,
+                adopted: count,
+                counted: 0,
+                spent: 0,
+                steps: 0,
+            },
+        }
     }
 
     /// Adds an operation. It waits in the root's buffer; a buffer that is full is emptied. `Full` comes only
@@ -177,7 +211,7 @@ impl<S: Settle> Tree<S> {
             (seen D.state rig.old) self.old.trunk fault) }
     {
         let before = rig.moves();
-        self.trunk.allow_steps(&rig.shape());
+        self.trunk.count_all(&rig.shape());
         let taken = take_all_first(rig, &self.settle, &mut self.trunk, into);
         self.trunk.count_moves(rig, before);
         let Taken { count, reset } = taken?;

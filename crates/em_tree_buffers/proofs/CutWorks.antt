@@ -60,7 +60,7 @@ use Rattle.em_trunk.specs.Trunk.{IsRunning, IsStanding, full_limit, given_by, mo
 use Rattle.em_trunk.specs.Works.{StopsWorking, Works, deepest, unstored_most}
 use Rattle.em_trunk.specs.declared.trunk.Trunk.{Trunk}
 use Rattle.em_trunk.proofs.Bounded.{BoundedUpTo, bound_more, bound_some, each_here, limit_some, place_spot, rest_few}
-use Rattle.em_trunk.proofs.Charges.{charges_known, charges_load_deep, charges_load_some, charges_prepaid, charges_split_deep, charges_then, charges_within}
+use Rattle.em_trunk.proofs.Charges.{charges_cut, charges_known, charges_load_deep, charges_load_some, charges_prepaid, charges_then, charges_within}
 use Rattle.em_trunk.proofs.Continues.{continues_then}
 use Rattle.em_tree_buffers.proofs.CutLeaves.{CutLeaf, cut_here, cut_leaf, spot_rest}
 use Rattle.em_trunk.proofs.Cuts.{each_cut, fat_cut, leaves_cut, lows_cut}
@@ -201,8 +201,10 @@ module _ (key : Record → Record) (step : Option Record → Record → Step)
       (sums_of half v.level (outline_of (root_of t (after_load v b))) v.buffer.count v.buffer.blocks) u)
       → Charges s.pool.shape v.longest p 0 (p + pay) x (sums_in s v)
       (sums_of half v.level (outline_of c.middle) v.buffer.count v.buffer.blocks)
+      → (x ≡ 0 → SumsLoad (wide_of s.pool.shape * s.pool.shape.block) (sums_in s v)
+      (sums_of half v.level (outline_of c.middle) v.buffer.count v.buffer.blocks))
       → Charges s.pool.shape v.longest p m q x (sums_in s v) u)
-  cut_paid p x m q told moved ahead u third first =
+  cut_paid p x m q told moved ahead u third first whole =
       let d = cut_here key step IsOp IsKept laws shape run spot loaded told in
       let c = cut told in
       let sh = s.pool.shape in
@@ -217,9 +219,8 @@ module _ (key : Record → Record) (step : Option Record → Record → Step)
       let mid = sums_of half v.level (outline_of c.middle) v.buffer.count v.buffer.blocks in
       let now = sums_of half v.level (outline_of (root_of t (after_load v b))) v.buffer.count
       v.buffer.blocks in
-      let second = charges_split_deep {longest = v.longest} (p + pay) 0 (p + pay + more) more mid now shape
-      (omega arith) D c.splits (record { root = refl; blocks = refl })
-      (ceiling_is ((2 * L + 1) * w * sh.block) P some) (omega arith) in
+      let both = charges_cut {longest = v.longest} p (p + pay) (p + pay + more) more x mid shape (omega arith) first whole D
+      c.splits (record { root = refl; blocks = refl }) (ceiling_is ((2 * L + 1) * w * sh.block) P some) (omega arith) in
       charges_known shape (λ lev.
       let rest = cut_rest told L lev in
       let few : length d.rest ≤ (2 * L + 1) * w * sh.block = omega (arith, rest) in
@@ -228,9 +229,33 @@ module _ (key : Record → Record) (step : Option Record → Record → Step)
       (let a = min-le_right (length d.rest) (2 * fan_of sh) in let f = fan_twice shape in
       omega (arith, a, f)) in
       let fits : m + q ≤ p + pay + more = omega (arith, moved, fewer, entries, lev, ahead) in
-      let all = charges_then p 0 (p + pay + more) (x + 0) m q 0
-      (charges_then p 0 (p + pay) x 0 (p + pay + more) 0 first second) (third (p + pay + more) fits) in
-      charges_within p (0 + m) q (x + 0 + 0) m q x (omega arith) (omega arith) all)
+      let all = charges_then p 0 (p + pay + more) x m q 0 both (third (p + pay + more) fits) in
+      charges_within p (0 + m) q (x + 0) m q x (omega arith) (omega arith) all)
+
+  -- The load took as many operations as one may.
+  abbrev LoadsWhole : IsTrue s.device.told → Type 0
+  LoadsWhole told = SumsLoad (wide_of s.pool.shape * s.pool.shape.block) (sums_in s v)
+      (sums_of (2 * wide_of s.pool.shape * s.pool.shape.block) v.level (outline_of (cut told).middle) v.buffer.count
+      v.buffer.blocks)
+
+  load_whole : (told : IsTrue s.device.told)
+      → wide_of s.pool.shape * s.pool.shape.block
+      ≤ length (chain_items s (buffer_of (spot_entry s v path i))) → LoadsWhole told
+  load_whole told big =
+      let d = cut_here key step IsOp IsKept laws shape run spot loaded told in
+      let c = cut told in
+      let sh = s.pool.shape in
+      let mid = sums_of (2 * wide_of sh * sh.block) v.level (outline_of c.middle) v.buffer.count v.buffer.blocks in
+      let size : length d.load ≡ wide_of sh * sh.block = d.taken ∙ min-eq_right big in
+      let S : ℕ → Type 0 = λ k. SumsLoad k (sums_in s v) mid in
+      subst S size c.loads
+
+  -- One that owes something says nothing of that.
+  never_whole : (n : ℕ) (told : IsTrue s.device.told) → 1 ≤ n → s.pool.shape.block * n ≡ 0 → LoadsWhole told
+  never_whole n told some none =
+      let m : s.pool.shape.block * 1 ≤ s.pool.shape.block * n = mul-le-mul_left s.pool.shape.block some in
+      let low = shape.block_low in
+      absurd (omega (arith, m, low, none))
 
   -- The books of a full load alone, and of any.
   load_full : (p : ℕ) → (told : IsTrue s.device.told)
@@ -317,7 +342,7 @@ module _ (key : Record → Record) (step : Option Record → Record → Step)
             answers = loaded.wrote.is.frame.len_is ∙ ap (λ p. p.block) (sym stopped.goes.frames.shape);
             out = rw (f.shape, f.free) (run.frames.out);
           };
-          numbers = record { pushed = refl; longest = refl; since = refl; settled = refl; resets = refl; spent = refl };
+          numbers = record { pushed = refl; longest = refl; since = refl; settled = refl; resets = refl; spent = refl; adopted = refl; counted = refl };
           pays = pays_then (load_pays key step IsOp IsKept laws shape run spot loaded)
               (pays_more stopped.pays (omega (arith, most, last))) stopped.goes.touches.moves;
           cause = cause_after (trunk_blocks s v) s t u fault first_session.touches stopped.cause;
@@ -342,14 +367,14 @@ module _ (key : Record → Record) (step : Option Record → Record → Step)
         (ceiling (length d.load) (payload_of s.pool.shape)) (leaf_blocks s v path i)) x (sums_in s v)
         (sums_of (2 * wide_of s.pool.shape * s.pool.shape.block) v.level (outline_of (cut told).middle)
         v.buffer.count v.buffer.blocks))
-        → Charges s.pool.shape v.longest p (u.moves - s.moves) 0 x (sums_in s v) sums_cut
-    split_charges p x told first =
+        → (x ≡ 0 → LoadsWhole told) → Charges s.pool.shape v.longest p (u.moves - s.moves) 0 x (sums_in s v) sums_cut
+    split_charges p x told first whole =
         let now = sums_of (2 * wide_of s.pool.shape * s.pool.shape.block) v.level
         (outline_of (root_of t (after_load v b))) v.buffer.count v.buffer.blocks in
         let m = u.moves - s.moves in
         let moved = load_moved told in
         cut_paid p x m 0 told (omega (arith, moved, stopped.moves)) (omega arith) now
-        (λ r fits. charges_prepaid r m 0 now fits) first
+        (λ r fits. charges_prepaid r m 0 now fits) first whole
 
     split_charged : (p x : ℕ) → (told : IsTrue s.device.told)
         → (let d = cut_here key step IsOp IsKept laws shape run spot loaded told in
@@ -357,8 +382,8 @@ module _ (key : Record → Record) (step : Option Record → Record → Step)
         (ceiling (length d.load) (payload_of s.pool.shape)) (leaf_blocks s v path i)) x (sums_in s v)
         (sums_of (2 * wide_of s.pool.shape * s.pool.shape.block) v.level (outline_of (cut told).middle)
         v.buffer.count v.buffer.blocks))
-        → ChargesUpTo s.pool.shape v.longest p (u.moves - s.moves) x (sums_in s v)
-    split_charged p x told first = record { sums = sums_cut; charges = split_charges p x told first }
+        → (x ≡ 0 → LoadsWhole told) → ChargesUpTo s.pool.shape v.longest p (u.moves - s.moves) x (sums_in s v)
+    split_charged p x told first whole = record { sums = sums_cut; charges = split_charges p x told first whole }
 
     -- what the load owes, with a leaf more
     split_owes : (p : ℕ) → (told : IsTrue s.device.told)
@@ -387,7 +412,8 @@ module _ (key : Record → Record) (step : Option Record → Record → Step)
           sums = sums_cut;
           either = inr (
             omega (arith, one, two),
-            split_charges 0 (s.pool.shape.block * stop_debt i s v path) told (split_owes 0 told),
+            split_charges 0 (s.pool.shape.block * stop_debt i s v path) told (split_owes 0 told)
+                (never_whole (stop_debt i s v path) told (omega arith)),
           );
         }
 
@@ -402,9 +428,11 @@ module _ (key : Record → Record) (step : Option Record → Record → Step)
               let enough = big z in
               let limit : full_limit s.pool.shape ≡ 2 * (wide_of s.pool.shape * B) =
               ap (λ f. f * B) (fan_twice shape) ∙ omega arith in
-              split_charged p 0 z (load_full p z (omega (arith, enough, limit)))));
+              split_charged p 0 z (load_full p z (omega (arith, enough, limit)))
+              (λ none. load_whole z (omega (arith, enough, limit)))));
           owes = λ p some. split_stops p (B * stop_debt i s v path) some
-              (λ z. split_charged p (B * stop_debt i s v path) z (split_owes p z));
+              (λ z. split_charged p (B * stop_debt i s v path) z (split_owes p z)
+              (never_whole (stop_debt i s v path) z (omega arith)));
         }
 
   -- After such a load the splits went well.
@@ -674,6 +702,8 @@ module _ (key : Record → Record) (step : Option Record → Record → Step)
             pushed_most = n.pushed_most;
             settled_most = n.settled_most;
             resets_most = n.resets_most;
+            adopted_most = n.adopted_most;
+            counted_most = n.counted_most;
             spent_most = omega (arith, n.spent_most, h.moves, k.moves);
             root_below = in_use_below u new.block up.takes.session.sound up.leads.in_use;
           };
@@ -698,9 +728,10 @@ module _ (key : Record → Record) (step : Option Record → Record → Step)
         Charges s.pool.shape v.longest p 0 (p + pay) x (sums_in s v)
         (sums_of (2 * wide_of s.pool.shape * s.pool.shape.block) v.level (outline_of c.middle)
         v.buffer.count v.buffer.blocks)
+        → (x ≡ 0 → LoadsWhole told)
         → Charges s.pool.shape v.longest p (u.moves - s.moves) (p + 2 * L + L * L) x (sums_in s v)
         (sums_in u after_cut))
-    cut_charged p x told first =
+    cut_charged p x told first whole =
         let c = cut told in
         let sh = s.pool.shape in
         let L = deepest s v in
@@ -724,7 +755,7 @@ module _ (key : Record → Record) (step : Option Record → Record → Step)
         (sums_of half v.level (outline_of (root_of t (after_load v b))) v.buffer.count n)
         (sums_of half new.level (outline_of (root_of u after_cut)) v.buffer.count n) in
         subst Y (sym no_block) (subst X (sym none)
-        ((regrown told).charges v.longest half r m q fits fat)))) first in
+        ((regrown told).charges v.longest half r m q fits fat)))) first whole in
         let same = up.takes.session.touches.shape ∙ loaded.session.touches.shape in
         let Z : ShapeNumbers → Type 0 = λ y. Charges sh v.longest p m q x (sums_in s v)
         (sums_of (2 * wide_of y * y.block) new.level (outline_of (root_of u after_cut)) v.buffer.count
@@ -737,7 +768,7 @@ module _ (key : Record → Record) (step : Option Record → Record → Step)
         ≤ length (chain_items s (buffer_of (spot_entry s v path i)))
         → Charges s.pool.shape v.longest p (u.moves - s.moves)
         (p + 2 * deepest s v + deepest s v * deepest s v) 0 (sums_in s v) (sums_in u after_cut)
-    cut_full p told big = cut_charged p 0 told (load_full p told big)
+    cut_full p told big = cut_charged p 0 told (load_full p told big) (λ none. load_whole told big)
 
     pub cut_owed : (p : ℕ) → (told : IsTrue s.device.told) → Charges s.pool.shape v.longest p
         (u.moves - s.moves) (p + 2 * deepest s v + deepest s v * deepest s v)
@@ -745,6 +776,7 @@ module _ (key : Record → Record) (step : Option Record → Record → Step)
         (sums_in u after_cut)
     cut_owed p told = cut_charged p
         (s.pool.shape.block * (5 * leaf_blocks s v path i + 24 + 2 * deepest s v)) told (load_owing p told)
+        (never_whole (5 * leaf_blocks s v path i + 24 + 2 * deepest s v) told (omega arith))
 
     pub cut_steps : (p q x : ℕ) → (IsTrue s.device.told → Charges s.pool.shape v.longest p
         (u.moves - s.moves) q x (sums_in s v) (sums_in u after_cut))
@@ -754,7 +786,7 @@ module _ (key : Record → Record) (step : Option Record → Record → Step)
       frames = same_frames_then s.pool t.pool u.pool loaded.frames up.takes.frames;
       pays = cut_pays;
       loses = cut_loses;
-      numbers = record { pushed = refl; longest = refl; since = refl; settled = refl; resets = refl; spent = refl };
+      numbers = record { pushed = refl; longest = refl; since = refl; settled = refl; resets = refl; spent = refl; adopted = refl; counted = refl };
       steps = omega arith;
       running = cut_runs;
       continues = cut_continues;

@@ -79,7 +79,7 @@ module _ (key : Record → Record) (IsOp IsKept : Record → Type 0) (l node at 
         stops = λ p big. record {
           goes = g;
           frames = frames_same g.frames can.running.frames;
-          numbers = record { pushed = refl; longest = refl; since = refl; settled = refl; resets = refl; spent = refl };
+          numbers = record { pushed = refl; longest = refl; since = refl; settled = refl; resets = refl; spent = refl; adopted = refl; counted = refl };
           pays = pays;
           cause = cause;
           needs = waits_some s v fault (λ told. spot_waits (spot.spot.told told)
@@ -96,7 +96,7 @@ module _ (key : Record → Record) (IsOp IsKept : Record → Type 0) (l node at 
         owes = λ p any. record {
           goes = g;
           frames = frames_same g.frames can.running.frames;
-          numbers = record { pushed = refl; longest = refl; since = refl; settled = refl; resets = refl; spent = refl };
+          numbers = record { pushed = refl; longest = refl; since = refl; settled = refl; resets = refl; spent = refl; adopted = refl; counted = refl };
           pays = pays;
           cause = cause;
           needs = waits_some s v fault (λ told. spot_waits (spot.spot.told told) (any told));

@@ -269,6 +269,8 @@ module _ (key : Record → Record) (step : Option Record → Record → Step)
           settled = refl;
           resets = refl;
           spent = refl;
+          adopted = refl;
+          counted = refl;
         };
         steps = omega arith;
         running = running;

@@ -39,7 +39,7 @@ pub level_last : {shape : ShapeNumbers} {c : TreeCounts} {more : ℕ} {t : Sums}
     → c.k ≤ 2 ^ 101 → KeepsBooks shape c more t → t.level < 24
 level_last {shape = shape} {t = t} is few b = ⊎_elim
     (λ (e : t.level ≡ 1). omega (arith, e))
-    (λ (h : shape.block * (2 * wide_of shape) ^ t.level ≤ b.counters.k). ⊎_elim
+    (λ (h : shape.block * (2 * wide_of shape) ^ t.level ≤ 2 * b.counters.k). ⊎_elim
     (λ (low : t.level < 24). low)
     (λ (high : 24 ≤ t.level).
     let wide : 16 ≤ 2 * wide_of shape = omega (arith, is.frames_low, is.frames_multiple) in
@@ -52,7 +52,7 @@ level_last {shape = shape} {t = t} is few b = ⊎_elim
     let k = b.k in
     absurd (omega (arith, p, q, m, e, h, few, k)))
     (cases_lt t.level 24))
-    b.paid.fits.level_most
+    b.paid.fits.root.level_most
 
 -- the keys of a loop, over nodes of level l
 abbrev pub due_over_at : ℕ → Record → Option Record → Due

@@ -353,6 +353,8 @@ module _ (key : Record → Record) (step : Option Record → Record → Step)
               pushed_most = n.pushed_most;
               settled_most = n.settled_most;
               resets_most = n.resets_most;
+              adopted_most = n.adopted_most;
+              counted_most = n.counted_most;
               spent_most = omega (arith, n.spent_most, h.moves);
               root_below = rw (h.blocks) (n.root_below);
             };
@@ -466,7 +468,7 @@ module _ (key : Record → Record) (step : Option Record → Record → Step)
         frames = loaded.frames;
         pays = (load_pays loaded);
         loses = load_loses loaded;
-        numbers = record { pushed = refl; longest = refl; since = refl; settled = refl; resets = refl; spent = refl };
+        numbers = record { pushed = refl; longest = refl; since = refl; settled = refl; resets = refl; spent = refl; adopted = refl; counted = refl };
         steps = omega arith;
         running = load_runs;
         continues = load_continues;

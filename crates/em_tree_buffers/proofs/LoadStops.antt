@@ -160,7 +160,7 @@ module _ (key : Record → Record) (step : Option Record → Record → Step)
           answers = frame.len_is;
           out = rw (f.shape, f.free) (run.frames.out);
         };
-        numbers = record { pushed = refl; longest = refl; since = refl; settled = refl; resets = refl; spent = refl };
+        numbers = record { pushed = refl; longest = refl; since = refl; settled = refl; resets = refl; spent = refl; adopted = refl; counted = refl };
         pays = pays_more stopped.pays (omega (arith, most));
         cause = stopped.cause;
         needs = waits_some s v fault (λ told. spot_waits (spot told) (some told));

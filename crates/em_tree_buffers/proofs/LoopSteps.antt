@@ -85,6 +85,8 @@ cleared_same key step IsOp IsKept d s v can drained =
           settled = refl;
           resets = refl;
           spent = refl;
+          adopted = refl;
+          counted = refl;
         };
         steps = omega arith;
         running = still_running i g;

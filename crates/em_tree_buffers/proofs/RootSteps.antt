@@ -191,6 +191,8 @@ module _ (key : Record → Record) (step : Option Record → Record → Step)
         pushed_most = n.pushed_most;
         settled_most = n.settled_most;
         resets_most = n.resets_most;
+        adopted_most = n.adopted_most;
+        counted_most = n.counted_most;
         spent_most = omega (arith, n.spent_most, base.moves);
         root_below = rw (base.blocks) n.root_below;
       }
@@ -348,6 +350,8 @@ module _ (key : Record → Record) (step : Option Record → Record → Step)
           settled = refl;
           resets = refl;
           spent = refl;
+          adopted = refl;
+          counted = refl;
         };
         steps = omega arith;
         running = running;

@@ -73,7 +73,7 @@ module _ (key : Record → Record) (IsOp IsKept : Record → Type 0) (l : ℕ) (
         stops = λ p big. record {
           goes = g;
           frames = frames;
-          numbers = record { pushed = refl; longest = refl; since = refl; settled = refl; resets = refl; spent = refl };
+          numbers = record { pushed = refl; longest = refl; since = refl; settled = refl; resets = refl; spent = refl; adopted = refl; counted = refl };
           pays = pays;
           cause = cause;
           needs = needs;
@@ -89,7 +89,7 @@ module _ (key : Record → Record) (IsOp IsKept : Record → Type 0) (l : ℕ) (
         owes = λ p. record {
           goes = g;
           frames = frames;
-          numbers = record { pushed = refl; longest = refl; since = refl; settled = refl; resets = refl; spent = refl };
+          numbers = record { pushed = refl; longest = refl; since = refl; settled = refl; resets = refl; spent = refl; adopted = refl; counted = refl };
           pays = pays;
           cause = cause;
           needs = needs;

@@ -2,7 +2,7 @@
 use Rattle.std.proofs.Common.{ℕ, ◌+◌, ◌*◌, ◌≤◌, arith, inr}
 use Rattle.std.proofs.Math.Nat.{mul-le-mul_right, mul-le-mul_left}
 use Rattle.em_record.specs.Shape.{ShapeNumbers, IsShape, wide_of}
-use Rattle.em_tree_cost.specs.Counters.{Counters, Sums}
+use Rattle.em_tree_cost.specs.Counters.{Counters, Sums, parts_since}
 use Rattle.em_tree_cost.specs.Fees.{OpenVisit}
 use Rattle.em_tree_cost.specs.Paid.{PathDebt, open_visit_debt, toll_of}
 use Rattle.em_tree_cost.specs.Parts.{filled_debt, leave_debt, thin_debt, visit_debt}
@@ -52,7 +52,7 @@ debt_leave_filled w B L more j e m g o h =
 
 -- what `paid_within` asks, if the call is refused on a tree that was split
 pub debt_refused : (shape : ShapeNumbers) (more j e : ℕ) (cs : Counters) (t : Sums) → IsShape shape
-    → 1 ≤ cs.splits_since → PathDebt (wide_of shape) shape.block (levels_of shape cs.k) more j e
+    → 2 ≤ parts_since cs → PathDebt (wide_of shape) shape.block (levels_of shape cs.k) more j e
     → e ≤ 42 * wide_of shape + 37 + 6 * levels_of shape cs.k
     → OpenVisit (wide_of shape) shape.block (levels_of shape cs.k) (open_visit_debt shape cs.k) cs
     × (more ≤ 18 * (t.waiting + t.stored) + open_visit_debt shape cs.k + toll_of shape cs.k)

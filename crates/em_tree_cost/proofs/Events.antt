@@ -3,15 +3,15 @@
 use Rattle.std.proofs.Common.{◌≡◌, ℕ, ◌+◌, ◌*◌, ◌^◌, ◌≤◌, refl, arith, ◌⊎◌, inl, inr, ⊎_elim}
 use Rattle.std.proofs.Math.Nat.{mul-le-mul_left}
 use Rattle.em_record.specs.Shape.{ShapeNumbers, IsShape, wide_of, payload_of}
-use Rattle.em_tree_cost.specs.Counters.{Counters, Sums, fresh_sums}
-use Rattle.em_tree_cost.specs.Effects.{SameRoot, SumsFall, SumsGrow, SumsLoad, SumsLower, SumsRemove, SumsSplit, SumsTake, after_draining, after_loading, after_lowering, after_removing, after_settling, after_splitting, after_taking}
+use Rattle.em_tree_cost.specs.Counters.{Counters, Sums, fresh_sums, parts_since}
+use Rattle.em_tree_cost.specs.Effects.{SameRoot, SumsFall, SumsGrow, SumsLoad, SumsLower, SumsRemove, SumsSplit, SumsTake, after_draining, after_loading, after_lowering, after_owning, after_removing, after_settling, after_splitting, after_taking}
+use Rattle.em_tree_cost.specs.Fusing.{split_fee}
 use Rattle.em_tree_cost.specs.Paid.{PaidFor, settle_toll, toll_of}
 use Rattle.em_tree_cost.specs.Parts.{filled_debt, full_moves, leave_debt, load_moves, split_moves, thin_debt, thin_moves, visit_debt}
 use Rattle.em_tree_cost.specs.Shares.{levels_of}
 use Rattle.em_tree_cost.specs.Sizes.{IsCeil}
-use Rattle.em_tree_cost.proofs.Fees.{covers_debt, covers_draining, covers_loading, covers_settling, covers_taking}
-use Rattle.em_tree_cost.proofs.Fitting.{fits_draining, fits_fall, fits_loading, fits_lowering, fits_removing, fits_settling, fits_splitting, fits_taking}
-use Rattle.em_tree_cost.proofs.Heights.{fits_growing}
+use Rattle.em_tree_cost.proofs.Fees.{covers_debt, covers_draining, covers_loading, covers_owning, covers_settling, covers_taking}
+use Rattle.em_tree_cost.proofs.Fitting.{fits_draining, fits_fall, fits_growing, fits_loading, fits_lowering, fits_owning, fits_removing, fits_settling, fits_splitting, fits_taking}
 use Rattle.em_tree_cost.proofs.Levels.{size_is}
 use Rattle.em_tree_cost.proofs.Paid.{levels_within}
 use Rattle.em_tree_cost.proofs.Parts.{covers_full, covers_full_root, covers_leaf_split, covers_leave, covers_leave_filled, covers_load, covers_thin, covers_thin_root, covers_visit}
@@ -120,7 +120,7 @@ module _ {shape : ShapeNumbers} {spent more : ℕ} {cs : Counters} {t : Sums} (m
       → shape.block * m + more ≤ 18 * g + next
       → PaidFor shape (spent + m) next (after_taking g 0 cs) u
   paid_take g next c r h = record {
-    fits = fits_taking u a.fits g 0 (omega (arith, a.fits.left_most)) (inl refl) c;
+    fits = fits_taking u a.fits g 0 (omega (arith, a.fits.sums.left_most)) (inl refl) c;
     covers = covers_taking m next u a.covers g 0 r (omega (arith, h));
     root = same_ceil r;
   }
@@ -163,15 +163,17 @@ module _ {shape : ShapeNumbers} {spent more : ℕ} {cs : Counters} {t : Sums} (m
     root = same_ceil r;
   }
 
-  -- The end of `settle_all` or `finish`, or of one that was refused: d are the moves that no
-  -- operation, load or split pays for.
+  -- The end of `settle_all` or `finish`, or of one that was refused: d are the moves that no operation or load pays for. It
+  -- pays for the splits since the reset too.
   pub paid_settle : (d : ℕ) → SameRoot t u → SumsFall t u → shape.block * m + more ≤ shape.block * d
-      → d ≤ settle_toll shape cs.k → PaidFor shape (spent + m) 0 (after_settling cs) u
+      → d + cs.splits_since * split_fee (wide_of shape) (levels_of shape cs.k) ≤ settle_toll shape cs.k
+      → PaidFor shape (spent + m) 0 (after_settling (after_owning cs)) u
   paid_settle d r c o h =
-      let k : shape.block * d ≤ shape.block * settle_toll shape cs.k = mul-le-mul_left shape.block h in
+      let k : shape.block * (d + cs.splits_since * split_fee (wide_of shape) (levels_of shape cs.k))
+      ≤ shape.block * settle_toll shape cs.k = mul-le-mul_left shape.block h in
       record {
-        fits = fits_settling (fits_fall u a.fits c);
-        covers = covers_settling m 0 u a.covers r (omega (arith, k, o));
+        fits = fits_settling (fits_owning (fits_fall u a.fits c));
+        covers = covers_settling m 0 u (covers_owning a.covers a.fits.sums.splits_most) r (omega (arith, k, o));
         root = same_ceil r;
       }
 
@@ -179,11 +181,10 @@ module _ {shape : ShapeNumbers} {spent more : ℕ} {cs : Counters} {t : Sums}
     (a : PaidFor shape spent more cs t) where
   -- a new root, whose moves the split paid for
   pub paid_grow : (u : Sums) → IsShape shape
-      → ((2 * wide_of shape) ^ t.level ≤ cs.splits_since)
-      ⊎ ((2 * wide_of shape) ^ t.level + 1 ≤ t.leaves)
+      → (2 * wide_of shape) ^ t.level + 1 ≤ t.leaves
       → SumsGrow t u → SameRoot t u → PaidFor shape spent more cs u
   paid_grow u is some c r = record {
-    fits = fits_growing a.fits u (omega (arith, is.frames_low)) some c;
+    fits = fits_growing u a.fits (omega (arith, is.frames_low)) some c;
     covers = record { covered = rw (r.root, r.blocks) a.covers.covered };
     root = rw (r.root, r.blocks) a.root;
   }
@@ -191,20 +192,19 @@ module _ {shape : ShapeNumbers} {spent more : ℕ} {cs : Counters} {t : Sums}
   -- The end of a call that leaves nothing, on a tree whose root's buffer is empty: with one leaf,
   -- or with more, of which all but the last were visited.
   pub paid_drain : (m : ℕ) → IsShape shape → t.root ≡ 0 → t.blocks ≡ 0
-      → (cs.splits_since ≡ 0) × (shape.block * m + more ≤ toll_of shape cs.k)
-      ⊎ (1 ≤ cs.splits_since) × (shape.block * m + more
+      → (shape.block * m + more ≤ toll_of shape cs.k)
+      ⊎ (2 ≤ parts_since cs) × (shape.block * m + more
       ≤ toll_of shape cs.k + shape.block * (wide_of shape * (20 * levels_of shape cs.k + 31)))
       → PaidFor shape (spent + m) 0 (after_draining cs) fresh_sums
   paid_drain m is r b h = record {
     fits = fits_draining a.fits;
     covers = covers_draining m 0 fresh_sums a.covers refl r b
-        (omega (arith, a.fits.leaves_are, a.fits.leaves_some))
+        (omega (arith, a.fits.sums.leaves_are, a.fits.sums.leaves_some))
         (⊎_elim
-        (λ (x : (cs.splits_since ≡ 0) × (shape.block * m + more ≤ toll_of shape cs.k)).
-        inl (x.0, omega (arith, x.1)))
-        (λ (x : (1 ≤ cs.splits_since) × (shape.block * m + more
+        (λ (x : shape.block * m + more ≤ toll_of shape cs.k). inl (omega (arith, x)))
+        (λ (x : (2 ≤ parts_since cs) × (shape.block * m + more
         ≤ toll_of shape cs.k + shape.block * (wide_of shape * (20 * levels_of shape cs.k + 31)))).
-        inr (x.0, omega (arith, x.1)))
+        inr (omega (arith, a.fits.sums.leaves_are, a.fits.sums.leaves_some, x.0), omega (arith, x.1)))
         h);
     root = record { holds = omega arith; tight = omega (arith, is.block_low) };
   }

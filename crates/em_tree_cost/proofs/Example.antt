@@ -1,5 +1,5 @@
 -- Parts of calls, one after another: a whole push, and a visit of a leaf by `take_first`.
-use Rattle.std.proofs.Common.{◌≡◌, ℕ, ◌+◌, ◌*◌, ◌^◌, ◌<◌, ◌≤◌, refl, arith}
+use Rattle.std.proofs.Common.{◌≡◌, ℕ, ◌+◌, ◌*◌, ◌^◌, ◌<◌, ◌≤◌, refl, arith, inl}
 use Rattle.std.proofs.Math.Nat.{mul-le-mul_left}
 use Rattle.em_record.specs.Shape.{ShapeNumbers, IsShape, wide_of, payload_of}
 use Rattle.em_tree_cost.specs.Books.{InCall, KeepsBooks, TreeCounts, count_moves, count_push}
@@ -13,11 +13,11 @@ use Rattle.em_tree_cost.specs.Parts.{full_moves, load_moves}
 use Rattle.em_tree_cost.specs.Shares.{levels_of, tree_share}
 use Rattle.em_tree_cost.specs.Sizes.{IsCeil}
 use Rattle.em_tree_cost.specs.Spots.Spot.{here}
-use Rattle.em_tree_cost.proofs.Books.{books_push, books_share}
+use Rattle.em_tree_cost.proofs.Books.{books_push}
 use Rattle.em_tree_cost.proofs.Changes.{loading_change, pushing_change, root_lowering_change}
 use Rattle.em_tree_cost.proofs.Charges.{append_charge, some_load_most}
 use Rattle.em_tree_cost.proofs.Debts.{debt_moves, debt_visit}
-use Rattle.em_tree_cost.proofs.InCall.{call_begins, call_ends, call_full_root, call_load, call_load_some, call_take, call_thin_root, call_visit}
+use Rattle.em_tree_cost.proofs.InCall.{call_begins, call_full_root, call_load, call_load_some, call_refused, call_take, call_thin_root, call_visit}
 use Rattle.em_tree_cost.proofs.Levels.{size_is}
 
 -- A push, from its tree to the share: the root's buffer becomes full and goes to the buffer of the
@@ -31,7 +31,7 @@ pub push_loads : {shape : ShapeNumbers} {c : TreeCounts} (half a n x d d2 rest o
     → a + (x + 1) ≡ rest + wide_of shape * shape.block → o ≤ n + wide_of shape * shape.block
     → IsCeil i (payload_of shape) (wide_of shape * shape.block) → e ≤ 4 * wide_of shape + 1
     → m2 ≤ load_moves 0 i e
-    → c.spent + m0 + m1 + m2 ≤ tree_share shape (c.n + 1) (count_push m0 c).k c.z c.y
+    → c.spent + m0 + m1 + m2 ≤ tree_share shape (c.n + 1 + c.adopted) (count_push m0 c).k c.z c.y
 push_loads {shape = shape} half a n x d d2 rest o e i m0 m1 m2
     is low b i2 k0 fullness k1 cut le load_ceil leaf_most k2 =
     let row = entry a (leaf n) end in
@@ -39,7 +39,7 @@ push_loads {shape = shape} half a n x d d2 rest o e i m0 m1 m2
     let poured_row = entry (a + (x + 1)) (leaf n) end in
     let t2 = sums_of half 1 poured_row 0 0 in
     let t3 = sums_of half 1 (entry rest (leaf o) end) 0 0 in
-    let b1 = books_push b m0 t1 is low (pushing_change half 1 x d d2 row) refl k0 i2 in
+    let b1 = (books_push b m0 t1 is low (pushing_change half 1 x d d2 row) refl k0 i2).0 in
     let poured : Pours (x + 1) row poured_row = some (x + 1) (omega arith) refl none in
     let b2 = call_full_root m1 t2 is (call_begins b1)
     (root_lowering_change half 0 (x + 1) d2 row poured_row poured) refl refl fullness k1 in
@@ -48,7 +48,7 @@ push_loads {shape = shape} half a n x d d2 rest o e i m0 m1 m2
     le) in
     let same : SameRoot t2 t3 = record { root = refl; blocks = refl } in
     let b3 = call_load m2 t3 is b2 i e change same load_ceil leaf_most (omega (arith, k2)) in
-    books_share is (call_ends b3 refl)
+    call_refused b3 is (inl (omega arith))
 
 -- A visit in a tree of one level: the root's buffer goes to the buffers of the leaves, with up to
 -- 16 * w + 13 moves for the root and its children; a load of y operations in d blocks meets a leaf

@@ -1,10 +1,11 @@
 -- What each event pays for: its moves, and what was owed before, are within its fee and what is
 -- owed afterwards.
-use Rattle.std.proofs.Common.{◌≡◌, ℕ, ◌+◌, ◌*◌, ◌≤◌, refl, arith, ◌⊎◌, ⊎_elim}
+use Rattle.std.proofs.Common.{◌≡◌, ℕ, ◌+◌, ◌-◌, ◌*◌, ◌≤◌, arith, ◌⊎◌, ⊎_elim}
 use Rattle.std.proofs.Math.Nat.{mul-le-mul_right, mul-le-mul_left, mul-le-mul}
-use Rattle.em_tree_cost.specs.Counters.{Counters, Sums, fresh_sums, no_counters}
-use Rattle.em_tree_cost.specs.Effects.{SameRoot, after_draining, after_loading, after_lowering, after_pushing, after_removing, after_settling, after_splitting, after_taking}
+use Rattle.em_tree_cost.specs.Counters.{Counters, Sums, fresh_sums, no_counters, parts_since}
+use Rattle.em_tree_cost.specs.Effects.{SameRoot, after_draining, after_loading, after_lowering, after_owning, after_pushing, after_removing, after_settling, after_splitting, after_taking}
 use Rattle.em_tree_cost.specs.Fees.{Covers, fee, toll}
+use Rattle.em_tree_cost.specs.Fusing.{split_fee}
 
 -- The fees don't fall if the levels rise.
 fee_rises : (w B L M : ℕ) (cs : Counters) → L ≤ M → fee w B L cs ≤ fee w B M cs
@@ -88,26 +89,38 @@ module _ {w B L c q spent more : ℕ} {cs : Counters} {t : Sums} (m next : ℕ) 
   covers_settling s h = record { covered = rw (s.root, s.blocks) (omega (arith, p.covered, h)) }
 
   -- The last leaf was handed out: its visit is paid for if the tree had two leaves since its reset.
-  pub covers_draining : u.root ≡ 0 → t.root ≡ 0 → t.blocks ≡ 0 → cs.removed_since ≤ cs.splits_since
-      → (cs.splits_since ≡ 0) × (B * m + more ≤ c + next)
-      ⊎ (1 ≤ cs.splits_since) × (B * m + more ≤ c + B * (w * (20 * L + 31)) + next)
+  pub covers_draining : u.root ≡ 0 → t.root ≡ 0 → t.blocks ≡ 0 → cs.removed_since ≤ parts_since cs
+      → (B * m + more ≤ c + next)
+      ⊎ (cs.removed_since + 1 ≤ parts_since cs) × (B * m + more ≤ c + B * (w * (20 * L + 31)) + next)
       → Covers w B L c q (spent + m) next (after_draining cs) u
   covers_draining r x b le h =
       let before = cs.visits_before + cs.removed_since in
-      let after = cs.visits_before + 2 * cs.splits_since + 0 in
+      let after = cs.visits_before + parts_since cs + 0 in
       let zero_blocks : B * (2 * t.blocks) ≡ 0 = rw b (omega arith) in ⊎_elim
-      (λ (n : (cs.splits_since ≡ 0) × (B * m + more ≤ c + next)).
-      let z : cs.removed_since ≡ 0 = omega (arith, n.0, le) in
-      let e : before ≡ after = omega (arith, n.0, z) in
-      let f : (20 * L + 31) * (w * B * before) ≡ (20 * L + 31) * (w * B * after) = rw e refl in
-      record { covered = rw r (omega (arith, p.covered, x, zero_blocks, f, n.1)) })
-      (λ (n : (1 ≤ cs.splits_since) × (B * m + more ≤ c + B * (w * (20 * L + 31)) + next)).
-      let e : before + 1 ≤ after = omega (arith, n.0, le) in
+      (λ (n : B * m + more ≤ c + next).
+      let k : w * B * before ≤ w * B * after = mul-le-mul_left (w * B) (omega (arith, le)) in
+      let f : (20 * L + 31) * (w * B * before) ≤ (20 * L + 31) * (w * B * after) = mul-le-mul_left (20 * L + 31) k in
+      record { covered = rw r (omega (arith, p.covered, x, zero_blocks, f, n)) })
+      (λ (n : (cs.removed_since + 1 ≤ parts_since cs) × (B * m + more ≤ c + B * (w * (20 * L + 31)) + next)).
+      let e : before + 1 ≤ after = omega (arith, n.0) in
       let k : w * B * (before + 1) ≤ w * B * after = mul-le-mul_left (w * B) e in
       let f : (20 * L + 31) * (w * B * (before + 1)) ≤ (20 * L + 31) * (w * B * after) =
       mul-le-mul_left (20 * L + 31) k in
       record { covered = rw r (omega (arith, p.covered, x, zero_blocks, f, n.1)) })
       h
+
+-- The splits since the reset were those of a settling, which owes their fees.
+pub covers_owning : {w B L c q spent more : ℕ} {cs : Counters} {t : Sums} → Covers w B L c q spent more cs t
+    → cs.splits_since ≤ cs.splits
+    → Covers w B L c q spent (more + B * (cs.splits_since * split_fee w L)) (after_owning cs) t
+covers_owning {w} {B} {L} {cs = cs} p h =
+    let rest = cs.splits - cs.splits_since in
+    let e : rest + cs.splits_since ≡ cs.splits = omega (arith, h) in
+    let f : (7 * L + 12) * (2 * w * B * (rest + cs.splits_since))
+    ≡ (7 * L + 12) * (2 * w * B * rest) + B * (cs.splits_since * (2 * w * (7 * L + 12))) = grind arith in
+    let g : (7 * L + 12) * (2 * w * B * cs.splits)
+    ≡ (7 * L + 12) * (2 * w * B * rest) + B * (cs.splits_since * (2 * w * (7 * L + 12))) = rw e at f in
+    record { covered = omega (arith, p.covered, g) }
 
 module _ {w B L c q spent more : ℕ} {cs : Counters} {t : Sums} (m : ℕ) (u : Sums)
     (p : Covers w B L c q spent more cs t) where

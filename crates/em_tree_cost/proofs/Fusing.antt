@@ -1,122 +1,92 @@
 -- Fusing keeps what ties counters and sums, and its moves are within the toll of `settle_all`.
 use Rattle.std.proofs.Common.{◌≡◌, ℕ, zero, suc, ◌+◌, ◌-◌, ◌*◌, ◌^◌, ◌≤◌, refl, arith, ◌⊎◌, inl, inr, ⊎_elim}
-use Rattle.std.proofs.Math.Nat.{le_of_mul-le-mul_right, mul-le-mul_right, mul-le-mul_left, mul-le-mul, pow-suc, pow-zero}
+use Rattle.std.proofs.Math.Nat.{mul-le-mul_right, mul-le-mul_left, mul-le-mul, pow-suc, pow-zero}
 use Rattle.std.proofs.lemmas.Bool.{cases_lt}
 use Rattle.em_record.specs.Cost.{blocks_of, lev}
 use Rattle.em_record.specs.Shape.{ShapeNumbers, IsShape, fan_of, wide_of}
 use Rattle.em_tree_cost.specs.Books.{KeepsBooks, TreeCounts, count_moves}
-use Rattle.em_tree_cost.specs.Counters.{Counters, CountersFit, Sums}
-use Rattle.em_tree_cost.specs.Effects.{SameRoot}
+use Rattle.em_tree_cost.specs.Counters.{Counters, CountersFit, Sums, parts_of, parts_since}
+use Rattle.em_tree_cost.specs.Effects.{SameRoot, StillTaken}
 use Rattle.em_tree_cost.specs.Fat.{AllFat, IsFat}
 use Rattle.em_tree_cost.specs.Fees.{Covers}
-use Rattle.em_tree_cost.specs.Fusing.{LeavesFrom, SumsFuse, SumsShare, after_fusing, fusing_debt, split_fee, synced_share, with_level}
+use Rattle.em_tree_cost.specs.Fusing.{LeavesFrom, SumsFuse, SumsShare, Undoes, Undone, fusing_debt, split_fee, synced_share, with_level, without_leaf, without_settled, without_split}
+use Rattle.em_tree_cost.specs.Fusing.Undoes.{of_adoption, of_operations, of_settling}
 use Rattle.em_tree_cost.specs.Outline.{IsFilled, IsLevel, Outline, count_of, stored_of}
 use Rattle.em_tree_cost.specs.Outline.Outline.{leaf, end, entry}
-use Rattle.em_tree_cost.specs.Paid.{FitsShape, PaidFor, settle_toll}
+use Rattle.em_tree_cost.specs.Paid.{FitsShape, PaidFor, settle_rest}
 use Rattle.em_tree_cost.specs.Parts.{settle_debt}
 use Rattle.em_tree_cost.specs.Shares.{floors_of, levels_of, tree_share}
-use Rattle.em_tree_cost.proofs.Books.{books_step}
-use Rattle.em_tree_cost.proofs.Ceilings.{blocks_ceil}
-use Rattle.em_tree_cost.proofs.Heights.{splits_few}
-use Rattle.em_tree_cost.proofs.Levels.{fan_wide, root_height}
+use Rattle.em_tree_cost.proofs.Fees.{covers_debt}
+use Rattle.em_tree_cost.proofs.Fitting.{fits_level, fits_sharing, root_flat, still_taken}
+use Rattle.em_tree_cost.proofs.Heights.{parts_wide}
+use Rattle.em_tree_cost.proofs.Levels.{fan_wide, lev_few, root_height, size_is}
 use Rattle.em_record.proofs.Blocks.{blocks_rise}
 use Rattle.em_record.proofs.Levels.{lev_rises}
 use Rattle.em_tree_cost.proofs.Settling.{one_leaf, some_block}
 
--- a leaf more than one was split
-some_split : {w B L : ℕ} {cs : Counters} {t : Sums} → CountersFit w B L cs t → 2 ≤ t.leaves
-    → (1 ≤ cs.splits_since) × (1 ≤ cs.splits)
-some_split a two = (omega (arith, a.leaves_are, two), omega (arith, a.leaves_are, a.visits_most, two))
+-- what is taken off a factor
+taken_off : (c x y i : ℕ) → x ≡ y + i → c * x ≡ c * y + c * i
+taken_off c x y i e = rw e (omega arith)
 
--- A fused leaf gives back the 2·w·B operations of a split, of which the other leaf may have half for its excess.
-pub fits_fusing : {w B L : ℕ} {cs : Counters} {t : Sums} (u : Sums) → CountersFit w B L cs t → SumsFuse w B t u
-    → CountersFit w B L (after_fusing cs) u
-fits_fusing {w} {B} {L} {cs} {t} u a m =
-    let s = some_split a (omega (arith, m.leaves, m.some)) in
-    let k : 2 * w * B * (cs.splits - 1) + 2 * w * B ≡ 2 * w * B * cs.splits =
-    let e : cs.splits - 1 + 1 ≡ cs.splits = omega (arith, s.1) in
-    let f : 2 * w * B * (cs.splits - 1) + 2 * w * B ≡ 2 * w * B * (cs.splits - 1 + 1) = grind arith in
-    rw e at f in
-    let l : 2 * w * B * (cs.splits_since - 1) + 2 * w * B ≡ 2 * w * B * cs.splits_since =
-    let e : cs.splits_since - 1 + 1 ≡ cs.splits_since = omega (arith, s.0) in
-    let f : 2 * w * B * (cs.splits_since - 1) + 2 * w * B ≡ 2 * w * B * (cs.splits_since - 1 + 1) = grind arith in
-    rw e at f in
-    record {
-      all_pushed = omega (arith, a.all_pushed, m.waiting, m.stored);
-      since_pushed = omega (arith, a.since_pushed, m.waiting, m.stored);
-      since_most = a.since_most;
-      k_most = a.k_most;
-      lowered_most = omega (arith, a.lowered_most, m.weight);
-      loaded_most = omega (arith, a.loaded_most, m.waiting);
-      splits_most = omega (arith, a.splits_most, m.waiting, m.excess, k);
-      splits_since_most = omega (arith, a.splits_since_most, m.waiting, m.excess, l);
-      leaves_are = omega (arith, a.leaves_are, m.leaves, s.0);
-      leaves_some = m.some;
-      visits_most = omega (arith, a.visits_most, s.0, s.1);
-      left_most = a.left_most;
-      splits_need = ⊎_elim (λ (x : cs.splits ≡ 0). absurd (omega (arith, s.1, x)))
-          (λ (x : 2 * w * B ≤ cs.k). inr x) a.splits_need;
-      left_need = a.left_need;
-      level_some = omega (arith, m.flat);
-      level_most = inl m.flat;
-      level_split = inl m.flat;
-    }
+module _ {w B L : ℕ} {cs : Counters} {t : Sums} (u : Sums) (a : CountersFit w B L cs t) (m : SumsFuse w B t u) where
+  -- What a fused leaf undoes: a split of a settling, with two parts; one of operations, with two; a leaf that came with the tree,
+  -- with one.
+  undone_settled : 1 ≤ cs.settled_since → CountersFit w B L (without_settled cs) u
+  undone_settled one =
+      let ds = without_settled cs in
+      let x = taken_off (w * B) (parts_of cs) (parts_of ds) 2 (omega (arith, one, a.sums.settled_most)) in
+      let y = taken_off (w * B) (parts_since cs) (parts_since ds) 2 (omega (arith, one)) in
+      record {
+        sums = omega (arith, a.sums, m, one, x, y);
+        needs = grind arith;
+        root = root_flat w B cs.k (parts_since ds) u.level m.flat;
+      }
 
-pub fits_sharing : {w B L : ℕ} {cs : Counters} {t : Sums} (u : Sums) → CountersFit w B L cs t → SumsShare t u
-    → CountersFit w B L cs u
-fits_sharing {w} {B} {L} {cs} {t} u a m = record {
-  all_pushed = omega (arith, a.all_pushed, m.waiting, m.stored);
-  since_pushed = omega (arith, a.since_pushed, m.waiting, m.stored);
-  since_most = a.since_most;
-  k_most = a.k_most;
-  lowered_most = omega (arith, a.lowered_most, m.weight);
-  loaded_most = omega (arith, a.loaded_most, m.waiting);
-  splits_most = omega (arith, a.splits_most, m.waiting, m.excess);
-  splits_since_most = omega (arith, a.splits_since_most, m.waiting, m.excess);
-  leaves_are = omega (arith, a.leaves_are, m.leaves);
-  leaves_some = omega (arith, a.leaves_some, m.leaves);
-  visits_most = a.visits_most;
-  left_most = a.left_most;
-  splits_need = a.splits_need;
-  left_need = a.left_need;
-  level_some = omega (arith, m.flat);
-  level_most = inl m.flat;
-  level_split = inl m.flat;
-}
+  undone_split : 1 ≤ cs.splits_since → CountersFit w B L (without_split cs) u
+  undone_split one =
+      let ds = without_split cs in
+      let x = taken_off (w * B) (parts_of cs) (parts_of ds) 2 (omega (arith, one, a.sums.splits_most)) in
+      let y = taken_off (w * B) (parts_since cs) (parts_since ds) 2 (omega (arith, one)) in
+      record {
+        sums = omega (arith, a.sums, m, one, x, y);
+        needs = grind arith;
+        root = root_flat w B cs.k (parts_since ds) u.level m.flat;
+      }
 
--- At the end the level is looked at again: it is 1, or it is low enough and two leaves are there.
-pub fits_level : {w B L : ℕ} {cs : Counters} {t : Sums} (level : ℕ) → CountersFit w B L cs t
-    → (level ≡ 1) ⊎ (1 ≤ level) × (B * (2 * w) ^ level ≤ cs.k) × (2 ≤ t.leaves)
-    → CountersFit w B L cs (with_level level t)
-fits_level {w} {B} {L} {cs} {t} level a h =
-    let P : Type 0 = (level ≡ 1) ⊎ (1 ≤ level) × (B * (2 * w) ^ level ≤ cs.k) × (2 ≤ t.leaves) in
-    record {
-      all_pushed = a.all_pushed;
-      since_pushed = a.since_pushed;
-      since_most = a.since_most;
-      k_most = a.k_most;
-      lowered_most = a.lowered_most;
-      loaded_most = a.loaded_most;
-      splits_most = a.splits_most;
-      splits_since_most = a.splits_since_most;
-      leaves_are = a.leaves_are;
-      leaves_some = a.leaves_some;
-      visits_most = a.visits_most;
-      left_most = a.left_most;
-      splits_need = a.splits_need;
-      left_need = a.left_need;
-      level_some = ⊎_elim (λ (x : level ≡ 1). omega (arith, x))
-          (λ (x : (1 ≤ level) × (B * (2 * w) ^ level ≤ cs.k) × (2 ≤ t.leaves)). x.0) h;
-      level_most = ⊎_elim (λ (x : level ≡ 1). inl x)
-          (λ (x : (1 ≤ level) × (B * (2 * w) ^ level ≤ cs.k) × (2 ≤ t.leaves)). inr x.1) h;
-      level_split = ⊎_elim (λ (x : level ≡ 1). inl x)
-          (λ (x : (1 ≤ level) × (B * (2 * w) ^ level ≤ cs.k) × (2 ≤ t.leaves)). inr (some_split a x.2).0) h;
-    }
+  undone_leaf : 2 ≤ cs.brought → CountersFit w B L (without_leaf cs) u
+  undone_leaf two =
+      let ds = without_leaf cs in
+      let x = taken_off (w * B) (parts_of cs) (parts_of ds) 1 (omega (arith, two, a.sums.brought_most)) in
+      let y = taken_off (w * B) (parts_since cs) (parts_since ds) 1 (omega (arith, two)) in
+      record {
+        sums = omega (arith, a.sums, m, two, x, y);
+        needs = grind arith;
+        root = root_flat w B cs.k (parts_since ds) u.level m.flat;
+      }
+
+  -- whichever it is
+  fits_fusing : {ds : Counters} → Undoes cs ds → CountersFit w B L ds u
+  fits_fusing (of_settling one) = undone_settled one
+  fits_fusing (of_operations one) = undone_split one
+  fits_fusing (of_adoption two) = undone_leaf two
+
+  -- and one of them it is
+  undone_some : Undone cs
+  undone_some = elim (cases_lt 0 cs.settled_since) [
+    | inl one ↦ record { counters = without_settled cs; undoes = of_settling one }
+    | inr none ↦ elim (cases_lt 1 cs.brought) [
+      | inl two ↦ record { counters = without_leaf cs; undoes = of_adoption two }
+      | inr few ↦ record {
+        counters = without_split cs;
+        undoes = of_operations (omega (arith, none, few, a.sums.leaves_are, m));
+      }
+    ]
+  ]
 
 -- The moves of a fused leaf are owed, and the fee of a split.
-pub covers_fusing : {w B L c q spent more : ℕ} {cs : Counters} {t : Sums} (m next : ℕ) (u : Sums)
+covers_fusing : {w B L c q spent more : ℕ} {cs : Counters} {t : Sums} (m next : ℕ) (u : Sums)
     → Covers w B L c q spent more cs t → 1 ≤ cs.splits → SameRoot t u
-    → B * m + more + B * split_fee w L ≤ next → Covers w B L c q (spent + m) next (after_fusing cs) u
+    → B * m + more + B * split_fee w L ≤ next → Covers w B L c q (spent + m) next (without_split cs) u
 covers_fusing {w} {B} {L} {c} {q} {spent} {more} {cs} {t} m next u p one s h =
     let e : cs.splits - 1 + 1 ≡ cs.splits = omega (arith, one) in
     let f : (7 * L + 12) * (2 * w * B * (cs.splits - 1 + 1))
@@ -127,122 +97,152 @@ covers_fusing {w} {B} {L} {c} {q} {spent} {more} {cs} {t} m next u p one s h =
 
 module _ {shape : ShapeNumbers} {spent more : ℕ} {cs : Counters} {t : Sums} (m : ℕ) (u : Sums)
     (a : PaidFor shape spent more cs t) where
-  pub paid_fusing : (next : ℕ) → SumsFuse (wide_of shape) shape.block t u → SameRoot t u
+  paid_fusing : {ds : Counters} (next : ℕ) → Undoes cs ds → SumsFuse (wide_of shape) shape.block t u → SameRoot t u
       → shape.block * m + more + shape.block * split_fee (wide_of shape) (levels_of shape cs.k) ≤ next
-      → PaidFor shape (spent + m) next (after_fusing cs) u
-  paid_fusing next c r h = record {
-    fits = fits_fusing u a.fits c;
-    covers = covers_fusing m next u a.covers (some_split a.fits (omega (arith, c.leaves, c.some))).1 r h;
+      → PaidFor shape (spent + m) next ds u
+  paid_fusing next (of_settling one) c r h = record {
+    fits = fits_fusing u a.fits c (of_settling one);
+    covers = record { covered = (covers_debt m next u a.covers r (omega (arith, h))).covered };
+    root = rw (r.root, r.blocks) a.root;
+  }
+  paid_fusing next (of_operations one) c r h = record {
+    fits = fits_fusing u a.fits c (of_operations one);
+    covers = covers_fusing m next u a.covers (omega (arith, one, a.fits.sums.splits_most)) r h;
+    root = rw (r.root, r.blocks) a.root;
+  }
+  paid_fusing next (of_adoption two) c r h = record {
+    fits = fits_fusing u a.fits c (of_adoption two);
+    covers = record { covered = (covers_debt m next u a.covers r (omega (arith, h))).covered };
     root = rw (r.root, r.blocks) a.root;
   }
 
-  pub paid_sharing : (next : ℕ) → SumsShare t u → SameRoot t u → shape.block * m + more ≤ next
+  paid_sharing : (next : ℕ) → SumsShare t u → SameRoot t u → shape.block * m + more ≤ next
       → PaidFor shape (spent + m) next cs u
   paid_sharing next c r h = record {
     fits = fits_sharing u a.fits c;
-    covers = record { covered = rw (r.root, r.blocks) (omega (arith, a.covers.covered, h)) };
+    covers = covers_debt m next u a.covers r h;
     root = rw (r.root, r.blocks) a.root;
   }
+
+-- What a fused leaf undoes leaves what code carries, and what was handed out.
+undone_same : {cs ds : Counters} → cs.splits_since ≤ cs.splits → Undoes cs ds → (ds.n ≡ cs.n) × (ds.k ≡ cs.k) × (ds.since ≡ cs.since) × (ds.z ≡ cs.z)
+    × (ds.y ≡ cs.y) × (ds.adopted ≡ cs.adopted) × StillTaken cs ds
+undone_same few (of_settling one) = (refl, refl, refl, refl, refl, refl, omega arith)
+undone_same few (of_operations one) = (refl, refl, refl, refl, refl, refl, omega (arith, one, few))
+undone_same few (of_adoption two) = (refl, refl, refl, refl, refl, refl, omega arith)
 
 module _ {shape : ShapeNumbers} {c : TreeCounts} {more : ℕ} {t : Sums} (b : KeepsBooks shape c more t) where
   -- A leaf was fused into another one, by m moves.
   pub books_fusing : (m next : ℕ) (u : Sums) → SumsFuse (wide_of shape) shape.block t u → SameRoot t u
       → shape.block * m + more + shape.block * split_fee (wide_of shape) (levels_of shape c.k) ≤ next
-      → KeepsBooks shape (count_moves m c) next u
+      → (e : KeepsBooks shape (count_moves m c) next u) × StillTaken b.counters e.counters
   books_fusing m next u s r h =
-      books_step b m next (after_fusing b.counters) u refl refl refl refl refl
-      (paid_fusing m u b.paid next s r (rw (b.k) h))
+      let v = undone_some u b.paid.fits s in
+      let same = undone_same b.paid.fits.sums.splits_most v.undoes in (
+        record {
+          counters = v.counters;
+          n = omega (arith, same.0, b.n);
+          k = omega (arith, same.1, b.k);
+          since = omega (arith, same.2, b.since);
+          z = omega (arith, same.3, b.z);
+          y = omega (arith, same.4, b.y);
+          adopted = omega (arith, same.5, b.adopted);
+          few = b.few;
+          few_adopted = b.few_adopted;
+          paid = paid_fusing m u b.paid next v.undoes s r (rw (b.k) h);
+        },
+        same.6,
+      )
 
   -- Leaves or nodes were looked at, or shared, or nodes were fused, by m moves.
   pub books_sharing : (m next : ℕ) (u : Sums) → SumsShare t u → SameRoot t u → shape.block * m + more ≤ next
-      → KeepsBooks shape (count_moves m c) next u
-  books_sharing m next u s r h =
-      books_step b m next b.counters u refl refl refl refl refl (paid_sharing m u b.paid next s r h)
+      → (e : KeepsBooks shape (count_moves m c) next u) × StillTaken b.counters e.counters
+  books_sharing m next u s r h = (
+    record {
+      counters = b.counters;
+      n = b.n;
+      k = b.k;
+      since = b.since;
+      z = b.z;
+      y = b.y;
+      adopted = b.adopted;
+      few = b.few;
+      few_adopted = b.few_adopted;
+      paid = paid_sharing m u b.paid next s r h;
+    },
+    still_taken b.counters,
+  )
 
   -- The level is looked at again.
   pub books_level : (level : ℕ)
       → (level ≡ 1) ⊎ (1 ≤ level) × (shape.block * (2 * wide_of shape) ^ level ≤ c.k) × (2 ≤ t.leaves)
-      → KeepsBooks shape c more (with_level level t)
-  books_level level h = record {
-    counters = b.counters;
-    n = b.n;
-    k = b.k;
-    since = b.since;
-    z = b.z;
-    y = b.y;
-    few = b.few;
-    paid = record {
-      fits = fits_level level b.paid.fits (rw (b.k) h);
-      covers = record { covered = b.paid.covers.covered };
-      root = b.paid.root;
-    };
-  }
+      → (e : KeepsBooks shape c more (with_level level t)) × StillTaken b.counters e.counters
+  books_level level h = (
+    record {
+      counters = b.counters;
+      n = b.n;
+      k = b.k;
+      since = b.since;
+      z = b.z;
+      y = b.y;
+      adopted = b.adopted;
+      few = b.few;
+      few_adopted = b.few_adopted;
+      paid = record {
+        fits = fits_level b.paid.fits level (rw (b.k) h);
+        covers = record { covered = b.paid.covers.covered };
+        root = b.paid.root;
+      };
+    },
+    still_taken b.counters,
+  )
 
--- 2·w splits need a block of operations.
-splits_wide : {shape : ShapeNumbers} {cs : Counters} {t : Sums} → IsShape shape → FitsShape shape cs t
-    → 2 * wide_of shape * cs.splits_since ≤ blocks_of shape cs.k
-splits_wide {shape = shape} {cs = cs} is a =
-    let c = blocks_ceil shape cs.k is in
-    let e : 2 * wide_of shape * cs.splits_since * shape.block ≡ 2 * wide_of shape * shape.block * cs.splits_since =
-    grind arith in
-    let all : 2 * wide_of shape * cs.splits_since * shape.block ≤ blocks_of shape cs.k * shape.block =
-    omega (arith, e, a.splits_since_most, a.since_most, c.holds) in
-    le_of_mul-le-mul_right all (omega (arith, is.block_low))
+-- The sum: l leaves, one and g, at v levels.
+settled_sum : (w q v l g m : ℕ) → 8 ≤ w → 1 ≤ v → 2 ≤ q → l ≤ 1 + g → w * g ≤ q
+    → m ≤ settle_debt v q l + (l * (33 * v + 3) + g * (w * (14 * v + 48)))
+    → m ≤ q * (45 * v + 64) + 64 * (1 + v)
+settled_sum w q v l g m wide one some most few h =
+    let up : v * 2 ≤ v * q = mul-le-mul_left v some in
+    let wide_up : 1 * q ≤ v * q = mul-le-mul_right q one in
+    let f : (99 * v + 9) * l ≤ (99 * v + 9) * (1 + g) = mul-le-mul_left (99 * v + 9) most in
+    let a : (14 * v + 48) * (w * g) ≤ (14 * v + 48) * q = mul-le-mul_left (14 * v + 48) few in
+    let b : 8 * g ≤ w * g = mul-le-mul_right g wide in
+    let d : (99 * v + 9) * (8 * g) ≤ (99 * v + 9) * q = mul-le-mul_left (99 * v + 9) (omega (arith, b, few)) in
+    omega (arith, up, wide_up, f, a, d, h, some, one)
 
-fuse_sum : (q v r w m : ℕ) → 1 ≤ v → 1 ≤ q
-    → m ≤ 16 * q + (1 + r) * (66 * v + 6) + ((1 + r) * (33 * v + 3) + r * (w * (14 * v + 48)))
-    → 16 * r * (66 * v + 6) ≤ q * (66 * v + 6) → 16 * r * (33 * v + 3) ≤ q * (33 * v + 3)
-    → 2 * w * r * (14 * v + 48) ≤ q * (14 * v + 48) → m ≤ 64 * (q + 1) * (1 + v)
-fuse_sum q v r w m some one a b d e =
-    let up : v * 1 ≤ v * q = mul-le-mul_left v one in
-    let f : 2 * w * r * (14 * v + 48) ≡ 2 * (r * (w * (14 * v + 48))) = grind arith in
-    omega (arith, a, b, d, e, f, up)
-
--- All that `settle_all` may owe at its end, with fusing, is within its toll. `leaves` are those before it fused.
-pub fuse_settle_most : {shape : ShapeNumbers} {cs : Counters} {t : Sums} (m : ℕ) → IsShape shape
-    → FitsShape shape cs t
-    → (m ≤ 64) ⊎ (1 ≤ cs.k) × (m ≤ settle_debt (levels_of shape cs.k) (blocks_of shape cs.k) t.leaves
-    + fusing_debt (wide_of shape) (levels_of shape cs.k) t.leaves)
-    → m ≤ settle_toll shape cs.k
-fuse_settle_most {shape = shape} {cs = cs} {t = t} m is a h =
-    let q = blocks_of shape cs.k in
-    let L = levels_of shape cs.k in
-    let w = wide_of shape in
-    let r = cs.splits_since in
-    let floors = floors_of shape cs.k in ⊎_elim
-    (λ (few : m ≤ 64).
-    let f : 64 * 1 * 1 ≤ 64 * (q + 1) * floors =
-    mul-le-mul {n₁ = 64 * 1} {m₁ = 1} {n₂ = 64 * (q + 1)} {m₂ = floors} (omega arith)
-    (omega arith) in
-    omega arith)
-    (λ (n : (1 ≤ cs.k) × (m ≤ settle_debt L q t.leaves + fusing_debt w L t.leaves)).
-    let one = some_block shape cs.k is n.0 in
-    let some = splits_few is a in
-    let wide = splits_wide is a in
-    elim (cases_lt 0 (lev shape q)) [
-      | inl more ↦
-          let k : L ≡ lev shape q = omega arith in
-          let v = lev shape q in
-          let le : t.leaves ≤ 1 + r = omega (arith, a.leaves_are) in
-          let f1 : t.leaves * (66 * v + 6) ≤ (1 + r) * (66 * v + 6) = mul-le-mul_right (66 * v + 6) le in
-          let f2 : t.leaves * (33 * v + 3) ≤ (1 + r) * (33 * v + 3) = mul-le-mul_right (33 * v + 3) le in
-          let f3 : (t.leaves - 1) * (w * (14 * v + 48)) ≤ r * (w * (14 * v + 48)) =
-          mul-le-mul_right (w * (14 * v + 48)) (omega (arith, le)) in
-          let g1 : 16 * r * (66 * v + 6) ≤ q * (66 * v + 6) = mul-le-mul_right (66 * v + 6) some in
-          let g2 : 16 * r * (33 * v + 3) ≤ q * (33 * v + 3) = mul-le-mul_right (33 * v + 3) some in
-          let g3 : 2 * w * r * (14 * v + 48) ≤ q * (14 * v + 48) = mul-le-mul_right (14 * v + 48) wide in
-          fuse_sum q v r w m more one (let n2 = rw k at n.1 in omega (arith, n2, f1, f2, f3)) g1 g2 g3
-      | inr none ↦
-          let k : L ≡ 1 = omega arith in
-          let leaf = one_leaf is a none in
-          let some_leaf = a.leaves_some in
-          let n2 = rw k at n.1 in
-          let e : t.leaves ≡ 1 = omega (arith, leaf, some_leaf) in
-          let n3 = rw e at n2 in
-          let g : (q + 1) * 1 ≤ (q + 1) * floors = mul-le-mul_left (q + 1) (omega arith) in
-          omega (arith, n3, g, one)
-    ])
-    h
+module _ {shape : ShapeNumbers} {cs : Counters} {t : Sums} (is : IsShape shape) (a : FitsShape shape cs t) where
+  -- All that a settling may owe at its end, with fusing, is within what is left of its toll: t is before it fuses.
+  pub fuse_settle_most : (m : ℕ)
+      → (m ≤ 64) ⊎ (1 ≤ cs.k) × (m ≤ settle_debt (levels_of shape cs.k) (blocks_of shape cs.k) t.leaves
+      + fusing_debt (wide_of shape) (levels_of shape cs.k) t.leaves)
+      → m ≤ settle_rest shape cs.k
+  fuse_settle_most m owed =
+      let w = wide_of shape in let L = levels_of shape cs.k in let q = blocks_of shape cs.k in
+      let size = size_is shape is in ⊎_elim
+      (λ (few : m ≤ 64). omega (arith, few))
+      (λ (n : (1 ≤ cs.k) × (m ≤ settle_debt L q t.leaves + fusing_debt w L t.leaves)).
+      let one = some_block shape cs.k is n.0 in
+      let wide = parts_wide is a in
+      let parts : t.leaves - 1 ≤ parts_since cs = omega (arith, a.sums.leaves_are) in
+      let few : w * (t.leaves - 1) ≤ w * parts_since cs = mul-le-mul_left w parts in
+      elim (cases_lt 0 (lev shape q)) [
+        | inl more ↦
+            let e : levels_of shape cs.k ≡ lev shape (blocks_of shape cs.k) = omega (arith, more) in
+            let n2 = rw e at n.1 in
+            let two : 2 ≤ q = elim (cases_lt 1 q) [
+              | inl big ↦ big
+              | inr low ↦ let z = lev_few shape q is low in absurd (omega (arith, z, more))
+            ] in
+            settled_sum w q (lev shape q) t.leaves (t.leaves - 1) m size.wide more two (omega arith)
+            (omega (arith, few, wide)) n2
+        | inr none ↦
+            let e : L ≡ 1 = omega (arith, none) in
+            let low = one_leaf is a none in
+            let l1 : t.leaves ≡ 1 = omega (arith, low.0, a.sums.leaves_some) in
+            let o2 = rw (e, l1) at n.1 in
+            omega (arith, o2, one)
+      ])
+      owed
 
 -- what n records in each leaf, and f entries in each node below a row, come to
 abbrev Low : ℕ → ℕ → Outline → ℕ → Type 0
@@ -301,7 +301,7 @@ fused_height shape t (suc level) is h a l some = ⊎_elim
     let e = fan_wide shape is in
     let n : shape.block * fan_of shape ^ suc level ≤ stored_of t =
     rw e (fused_stored (wide_of shape) shape.block t level h a l two) in
-    let r = root_height shape (suc level) (stored_of t) is n in
+    let r = root_height shape level (stored_of t) is (omega (arith, n)) in
     omega (arith, r))
     some
 

@@ -1,11 +1,11 @@
 -- Laws of `lev` and of the numbers of a shape.
 use Rattle.std.proofs.Common.{◌≡◌, ℕ, zero, suc, ◌+◌, ◌*◌, ◌^◌, ◌<◌, ◌≤◌, refl, arith, inl, inr}
 use Rattle.std.proofs.lemmas.Bool.{cases_lt}
-use Rattle.std.proofs.Math.Nat.{mul-le-mul_left, le_of_mul-le-mul_right, pow-suc, pow-zero, pow-le-pow_left}
+use Rattle.std.proofs.Math.Nat.{mul-le-mul_left, mul-le-mul_right, le_of_mul-le-mul_right, one-le-pow, pow-suc, pow-zero, pow-le-pow_left}
 use Rattle.std.specs.Int.{div_ceil}
 use Rattle.em_record.specs.Cost.{blocks_of, lev}
 use Rattle.em_record.specs.Shape.{ShapeNumbers, IsShape, fan_of, wide_of, payload_of}
-use Rattle.em_record.proofs.Levels.{lev_power, lev_rises, lev_within-step}
+use Rattle.em_record.proofs.Levels.{lev_rises, lev_within-step}
 use Rattle.em_tree_cost.specs.Sizes.{IsCeil, IsSize}
 use Rattle.em_tree_cost.proofs.Ceilings.{blocks_ceil, ceil_is, ceil_most}
 
@@ -60,17 +60,42 @@ lev_most shape (suc r) x is h = elim (cases_lt 1 x) [
 pub lev_some : (shape : ShapeNumbers) (x : ℕ) → IsShape shape → 1 < x → 1 ≤ lev shape x
 lev_some shape x is h = let s = lev_next shape x is h in omega arith
 
--- If a root of level r needs B * f ^ r operations, its level is at most `lev` of the blocks of k.
-pub root_height : (shape : ShapeNumbers) (r k : ℕ) → IsShape shape
-    → shape.block * fan_of shape ^ r ≤ k
-    → r ≤ lev shape (blocks_of shape k)
+-- A number above this power of the fan-out has more levels.
+lev_above : (shape : ShapeNumbers) (r x : ℕ) → IsShape shape → fan_of shape ^ r + 1 ≤ x → suc r ≤ lev shape x
+lev_above shape zero x is h =
+    let one = pow-zero (fan_of shape) in
+    let s = lev_some shape x is (omega (arith, h, one)) in omega (arith, s)
+lev_above shape (suc r) x is h =
+    let e = pow-suc (fan_of shape) r in
+    let c = fan_ceil shape x is in
+    let up = div_ceil x (fan_of shape) in
+    let one : 1 ≤ fan_of shape ^ r = one-le-pow r (fan_of shape) (omega (arith, is.frames_low)) in
+    let m : fan_of shape * 1 ≤ fan_of shape * fan_of shape ^ r = mul-le-mul_left (fan_of shape) one in
+    let more : 1 < x = omega (arith, h, e, m, is.frames_low) in
+    let low : fan_of shape ^ r + 1 ≤ up = elim (cases_lt (fan_of shape ^ r) up) [
+      | inl less ↦ omega (arith, less)
+      | inr most ↦
+          let n : up * fan_of shape ≤ fan_of shape ^ r * fan_of shape = mul-le-mul_right (fan_of shape) most in
+          absurd (omega (arith, n, c.holds, h, e))
+    ] in
+    let ih = lev_above shape r up is low in
+    let s = lev_next shape x is more in
+    omega (arith, s, ih)
+
+-- If a root of a level needs half of B * f ^ level records, its level is at most `lev` of the blocks of k, or 1.
+pub root_height : (shape : ShapeNumbers) (r k : ℕ) → IsShape shape → shape.block * fan_of shape ^ suc r ≤ 2 * k
+    → suc r ≤ lev shape (blocks_of shape k)
 root_height shape r k is h =
-    lev_power shape r (blocks_of shape k) is
-    (let c = blocks_ceil shape k is in
-    le_of_mul-le-mul_right
-    (let t : fan_of shape ^ r * shape.block ≤ blocks_of shape k * shape.block =
-    omega (arith, c.holds, h) in t)
-    (omega (arith, is.block_low)))
+    let X = fan_of shape ^ r in
+    let B = shape.block in
+    let e = pow-suc (fan_of shape) r in
+    let one : 1 ≤ X = one-le-pow r (fan_of shape) (omega (arith, is.frames_low)) in
+    let c = blocks_ceil shape k is in
+    let wide : 16 * X ≤ fan_of shape * X = mul-le-mul_right X (omega (arith, is.frames_low)) in
+    let all : B * (16 * X) ≤ B * fan_of shape ^ suc r = mul-le-mul_left B (omega (arith, wide, e)) in
+    let t : 8 * X * B ≤ blocks_of shape k * B = omega (arith, all, c.holds, h) in
+    let low : 8 * X ≤ blocks_of shape k = le_of_mul-le-mul_right t (omega (arith, is.block_low)) in
+    lev_above shape r (blocks_of shape k) is (omega (arith, low, one))
 
 -- Up to 2 ^ 103 operations have at most 24 levels.
 pub levels_most : (shape : ShapeNumbers) (k : ℕ) → IsShape shape → k ≤ 2 ^ 103

@@ -1,3 +1,4 @@
+pub mod Adopting
 pub mod Backing
 pub mod Books
 pub mod Buffers

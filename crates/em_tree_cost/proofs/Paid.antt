@@ -6,7 +6,7 @@ use Rattle.em_record.specs.Cost.{blocks_of, lev}
 use Rattle.em_record.specs.Shape.{ShapeNumbers, IsShape, wide_of, payload_of}
 use Rattle.em_record.proofs.Blocks.{blocks_rise}
 use Rattle.em_record.proofs.Levels.{lev_rises}
-use Rattle.em_tree_cost.specs.Counters.{Counters, CountersFit, Sums, fresh_sums, no_counters}
+use Rattle.em_tree_cost.specs.Counters.{Counters, CountersFit, Sums, Untaken, fresh_sums, no_counters}
 use Rattle.em_tree_cost.specs.Effects.{SumsPush, after_pushing}
 use Rattle.em_tree_cost.specs.Fees.{Covers, OpenVisit}
 use Rattle.em_tree_cost.specs.Paid.{PaidFor, WithinShare, toll_of}
@@ -17,7 +17,7 @@ use Rattle.em_tree_cost.proofs.Fitting.{fits_levels, fits_new, fits_pushing}
 use Rattle.em_tree_cost.proofs.Heights.{levels_rise, root_levels}
 use Rattle.em_tree_cost.proofs.Levels.{levels_most}
 use Rattle.em_tree_cost.proofs.Room.{share_beyond}
-use Rattle.em_tree_cost.proofs.Total.{tree_within}
+use Rattle.em_tree_cost.proofs.Total.{tree_within, untaken_within}
 
 -- The levels of up to 2 ^ 103 operations are at least 1 and at most 24.
 pub levels_within : (shape : ShapeNumbers) (k : ℕ) → IsShape shape → k ≤ 2 ^ 103
@@ -108,10 +108,18 @@ pub paid_within : {shape : ShapeNumbers} {spent more : ℕ} {cs : Counters} {t :
     → IsShape shape → PaidFor shape spent more cs t
     → OpenVisit (wide_of shape) shape.block (levels_of shape cs.k) u cs
     → more ≤ 18 * (t.waiting + t.stored) + u + toll_of shape cs.k
-    → spent ≤ tree_share shape cs.n cs.k cs.z cs.y
+    → spent ≤ tree_share shape (cs.n + cs.adopted) cs.k cs.z cs.y
 paid_within {shape = shape} {spent = spent} {cs = cs} {t = t} u is a visit o =
     let most = 18 * (t.waiting + t.stored) + u + toll_of shape cs.k in
     tree_within u is a.fits visit a.root (covers_less a.covers spent most (omega arith) o)
+
+-- and before the first call of `take_first` the share of n alone
+pub paid_untaken : {shape : ShapeNumbers} {spent more : ℕ} {cs : Counters} {t : Sums} → IsShape shape
+    → PaidFor shape spent more cs t → Untaken (wide_of shape) shape.block cs t
+    → more ≤ 18 * t.waiting + toll_of shape cs.k → spent ≤ tree_share shape cs.n cs.k cs.z cs.y
+paid_untaken {shape = shape} {spent = spent} {cs = cs} {t = t} is a still o =
+    untaken_within is a.fits still a.root
+    (covers_less a.covers spent (18 * t.waiting + toll_of shape cs.k) (omega arith) o)
 
 -- The same for any number of operations: books are kept below 2 ^ 103 of them, and above that the
 -- share is more than a count of moves can be.

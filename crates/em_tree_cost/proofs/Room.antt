@@ -1,5 +1,5 @@
 -- The blocks of a tree are within its room. And what holds beyond all numbers that a run can have.
-use Rattle.std.proofs.Common.{ℕ, suc, ◌+◌, ◌*◌, ◌^◌, ◌<◌, ◌≤◌, arith}
+use Rattle.std.proofs.Common.{◌≡◌, ℕ, suc, ◌+◌, ◌-◌, ◌*◌, ◌^◌, ◌<◌, ◌≤◌, arith}
 use Rattle.std.proofs.Math.Nat.{mul-le-mul_right, mul-le-mul_left, le_of_mul-le-mul_left}
 use Rattle.em_record.specs.Cost.{blocks_of, lev}
 use Rattle.em_record.specs.Shape.{ShapeNumbers, IsShape, payload_of}
@@ -10,31 +10,33 @@ use Rattle.em_tree_cost.specs.Outline.{IsFilled, IsLevel, Outline, inner_of, lea
 use Rattle.em_tree_cost.specs.Paid.{FitsShape}
 use Rattle.em_tree_cost.specs.Shares.{levels_of, tree_room, tree_share}
 use Rattle.em_tree_cost.proofs.Ceilings.{blocks_ceil}
-use Rattle.em_tree_cost.proofs.Heights.{root_levels, splits_few}
+use Rattle.em_tree_cost.proofs.Heights.{parts_few, root_levels}
 use Rattle.em_tree_cost.proofs.Held.{held_whole}
 use Rattle.em_tree_cost.proofs.Levels.{levels_most}
 use Rattle.em_tree_cost.proofs.Outlines.{nodes_most}
 
--- At rest a tree holds at most 7 blocks for each block of k, and 5 and 3 for each level.
+-- At rest a tree holds at most 85 eighths of a block for each block of k, and 5 and 3 for each level.
 pub at_rest : {shape : ShapeNumbers} {cs : Counters} {t : Sums} (blocks nodes : ℕ) → IsShape shape
     → FitsShape shape cs t → cs.k ≤ 2 ^ 103
     → BlocksMost (payload_of shape) blocks nodes t → nodes ≤ levels_of shape cs.k * t.leaves
-    → blocks ≤ 7 * blocks_of shape cs.k + 5 + 3 * levels_of shape cs.k
+    → 8 * blocks ≤ 85 * blocks_of shape cs.k + 8 * (5 + 3 * levels_of shape cs.k)
 at_rest {shape = shape} {cs = cs} {t = t} blocks nodes is a top h n =
     let L = levels_of shape cs.k in let q = blocks_of shape cs.k in let P = payload_of shape in
     let lv = levels_most shape cs.k is top in
     let c = blocks_ceil shape cs.k is in
-    let few = splits_few is a in
-    let m : (4 + 3 * L) * t.leaves ≤ (4 + 3 * L) * (1 + cs.splits_since) =
-    mul-le-mul_left (4 + 3 * L) (omega (arith, a.leaves_are)) in
-    let o : (4 + 3 * L) * cs.splits_since ≤ 76 * cs.splits_since =
-    mul-le-mul_right cs.splits_since (omega (arith, lv)) in
-    let parts : 4 * t.leaves + 3 * nodes ≤ 4 + 3 * L + 5 * q = omega (arith, m, o, n, few) in
-    let p : P * (1 + 4 * t.leaves + 3 * nodes) ≤ P * (5 + 3 * L + 5 * q) =
+    let few = parts_few is a in
+    let g = t.leaves - 1 in
+    let leaves : t.leaves ≡ 1 + g = omega (arith, a.sums.leaves_some) in
+    let n2 : nodes ≤ L * (1 + g) = rw (← leaves) n in
+    let eight : 8 * g ≤ q = omega (arith, few, a.sums.leaves_are) in
+    let m : (4 + 3 * L) * (8 * g) ≤ (4 + 3 * L) * q = mul-le-mul_left (4 + 3 * L) eight in
+    let u : (4 + 3 * L) * q ≤ 76 * q = mul-le-mul_right q (omega (arith, lv)) in
+    let parts : 8 * (4 * t.leaves + 3 * nodes) ≤ 8 * (4 + 3 * L) + 76 * q = omega (arith, leaves, n2, m, u) in
+    let p : P * (8 * (1 + 4 * t.leaves + 3 * nodes)) ≤ P * (8 * (5 + 3 * L) + 76 * q) =
     mul-le-mul_left P (omega (arith, parts)) in
-    let b : q * shape.block ≤ q * (2 * P) = mul-le-mul_left q (omega (arith, is.block_low)) in
-    let all : P * blocks ≤ P * (7 * q + 5 + 3 * L) =
-    omega (arith, h.most, p, b, c.holds, a.since_pushed, a.since_most) in
+    let b : q * (8 * shape.block) ≤ q * (9 * P) = mul-le-mul_left q (omega (arith, is.block_low)) in
+    let all : P * (8 * blocks) ≤ P * (85 * q + 8 * (5 + 3 * L)) =
+    omega (arith, h.most, p, b, c.holds, a.sums.since_pushed, a.sums.since_most) in
     le_of_mul-le-mul_left all (omega (arith, is.block_low))
 
 -- Beside what it holds at rest, a call may hold two blocks for each frame, and 61 for each level.
@@ -60,7 +62,7 @@ pub books_room : {shape : ShapeNumbers} {c : TreeCounts} {more b : ℕ} {t : Out
 books_room {shape = shape} {b = b} {t = t} half low x e extra is k d h s o =
     let cs = k.counters in
     let a = k.paid in
-    let top : cs.k ≤ 2 ^ 103 = omega (arith, a.fits.k_most, k.few, k.n) in
+    let top : cs.k ≤ 2 ^ 103 = omega (arith, a.fits.sums.k_most, k.few, k.few_adopted, k.n, k.adopted) in
     let m = held_whole (payload_of shape) half (suc low) x e b t d a.root in
     let n = nodes_most t low h s in
     let r = root_levels is a.fits in

@@ -3,8 +3,9 @@ use Rattle.std.proofs.Common.{◌≡◌, ◌+◌, ◌*◌, refl}
 use Rattle.em_record.specs.Cost.{cost, room}
 use Rattle.em_record.specs.Shape.{ShapeNumbers}
 use Rattle.em_tree_cost.specs.Books.{count_drain, count_push, count_settle, no_counts}
-use Rattle.em_tree_cost.specs.Counters.{Counters, no_counters}
-use Rattle.em_tree_cost.specs.Effects.{after_draining, after_loading, after_lowering, after_pushing, after_removing, after_settling, after_splitting, after_taking}
+use Rattle.em_tree_cost.specs.Counters.{Counters, no_counters, parts_of, parts_since}
+use Rattle.em_tree_cost.specs.Fusing.{without_leaf, without_settled}
+use Rattle.em_tree_cost.specs.Effects.{after_draining, after_loading, after_lowering, after_owning, after_pushing, after_removing, after_settling, after_splitting, after_taking}
 use Rattle.em_tree_cost.specs.ExtQueue.{ExtQueueCounts, after_heap_pop, after_heap_push, after_last_item, after_last_refill, after_refill, after_spill, after_tree_push, no_calls}
 use Rattle.em_tree_cost.specs.Fees.{fee, toll}
 use Rattle.em_tree_cost.specs.Outline.{Outline, inner_of, join_outlines, sums_of}
@@ -130,6 +131,11 @@ some_counters = record {
   taken = 100;
   left = 50;
   taken_since = 60;
+  adopted = 7000;
+  old = 5;
+  brought = 5;
+  settled = 1;
+  settled_since = 1;
 }
 
 -- 60000 + 570000 + 540000 + 26 * 14336 + 71 * 7168 + 144 * 50 + 1800
@@ -161,23 +167,41 @@ split_leaf_row : after_taking 5 30 (after_removing (after_splitting some_counter
     }
 split_leaf_row = refl
 
--- A reset after 4 splits: they pay for 8 visits.
+-- Since the reset 5 leaves are there that came with the tree, and 5 splits: 15 parts.
+parts_row : parts_since some_counters ≡ 15
+parts_row = refl
+
+-- A fused leaf undoes a settling's split, or one of the 5.
+undone_settled_row : parts_of (without_settled some_counters) ≡ 19
+undone_settled_row = refl
+
+undone_leaf_row : parts_since (without_leaf some_counters) ≡ 14
+undone_leaf_row = refl
+
+-- The splits of a settling are still parts, and operations don't pay for them.
+owned_row : after_owning some_counters
+    ≡ record some_counters { splits = 3; splits_since = 0; settled = 5; settled_since = 5 }
+owned_row = refl
+
+-- A reset: 15 parts pay for 15 visits.
 reset_row : after_draining (after_settling some_counters)
     ≡ record some_counters {
       since = 0;
       z = 3;
       y = 4;
-      visits_before = 12;
+      visits_before = 19;
       splits_since = 0;
       removed_since = 0;
       taken_since = 0;
+      brought = 0;
+      settled_since = 0;
     }
 reset_row = refl
 
 -- the numbers that code carries, over two pushes, of which the first began a block, a reset and
 -- `finish`
 counts_row : count_settle 7 (count_drain 5 (count_push 0 (count_push 2 no_counts)))
-    ≡ record { n = 2; k = 2; since = 0; spent = 14; z = 1; y = 1 }
+    ≡ record { n = 2; k = 2; since = 0; spent = 14; z = 1; y = 1; adopted = 0; counted = 0 }
 counts_row = refl
 
 -- Two leaves under a root. 5 operations wait over the first leaf, and 7 in the root's buffer. Of

@@ -1,6 +1,6 @@
 -- The events of a tree: what each does to the counters, and what to the sums.
-use Rattle.std.specs.Prelude.{◌≡◌, ℕ, ◌+◌, ◌*◌, ◌≤◌, max}
-use Rattle.em_tree_cost.specs.Counters.{Counters, Sums}
+use Rattle.std.specs.Prelude.{◌≡◌, ℕ, ◌+◌, ◌-◌, ◌*◌, ◌≤◌, max}
+use Rattle.em_tree_cost.specs.Counters.{Counters, Sums, parts_since}
 
 -- an operation was pushed
 abbrev pub after_pushing : Counters → Counters
@@ -34,16 +34,41 @@ after_removing cs = record cs { removed_since = cs.removed_since + 1 }
 abbrev pub after_settling : Counters → Counters
 after_settling cs = record cs { y = cs.y + 1 }
 
--- a reset: `take_first` left nothing
+-- the splits since the last reset are those of a settling, which pays for them
+abbrev pub after_owning : Counters → Counters
+after_owning cs = record cs {
+  splits = cs.splits - cs.splits_since;
+  splits_since = 0;
+  settled = cs.settled + cs.splits_since;
+  settled_since = cs.settled_since + cs.splits_since;
+}
+
+-- a reset: `take_first` left nothing. Each part since the last one may have its visit.
 abbrev pub after_draining : Counters → Counters
 after_draining cs = record cs {
   z = cs.z + 1;
   since = 0;
-  visits_before = cs.visits_before + 2 * cs.splits_since;
+  visits_before = cs.visits_before + parts_since cs;
   splits_since = 0;
   removed_since = 0;
   taken_since = 0;
+  brought = 0;
+  settled_since = 0;
 }
+
+-- Between two moments nothing was handed out or taken away, and no reset came.
+pub record StillTaken (cs ds : Counters) : Type 0 where
+  pub taken : ds.taken ≡ cs.taken
+  pub left : ds.left ≡ cs.left
+  pub visits_before : ds.visits_before ≡ cs.visits_before
+  pub removed_since : ds.removed_since ≡ cs.removed_since
+  pub splits : ds.splits + cs.splits_since ≡ cs.splits + ds.splits_since
+
+-- Nor did a settling end: leaves may have been split.
+pub record OnlySplits (cs ds : Counters) : Type 0 where
+  pub still : StillTaken cs ds
+  pub brought : ds.brought ≡ cs.brought
+  pub settled_since : ds.settled_since ≡ cs.settled_since
 
 -- The root's buffer stayed.
 pub record SameRoot (t u : Sums) : Type 0 where

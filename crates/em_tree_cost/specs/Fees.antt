@@ -1,7 +1,7 @@
 -- What the events of a tree pay for, in moves times B: what a single record pays is a part of a
 -- move.
 use Rattle.std.specs.Prelude.{◌≡◌, ◌⊎◌, ℕ, ◌+◌, ◌*◌, ◌≤◌}
-use Rattle.em_tree_cost.specs.Counters.{Counters, Sums}
+use Rattle.em_tree_cost.specs.Counters.{Counters, Sums, parts_since}
 
 -- what the events pay for: pushes, operations that went down, loads, splits, leaves taken away, and
 -- records handed out
@@ -22,7 +22,7 @@ pub record Covers (w B L c q spent more : ℕ) (cs : Counters) (t : Sums) : Type
   pub covered : B * spent + 3 * t.root
       ≤ 8 * B + B * (2 * t.blocks) + fee w B L cs + toll c q cs + more
 
--- A call that was refused may owe u for a leaf's visit that it didn't end, if a leaf was split.
+-- A call that was refused may owe u for a leaf's visit that it didn't end, if another leaf was there.
 pub record OpenVisit (w B L u : ℕ) (cs : Counters) : Type 0 where
   pub most : (u ≡ 0) ⊎ (u ≤ (20 * L + 31) * (w * B) + 18 * (w * B))
-  pub some : (u ≡ 0) ⊎ (1 ≤ cs.splits_since)
+  pub some : (u ≡ 0) ⊎ (2 ≤ parts_since cs)

@@ -7,12 +7,31 @@ use Rattle.em_tree_cost.specs.Outline.{Outline}
 use Rattle.em_tree_cost.specs.Shares.{floors_of}
 use Rattle.em_tree_cost.specs.Outline.Outline.{leaf, end, entry}
 
--- A leaf was fused into another: it undoes a split. What the split paid is owed again.
-abbrev pub after_fusing : Counters → Counters
-after_fusing cs = record cs { splits = cs.splits - 1; splits_since = cs.splits_since - 1 }
+-- A fused leaf undoes a split that operations paid for, whose fee is owed again,
+abbrev pub without_split : Counters → Counters
+without_split cs = record cs { splits = cs.splits - 1; splits_since = cs.splits_since - 1 }
 
--- Two leaves became one. While leaves and nodes are fused nothing waits, and the level isn't looked at: it
--- counts as 1.
+-- or one that a settling paid for,
+abbrev pub without_settled : Counters → Counters
+without_settled cs = record cs { settled = cs.settled - 1; settled_since = cs.settled_since - 1 }
+
+-- or one of two or more leaves that came with the tree.
+abbrev pub without_leaf : Counters → Counters
+without_leaf cs = record cs { old = cs.old - 1; brought = cs.brought - 1 }
+
+-- which of the three it is
+pub data Undoes (cs : Counters) : Counters → Type 0 where
+  of_operations : 1 ≤ cs.splits_since → Undoes cs (without_split cs)
+  of_settling : 1 ≤ cs.settled_since → Undoes cs (without_settled cs)
+  of_adoption : 2 ≤ cs.brought → Undoes cs (without_leaf cs)
+
+-- one of them
+pub record Undone (cs : Counters) : Type 0 where
+  pub counters : Counters
+  pub undoes : Undoes cs counters
+
+-- Two leaves became one, of which one had fewer than w * B records. While leaves and nodes are fused nothing waits, and the
+-- level isn't looked at: it counts as 1.
 pub record SumsFuse (w B : ℕ) (t u : Sums) : Type 0 where
   pub flat : u.level ≡ 1
   pub leaves : u.leaves + 1 ≡ t.leaves
@@ -20,7 +39,7 @@ pub record SumsFuse (w B : ℕ) (t u : Sums) : Type 0 where
   pub waiting : u.waiting ≤ t.waiting
   pub weight : u.weight ≤ t.weight
   pub stored : u.stored ≤ t.stored
-  pub excess : u.excess ≤ t.excess + 2 * w * B
+  pub excess : u.excess ≤ t.excess + w * B
 
 -- Two leaves share their records anew, or two nodes are fused or share their entries, or a root gave way.
 pub record SumsShare (t u : Sums) : Type 0 where

@@ -1,6 +1,6 @@
 -- A tree whose moves are paid for, by its shape.
 use Rattle.std.specs.Prelude.{ℕ, ◌+◌, ◌*◌, ◌≤◌}
-use Rattle.em_record.specs.Cost.{blocks_of}
+use Rattle.em_record.specs.Cost.{blocks_of, lev}
 use Rattle.em_record.specs.Shape.{ShapeNumbers, wide_of, payload_of}
 use Rattle.em_tree_cost.specs.Counters.{Counters, Sums, CountersFit}
 use Rattle.em_tree_cost.specs.Fees.{Covers}
@@ -15,6 +15,11 @@ toll_of shape k = 64 * floors_of shape k * shape.block
 -- what a call of `settle_all` or `finish` pays for beside, in moves
 abbrev pub settle_toll : ShapeNumbers → ℕ → ℕ
 settle_toll shape k = 64 * (blocks_of shape k + 1) * floors_of shape k
+
+-- what is left of it if it pays for the splits since the last reset
+abbrev pub settle_rest : ShapeNumbers → ℕ → ℕ
+settle_rest shape k =
+    blocks_of shape k * (45 * lev shape (blocks_of shape k) + 64) + 64 * floors_of shape k
 
 -- the most that a refused call may owe for a leaf's visit
 abbrev pub open_visit_debt : ShapeNumbers → ℕ → ℕ

@@ -1,2 +1,3 @@
 pub mod Ready
 pub mod Builders
+pub mod Drains

@@ -10,6 +10,8 @@ mod calls;
 #[cfg(test)]
 mod checked;
 #[cfg(test)]
+mod drained;
+#[cfg(test)]
 mod emptied;
 #[cfg(test)]
 mod firsts;

@@ -12,17 +12,18 @@ use Rattle.em_space.specs.declared.fault.EmFault.TheVariants.{Damaged}
 use Rattle.em_space.proofs.Steps.{block_cause, goes_nothing}
 use Rattle.em_space.proofs.Within.{goes_wider}
 use Rattle.em_settle.specs.declared.step.Step.{Step}
-use Rattle.em_tree_cost.specs.Books.{InCall, count_moves}
-use Rattle.em_tree_cost.specs.Counters.{Sums}
-use Rattle.em_tree_cost.proofs.Backing.{call_back}
+use Rattle.em_tree_cost.specs.Books.{InCall, TreeCounts, count_moves}
+use Rattle.em_tree_cost.specs.Counters.{Counters, Sums}
+use Rattle.em_tree_cost.specs.Effects.{OnlySplits}
+use Rattle.em_tree_cost.proofs.Backing.{back_same}
 use Rattle.em_tree_cost.proofs.InCall.{call_debt}
-use Rattle.em_trunk.specs.Events.{Charges, MayRefuse, path_most, step_allowance}
+use Rattle.em_trunk.specs.Events.{Charges, MayRefuse, Pairs, path_most, step_allowance}
 use Rattle.em_trunk.specs.Steps.{HasSteps}
 use Rattle.em_trunk.specs.Trunk.{IsRunning, sums_in, trunk_blocks, trunk_unstored}
 use Rattle.em_tree_visits.specs.Visits.{MayOweMore, TakesSteps}
 use Rattle.em_trunk.specs.Works.{StopsWorking, Works, CanWork, deepest, unstored_most}
 use Rattle.em_trunk.specs.declared.trunk.Trunk.{Trunk}
-use Rattle.em_trunk.proofs.Charges.{call_fewer, charges_debt, charges_within}
+use Rattle.em_trunk.proofs.Charges.{call_fewer, charges_debt, charges_within, fewer}
 use Rattle.em_tree_buffers.proofs.ClearSteps.{deepest_same}
 use Rattle.em_trunk.proofs.Ends.{sums_stay}
 use Rattle.em_trunk.proofs.StepWorks.{running_steps, steps_some, still_continues, still_frames, still_loses, still_running, still_session, still_sums, still_reads}
@@ -31,21 +32,37 @@ use Rattle.em_trunk.proofs.Waits.{waits_never}
 use Rattle.em_trunk.proofs.Rooms.{keeps_by, stops_by_peaks}
 use Rattle.em_tree_load.proofs.Peaks.{peaks_same}
 
+-- What is known of the leaves that come while a call's books are kept.
+abbrev pub PairsInside : ShapeNumbers → (k p : ℕ) → Sums → Sums → Type 0
+PairsInside shape k p t u =
+    (c : TreeCounts) (more h r : ℕ) → c.k ≡ k → InCall shape (count_moves p c) more h r t → Pairs shape t u
+
 -- j moves that were paid for in advance by a debt, and aren't wanted
 pub charges_back : {shape : ShapeNumbers} {k : ℕ} {t u : Sums} (p m q d j : ℕ)
+    → (d ≡ 0 → PairsInside shape k p t u)
     → Charges shape k p m (q + j) (d + shape.block * j) t u → Charges shape k p m q d t u
-charges_back {shape = shape} p m q d j a = record {
+charges_back {shape = shape} p m q d j pairs a = record {
   books = λ c more taken gone same b.
-      call_back c (m + q) (more + d) j (call_fewer (count_moves (m + (q + j)) c)
+      let x = a.books c more taken gone same b in
+      let y = fewer (count_moves (m + (q + j)) c)
       (count_moves (m + q + j) c) (more + (d + shape.block * j)) (more + d + shape.block * j)
-      refl refl refl refl refl (omega arith) (omega arith) (a.books c more taken gone same b));
+      refl refl refl refl refl refl (omega arith) (omega arith) x.call in
+      let z = back_same c (m + q) (more + d) j y.0 in
+      let O : Counters → Type 0 = OnlySplits b.books.counters in
+      record {
+        call = z.0;
+        only = subst O (sym z.1) (subst O (sym y.1) x.only);
+        pairs = λ none. pairs none c more taken gone same b;
+      };
 }
 
 pub works_back : {key : Record → Record} {step : Option Record → Record → Step}
     {IsOp IsKept : Record → Type 0} {n : ℕ} {s t : RigState} {v w : Trunk} (p q d j : ℕ)
+    → (IsTrue s.device.told → s.pool.shape.block * d ≡ 0
+    → PairsInside s.pool.shape v.longest p (sums_in s v) (sums_in t w))
     → Works key step IsOp IsKept p (q + j) (s.pool.shape.block * (d + j)) n s t v w
     → Works key step IsOp IsKept p q (s.pool.shape.block * d) n s t v w
-works_back {n = n} {s = s} {t = t} {v = v} {w = w} p q d j a =
+works_back {n = n} {s = s} {t = t} {v = v} {w = w} p q d j pairs a =
     let B = s.pool.shape.block in
     let same : B * (d + j) ≡ B * d + B * j = omega arith in
     let C : ℕ → ℕ → Type 0 = λ m x. Charges s.pool.shape v.longest p m (q + j) x (sums_in s v) (sums_in t w) in
@@ -59,12 +76,19 @@ works_back {n = n} {s = s} {t = t} {v = v} {w = w} p q d j a =
       running = a.running;
       continues = a.continues;
       still = a.still;
-      charges = λ told. charges_back p (t.moves - s.moves) q (B * d) j
+      charges = λ told. charges_back p (t.moves - s.moves) q (B * d) j (pairs told)
           (subst (C (t.moves - s.moves)) same (a.charges told));
-      paces = λ told. charges_back p n q (B * d) j (subst (C n) same (a.paces told));
+      paces = λ told. charges_back p n q (B * d) j (pairs told) (subst (C n) same (a.paces told));
       gives = a.gives;
       room = a.room;
     }
+
+-- A debt of some moves says nothing of that.
+pub pairs_never : (s : RigState) (v : Trunk) (t u : Sums) (p d : ℕ) → 1 ≤ s.pool.shape.block → 1 ≤ d
+    → s.pool.shape.block * d ≡ 0 → PairsInside s.pool.shape v.longest p t u
+pairs_never s v t u p d low some none c more h r same b =
+    let m : s.pool.shape.block * 1 ≤ s.pool.shape.block * d = mul-le-mul_left s.pool.shape.block some in
+    absurd (omega (arith, m, low, none))
 
 -- moves that are paid for in advance by a debt
 pub steps_bought : {s : RigState} {v : Trunk} (p : ℕ) → Sound s → (h : TakesSteps s v) → 1 ≤ h.split
@@ -104,17 +128,17 @@ pub takes_then : {key : Record → Record} {step : Option Record → Record → 
     → (x : TakesSteps t w) × (x.owed ≡ h.owed + d) × (x.split ≡ h.split)
 takes_then {s = s} {t = t} {v = v} {w = w} d n told h a =
     let c = h.counts in
-    let start = call_fewer c (count_moves 0 c) h.owed h.owed refl refl refl refl refl (omega arith)
+    let start = call_fewer c (count_moves 0 c) h.owed h.owed refl refl refl refl refl refl (omega arith)
     (omega arith) h.books in
-    let next = (a.paces told).books c h.owed h.handed h.split h.longest start in
+    let next = ((a.paces told).books c h.owed h.handed h.split h.longest start).call in
     let here = call_fewer (count_moves (n + 0) c) (count_moves n c) (h.owed + d) (h.owed + d)
-    refl refl refl refl refl (omega arith) (omega arith) next in
+    refl refl refl refl refl refl (omega arith) (omega arith) next in
     let shape = a.session.touches.shape in
     let K : ShapeNumbers → Type 0 = λ x. InCall x (count_moves n c) (h.owed + d) h.handed h.split (sums_in t w) in
-    let L : ShapeNumbers → Type 0 = λ x. w.steps + (c.spent + n) ≡ step_allowance x c.n c.k in
+    let L : ShapeNumbers → Type 0 = λ x. w.steps + (c.spent + n) ≡ step_allowance x (c.n + c.k) c.k in
     let e = a.steps in
     let l = h.left in
-    let left : w.steps + (c.spent + n) ≡ step_allowance s.pool.shape c.n c.k = omega (arith, e, l) in
+    let left : w.steps + (c.spent + n) ≡ step_allowance s.pool.shape (c.n + c.k) c.k = omega (arith, e, l) in
     let x : TakesSteps t w = record {
       counts = count_moves n c;
       owed = h.owed + d;
@@ -136,20 +160,20 @@ pub takes_prepaid : {key : Record → Record} {step : Option Record → Record �
     → h.owed + d ≤ s.pool.shape.block * path_most s.pool.shape v.longest → HasSteps q t w
 takes_prepaid {s = s} {t = t} {v = v} {w = w} q d n told h a split may =
     let c = h.counts in
-    let start = call_fewer c (count_moves 0 c) h.owed h.owed refl refl refl refl refl (omega arith)
+    let start = call_fewer c (count_moves 0 c) h.owed h.owed refl refl refl refl refl refl (omega arith)
     (omega arith) h.books in
-    let next = (a.paces told).books c h.owed h.handed h.split h.longest start in
+    let next = ((a.paces told).books c h.owed h.handed h.split h.longest start).call in
     let here = call_fewer (count_moves (n + q) c) (count_moves q (count_moves n c)) (h.owed + d) (h.owed + d)
-    refl refl refl refl refl (omega arith) (omega arith) next in
+    refl refl refl refl refl refl (omega arith) (omega arith) next in
     let shape = a.session.touches.shape in
     let K : ShapeNumbers → Type 0 = λ x. InCall x (count_moves q (count_moves n c)) (h.owed + d) h.handed h.split
     (sums_in t w) in
     let M : ShapeNumbers → Type 0 = λ x. MayRefuse x c.k h.split (h.owed + d) 0 in
     let P : ℕ → Type 0 = λ k. h.owed + d ≤ s.pool.shape.block * path_most s.pool.shape k in
-    let L : ShapeNumbers → Type 0 = λ x. w.steps + (c.spent + n) ≡ step_allowance x c.n c.k in
+    let L : ShapeNumbers → Type 0 = λ x. w.steps + (c.spent + n) ≡ step_allowance x (c.n + c.k) c.k in
     let e = a.steps in
     let l = h.left in
-    let left : w.steps + (c.spent + n) ≡ step_allowance s.pool.shape c.n c.k = omega (arith, e, l) in
+    let left : w.steps + (c.spent + n) ≡ step_allowance s.pool.shape (c.n + c.k) c.k = omega (arith, e, l) in
     record {
       counts = count_moves n c;
       owed = h.owed + d;
@@ -219,6 +243,8 @@ module _ {key : Record → Record} {IsOp IsKept : Record → Type 0} {s t : RigS
       settled = refl;
       resets = refl;
       spent = refl;
+      adopted = refl;
+      counted = refl;
     };
     steps = one;
     running = running_steps k (still_running i g);
@@ -252,6 +278,8 @@ module _ {key : Record → Record} {IsOp IsKept : Record → Type 0} {s t : RigS
           settled = refl;
           resets = refl;
           spent = refl;
+          adopted = refl;
+          counted = refl;
         };
         pays = pays_more (pays_kept (trunk_unstored v) (let e = used.used in omega (arith, e)) g.touches.moves)
             (omega arith);
@@ -284,6 +312,8 @@ no_step {s = s} {v = v} d can some none =
         settled = refl;
         resets = refl;
         spent = refl;
+        adopted = refl;
+        counted = refl;
       };
       pays = pays_more (pays_kept (trunk_unstored v) (omega arith) g.touches.moves) (omega arith);
       cause = (

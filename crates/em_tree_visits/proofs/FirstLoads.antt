@@ -11,6 +11,7 @@ use Rattle.em_space.specs.declared.fault.EmFault.TheVariants.{Damaged}
 use Rattle.em_settle.proofs.Keys.{below_itself}
 use Rattle.em_settle.specs.Laws.{IsSettle}
 use Rattle.em_settle.specs.declared.step.Step.{Step}
+use Rattle.em_tree_cost.specs.Books.{InCall, count_moves}
 use Rattle.em_tree_cost.specs.Counters.{Sums}
 use Rattle.em_tree_model.specs.Ranges.{InRange, least_record}
 use Rattle.em_tree_model.specs.Tree.{Tree}
@@ -19,7 +20,7 @@ use Rattle.em_tree_walk.specs.declared.searching.Range.{Range}
 use Rattle.em_trunk.specs.Buffers.{ClearOver, IsThin}
 use Rattle.em_tree_buffers.specs.Emptying.{CanEmptyEntry, LoadedEntry, StopsEntry, StopsHeld, leaf_debt, stop_debt}
 use Rattle.em_trunk.specs.Entries.{EachEntry}
-use Rattle.em_trunk.specs.Events.{Charges}
+use Rattle.em_trunk.specs.Events.{Charges, Pairs}
 use Rattle.em_tree_buffers.specs.Findings.{FindsSpot}
 use Rattle.em_trunk.specs.Trunk.{full_limit, root_of, sums_in}
 use Rattle.em_tree_visits.specs.Visits.{CanLoadNext, ClearAbove, LoadsSoFar, StopsNextLoad, first_until}
@@ -30,7 +31,7 @@ use Rattle.em_trunk.proofs.Charges.{charges_debt, charges_known, charges_then, c
 use Rattle.em_tree_buffers.proofs.ClearSteps.{deepest_same, works_fit}
 use Rattle.em_trunk.proofs.Ends.{sums_stay}
 use Rattle.em_trunk.proofs.Entries.{each_both, each_map}
-use Rattle.em_tree_visits.proofs.FirstBooks.{no_step, search_owed, search_owed_stops, works_back}
+use Rattle.em_tree_visits.proofs.FirstBooks.{PairsInside, no_step, pairs_never, search_owed, search_owed_stops, works_back}
 use Rattle.em_tree_visits.proofs.FirstFound.{first_keys, low_least, next_never, nothing_first, only_least}
 use Rattle.em_tree_buffers.proofs.FoundWorks.{drained_still, limit_some}
 use Rattle.em_tree_buffers.proofs.LeafWorks.{leaf_small}
@@ -178,6 +179,18 @@ module _ (key : Record → Record) (step : Option Record → Record → Step) (I
       block : t.pool.shape.block ≡ s.pool.shape.block
       block = ap (λ (z : ShapeNumbers). z.block) g.touches.shape
 
+      -- Its operations are those that a leaf's split needs.
+      full_pairs : (IsTrue t.device.told → wide_of t.pool.shape * t.pool.shape.block ≤ ops) → IsTrue s.device.told
+          → PairsInside s.pool.shape v.longest 0 (sums_in s v) (sums_in u x)
+      full_pairs many told c more h0 r same b =
+          let I : Sums → Type 0 = InCall s.pool.shape (count_moves 0 c) more h0 r in
+          let J : ShapeNumbers → Type 0 = λ z. InCall z (count_moves 0 c) more h0 r (sums_in t next) in
+          let here = subst J (sym g.touches.shape) (subst I (sym (same_sums told)) b) in
+          let e = ((h.works 0 many).charges (on told)).books c more h0 r same here in
+          let P : ShapeNumbers → Type 0 = λ z. Pairs z (sums_in t next) (sums_in u x) in
+          let Q : Sums → Type 0 = λ z. Pairs s.pool.shape z (sums_in u x) in
+          subst Q (same_sums told) (subst P g.touches.shape (e.pairs refl))
+
       -- A full load pays for the search.
       full_load : (IsTrue t.device.told → wide_of t.pool.shape * t.pool.shape.block ≤ ops)
           → Works key step IsOp IsKept 0 0 0 1 s u v x
@@ -192,7 +205,7 @@ module _ (key : Record → Record) (step : Option Record → Record → Step) (I
           let debt : B * v.level + 0 ≡ B * (0 + v.level) = omega arith in
           let N : ℕ → Type 0 = λ z. Works key step IsOp IsKept 0 0 z 1 s u v x in
           let none : B * 0 ≡ 0 = omega arith in
-          subst N none (works_back 0 0 0 v.level (subst D debt fits))
+          subst N none (works_back 0 0 0 v.level (λ told none c more h r same b. full_pairs many told c more h r same b) (subst D debt fits))
 
       -- the load's own debt, without descents
       abbrev own_debt : ℕ
@@ -211,7 +224,8 @@ module _ (key : Record → Record) (step : Option Record → Record → Step) (I
           let sum : leaf_debt i t next f.0.path ≡ own + 2 * M = omega arith in
           let fits = works_fit 0 q 0 (0 + 2 * M) look_can.sound.shape
           (λ told low. (omega arith, omega arith)) (h.owes 0) in
-          let load = works_back 0 0 own (2 * M) (subst D sum fits) in
+          let load = works_back 0 0 own (2 * M) (λ told2. (let low = look_can.sound.shape.block_low in
+          pairs_never t next (sums_in t next) (sums_in u x) 0 own (omega (arith, low)) (omega arith))) (subst D sum fits) in
           let both = works_then look load in
           works_owe 0 0 (B * v.level + C * own) (B * (20 * wide_of s.pool.shape + 29 + deepest s v))
           can.sound.shape (λ told low.

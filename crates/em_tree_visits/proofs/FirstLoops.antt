@@ -35,7 +35,7 @@ use Rattle.em_trunk.proofs.Ends.{sums_stay}
 use Rattle.em_tree_buffers.proofs.Found.{level_last}
 use Rattle.em_tree_buffers.proofs.LoopSteps.{can_after}
 use Rattle.em_trunk.proofs.StepWorks.{refused_either}
-use Rattle.em_trunk.proofs.Steps.{steps_most}
+use Rattle.em_trunk.proofs.Steps.{adopted_few, steps_most}
 use Rattle.em_trunk.proofs.Works.{stops_after, works_then, works_owe, works_none}
 
 -- what a last load owes, and a load that gives up
@@ -67,9 +67,10 @@ takes_left {s = s} {v = v} held sound h some may =
     let within = call_refused b sound.shape (refused_either u some may) in
     let z = h.none_taken in
     let y = h.none_settled in
-    let S : ℕ → Type 0 = λ x. c.spent + 1 ≤ tree_share s.pool.shape c.n c.k x c.y in
-    let share : c.spent + 1 ≤ tree_share s.pool.shape c.n c.k 0 c.y = subst S z within in
-    let most = steps_most s.pool.shape c.n c.k c.y sound.shape (omega (arith, h.few)) (omega (arith, y)) in
+    let S : ℕ → Type 0 = λ x. c.spent + 1 ≤ tree_share s.pool.shape (c.n + c.adopted) c.k x c.y in
+    let share : c.spent + 1 ≤ tree_share s.pool.shape (c.n + c.adopted) c.k 0 c.y = subst S z within in
+    let most = steps_most s.pool.shape c.n c.adopted c.k c.y sound.shape (adopted_few h.books.books) (omega (arith, h.few))
+    (omega (arith, y)) in
     let l = h.left in
     omega (arith, share, most, l)
 
@@ -117,7 +118,7 @@ module _ (key : Record → Record) (step : Option Record → Record → Step) (I
   path_fits told = loads_within s.pool.shape v.longest ready.at can.sound.shape few_pushed (ready.at_most told)
 
   leaf_some : IsTrue s.device.told → 1 ≤ (sums_in s v).leaves
-  leaf_some told = (ready.may told).0.books.books.paid.fits.leaves_some
+  leaf_some told = (ready.may told).0.books.books.paid.fits.sums.leaves_some
 
   -- The books in the middle: what is owed then, if a leaf was split, or one leaf is there alone.
   pub record AtMid (E z e : ℕ) (c : TreeCounts) (h : ℕ) (u : Sums) : Type 0 where
@@ -132,10 +133,10 @@ module _ (key : Record → Record) (step : Option Record → Record → Step) (I
       (more h r : ℕ) → c.k ≡ v.longest → InCall s.pool.shape c more h r t
       → InCall s.pool.shape (count_moves m c) (more + d) h r u
   charged {m = m} {d = d} a c more h r same b =
-      let start = call_fewer c (count_moves 0 c) more more refl refl refl refl refl (omega arith) (omega arith)
+      let start = call_fewer c (count_moves 0 c) more more refl refl refl refl refl refl (omega arith) (omega arith)
       b in
-      call_fewer (count_moves (m + 0) c) (count_moves m c) (more + d) (more + d) refl refl refl refl refl
-      (omega arith) (omega arith) (a.books c more h r same start)
+      call_fewer (count_moves (m + 0) c) (count_moves m c) (more + d) (more + d) refl refl refl refl refl refl
+      (omega arith) (omega arith) (a.books c more h r same start).call
 
   module _ (told : IsTrue s.device.told) (c : TreeCounts) (owed h r : ℕ) (same : c.k ≡ v.longest)
       (b : InCall s.pool.shape c owed h r (sums_in s v)) (o : OwesUpTo D 0 (13 + L) owed r s v) where
@@ -300,10 +301,10 @@ module _ (key : Record → Record) (step : Option Record → Record → Step) (I
         let K : ShapeNumbers → Type 0 = λ h. InCall h (count_moves n x.counts) a.owed x.handed a.split
         (sums_in t w) in
         let S : ShapeNumbers → Type 0 = λ h. w.steps + (x.counts.spent + n)
-        ≡ step_allowance h x.counts.n x.counts.k in
+        ≡ step_allowance h (x.counts.n + x.counts.k) x.counts.k in
         let taken = works.steps in
         let l = x.left in
-        let left : w.steps + (x.counts.spent + n) ≡ step_allowance s.pool.shape x.counts.n x.counts.k =
+        let left : w.steps + (x.counts.spent + n) ≡ step_allowance s.pool.shape (x.counts.n + x.counts.k) x.counts.k =
         omega (arith, taken, l) in
         let y : TakesSteps t w = record {
           counts = count_moves n x.counts;
@@ -521,7 +522,7 @@ module _ (key : Record → Record) (step : Option Record → Record → Step) (I
     share_of : (c : TreeCounts) (m more h r held : ℕ) (y : Sums)
         → InCall s.pool.shape (count_moves m c) more h r y → held ≤ y.waiting + y.stored
         → MayRefuse s.pool.shape c.k r more held
-        → c.spent + m ≤ tree_share s.pool.shape c.n c.k c.z c.y
+        → c.spent + m ≤ tree_share s.pool.shape (c.n + c.adopted) c.k c.z c.y
     share_of c m more h r held y b some may = call_refused b can.sound.shape (refused_either y some may)
 
     module _ {u : RigState} {x : Trunk} {fault : EmFault} (b : StopsNextLoad t u w x fault)
@@ -534,7 +535,7 @@ module _ (key : Record → Record) (step : Option Record → Record → Step) (I
       before = count_moves (t.moves - s.moves) c
 
       abbrev Share : Type 0
-      Share = before.spent + last_moves ≤ tree_share s.pool.shape c.n c.k c.z c.y
+      Share = before.spent + last_moves ≤ tree_share s.pool.shape (c.n + c.adopted) c.k c.z c.y
 
       abbrev most : ℕ
       most = stop_load_debt (wide_of s.pool.shape) L

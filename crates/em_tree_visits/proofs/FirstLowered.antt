@@ -23,7 +23,7 @@ use Rattle.em_tree_buffers.specs.Emptying.{CanClear, CanEmptyEntry, EmptiedEntry
 use Rattle.em_trunk.specs.Entries.{EachEntry}
 use Rattle.em_tree_buffers.specs.Loops.{CanClearFull, Cleared, clear_pay, nodes_inside, searches_left}
 use Rattle.em_trunk.specs.Starts.{is_inside, starts_of}
-use Rattle.em_trunk.specs.Trunk.{IsStanding, full_limit, root_of}
+use Rattle.em_trunk.specs.Trunk.{IsStanding, full_limit, root_of, sums_in}
 use Rattle.em_tree_visits.specs.Visits.{ClearAbove, EmptiedDown, MayOweMore, StopsDown, first_until}
 use Rattle.em_trunk.specs.Works.{StopsWorking, Works, CanWork, deepest, unstored_most, IsDrained}
 use Rattle.em_trunk.specs.declared.trunk.Trunk.{Trunk}
@@ -31,7 +31,7 @@ use Rattle.em_trunk.proofs.Buffers.{none_due}
 use Rattle.em_tree_buffers.proofs.ClearSteps.{deepest_same, stops_fit, works_fit}
 use Rattle.em_trunk.proofs.Entries.{each_map}
 use Rattle.em_tree_buffers.proofs.EntryBefore.{child_few}
-use Rattle.em_tree_visits.proofs.FirstBooks.{takes_prepaid, works_back}
+use Rattle.em_tree_visits.proofs.FirstBooks.{pairs_never, takes_prepaid, works_back}
 use Rattle.em_tree_visits.proofs.FirstFound.{only_least}
 use Rattle.em_tree_buffers.proofs.Found.{due_over_at}
 use Rattle.em_tree_buffers.proofs.FoundLowered.{Lowers, clear_lowered, full_lowered, spot_lowers}
@@ -180,7 +180,8 @@ module _ (key : Record → Record) (step : Option Record → Record → Step) (I
   none_full_below tells = record {
     taken = 0;
     debt = own_debt;
-    works = works_back 0 0 own_debt (deepest s v) lowered;
+    works = works_back 0 0 own_debt (deepest s v) (λ told. (let low = can.sound.shape.block_low in
+        pairs_never s v (sums_in s v) (sums_in t v) 0 own_debt (omega (arith, low)) (omega arith))) lowered;
     owes = own_few;
     thin = λ told. thin_first told ((tells told).thin refl);
     clear = clear_first;
@@ -291,7 +292,9 @@ module _ (key : Record → Record) (step : Option Record → Record → Step) (I
       record {
         taken = n;
         debt = own_debt;
-        works = works_back 0 0 own_debt L (subst D debt (subst E count works));
+        works = works_back 0 0 own_debt L (λ told. (let low = can.sound.shape.block_low in
+            pairs_never s v (sums_in s v) (sums_in u x) 0 own_debt (omega (arith, low)) (omega arith)))
+            (subst D debt (subst E count works));
         owes = own_few;
         thin = full;
         clear = λ told. (c.clears (goes_on told)).clear (suc m) least_record first_until (omega arith)

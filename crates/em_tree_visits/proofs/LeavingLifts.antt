@@ -242,7 +242,7 @@ module _ (key : Record → Record) (step : Option Record → Record → Step) (I
         frames = c.frames;
         pays = kept_pays;
         loses = kept_lists.loses;
-        numbers = record { pushed = refl; longest = refl; since = refl; settled = refl; resets = refl; spent = refl };
+        numbers = record { pushed = refl; longest = refl; since = refl; settled = refl; resets = refl; spent = refl; adopted = refl; counted = refl };
         running = runs_after part_stands;
         takes = part_takes;
         thin = λ z.
@@ -350,7 +350,7 @@ module _ (key : Record → Record) (step : Option Record → Record → Step) (I
         frames = c.frames;
         pays = kept_pays;
         loses = kept_lists.loses;
-        numbers = record { pushed = refl; longest = refl; since = refl; settled = refl; resets = refl; spent = refl };
+        numbers = record { pushed = refl; longest = refl; since = refl; settled = refl; resets = refl; spent = refl; adopted = refl; counted = refl };
         running = runs_after gone_stands;
         takes = gone_takes;
         thin = λ z.

@@ -131,6 +131,8 @@ module _ (key : Record → Record) (step : Option Record → Record → Step) (I
         pushed_most = n.pushed_most;
         settled_most = n.settled_most;
         resets_most = n.resets_most;
+        adopted_most = n.adopted_most;
+        counted_most = n.counted_most;
         spent_most = omega (arith, n.spent_most, h.moves);
         root_below = in_use_below t block c.session.sound used;
       }
@@ -185,7 +187,7 @@ module _ (key : Record → Record) (step : Option Record → Record → Step) (I
     frames = c.frames;
     pays = pays_more c.pays (omega arith);
     loses = loses;
-    numbers = record { pushed = refl; longest = refl; since = refl; settled = refl; resets = refl; spent = refl };
+    numbers = record { pushed = refl; longest = refl; since = refl; settled = refl; resets = refl; spent = refl; adopted = refl; counted = refl };
     running = record {
       frames = frames;
       numbers = numbers;

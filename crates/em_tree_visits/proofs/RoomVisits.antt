@@ -1,5 +1,5 @@
 -- The blocks of a tree while records are taken out of it.
-use Rattle.std.proofs.Common.{◌≡◌, ℕ, ◌+◌, ◌-◌, ◌*◌, ◌≤◌, List, refl, arith, IsTrue, Option}
+use Rattle.std.proofs.Common.{ℕ, ◌-◌, ◌*◌, ◌≤◌, List, refl, arith, IsTrue, Option}
 use Rattle.em_record.specs.Shape.{ShapeNumbers}
 use Rattle.em_record.specs.declared.record.Record.{Record}
 use Rattle.em_space.specs.Rig.{RigState}
@@ -17,8 +17,8 @@ pub taking_books : {shape : ShapeNumbers} {k r : ℕ} {t : Sums} (owed : ℕ) �
     → (h : HasCounters shape k r t) → InCall shape (counted h.counters) owed 0 r t
 taking_books {t = t} owed held h =
     let cs = h.counters in
-    let left = h.fits.left_most in
-    let pushed = h.fits.all_pushed in
+    let left = h.fits.sums.left_most in
+    let pushed = h.fits.sums.loaded_most in
     let few : 3 * t.root ≤ 3 * cs.n = omega (arith, pushed, held) in
     record {
       books = record {
@@ -28,7 +28,9 @@ taking_books {t = t} owed held h =
         since = refl;
         z = refl;
         y = refl;
+        adopted = refl;
         few = h.few;
+        few_adopted = h.few_adopted;
         paid = record {
           fits = h.fits;
           covers = record { covered = omega (arith, few) };
@@ -37,7 +39,7 @@ taking_books {t = t} owed held h =
       };
       taken = omega (arith, left);
       taken_since = omega arith;
-      splits_since = h.split;
+      parts = h.parts;
     }
 
 -- the root's buffer waits, too

@@ -221,18 +221,18 @@ module _ (key : Record → Record) (step : Option Record → Record → Step) (I
         let q = y.0 in
         let c = q.counts in
         let none = y.1 in
-        let start = call_fewer c (count_moves 0 c) q.owed q.owed refl refl refl refl refl (omega arith)
+        let start = call_fewer c (count_moves 0 c) q.owed q.owed refl refl refl refl refl refl (omega arith)
         (omega arith) q.books in
-        let e = (first.paces told).books c q.owed q.handed q.split q.longest start in
+        let e = ((first.paces told).books c q.owed q.handed q.split q.longest start).call in
         let here = call_fewer (count_moves (0 + L) c) (count_moves L (count_moves 0 c)) (q.owed + B * debt)
-        (q.owed + B * debt) refl refl refl refl refl (omega arith) (omega arith) e in
+        (q.owed + B * debt) refl refl refl refl refl refl (omega arith) (omega arith) e in
         let shape = first.session.touches.shape in
         let levels = levels_fit can in
         let most = levels.most in
         let left = q.left in
         let st = first.steps in
-        let A : ShapeNumbers → Type 0 = λ h. x.steps + (c.spent + 0) ≡ step_allowance h c.n c.k in
-        let allowance : x.steps + (c.spent + 0) ≡ step_allowance s.pool.shape c.n c.k =
+        let A : ShapeNumbers → Type 0 = λ h. x.steps + (c.spent + 0) ≡ step_allowance h (c.n + c.k) c.k in
+        let allowance : x.steps + (c.spent + 0) ≡ step_allowance s.pool.shape (c.n + c.k) c.k =
         omega (arith, left, st) in
         let with_split = λ (r : ℕ) (b : InCall s.pool.shape (count_moves L (count_moves 0 c)) (q.owed + B * debt)
         q.handed r (sums_in u x)) (may : MayRefuse s.pool.shape v.longest r (q.owed + B * debt) 0).

@@ -48,16 +48,16 @@ module _ {shape : ShapeNumbers} {k m owed r h : ℕ} {t u : Sums} (most more few
     (o : OwesAt shape most 0 few owed r t) (c : TreeCounts) (same : c.k ≡ k)
     (b : InCall shape c owed h r t) where
   start : InCall shape (count_moves 0 c) owed h r t
-  start = call_fewer c (count_moves 0 c) owed owed refl refl refl refl refl (omega arith) (omega arith) b
+  start = call_fewer c (count_moves 0 c) owed owed refl refl refl refl refl refl (omega arith) (omega arith) b
 
   with_full : InCall shape (count_moves m c) (owed + shape.block * more) h r u
   with_full = call_fewer (count_moves (m + 0) c) (count_moves m c) (owed + shape.block * more)
-      (owed + shape.block * more) refl refl refl refl refl (omega arith) (omega arith)
-      (full.books c owed h r same start)
+      (owed + shape.block * more) refl refl refl refl refl refl (omega arith) (omega arith)
+      (full.books c owed h r same start).call
 
   with_one : IsSingle u → InCall shape (count_moves m c) (owed + d) h r u
   with_one i = call_fewer (count_moves (m + 0) c) (count_moves m c) (owed + d) (owed + d)
-      refl refl refl refl refl (omega arith) (omega arith) ((one i).books c owed h r same start)
+      refl refl refl refl refl refl (omega arith) (omega arith) ((one i).books c owed h r same start).call
 
   few_most : shape.block * few ≤ shape.block * most
   few_most = mul-le-mul_left shape.block low
@@ -104,7 +104,7 @@ module _ {shape : ShapeNumbers} {k m owed r h : ℕ} {t u : Sums} (most more few
 pub share_more : {shape : ShapeNumbers} {c : TreeCounts} {more h r : ℕ} {t : Sums} (m held : ℕ)
     → IsShape shape → InCall shape c more h r t → held ≤ t.waiting + t.stored
     → MayRefuse shape c.k r (more + shape.block * m) held
-    → c.spent + m ≤ tree_share shape c.n c.k c.z c.y
+    → c.spent + m ≤ tree_share shape (c.n + c.adopted) c.k c.z c.y
 share_more {shape} {c} {more} {h} {r} {t} m held is b some may =
     let q = call_debt m t is b (more + shape.block * m) (sums_stay t) (same_buffer t t refl refl)
     (omega arith) in
@@ -183,7 +183,7 @@ module _ {shape : ShapeNumbers} {c : TreeCounts} {owed h r : ℕ} {t : Sums} (is
       } in
       let e = call_leave 0 t is b 0 (omega (arith, half)) take (same_buffer t t refl refl)
       (probe_number shape owed (arrival_debt shape L o.at) L o.at is levels o.down o.most (omega arith)) in
-      books_less (count_moves 0 c) c 0 0 refl refl refl refl refl (omega arith) (omega arith) e
+      (books_less (count_moves 0 c) c 0 0 refl refl refl refl refl refl (omega arith) (omega arith) e).0
 
   -- One that takes its last records, and leaves some,
   pub leave_ends : {u : Sums} (g m blocks : ℕ) → SumsTake g t u → SameRoot t u
@@ -214,7 +214,7 @@ module _ {shape : ShapeNumbers} {c : TreeCounts} {owed h r : ℕ} {t : Sums} (is
         (visit_number shape (shape.block * (D + 5)) (D + 5) L o.at m2 is levels o.down (omega arith) (omega arith)
         less) in
         call_fewer (count_moves m2 (count_moves m1 c)) (count_moves (m1 + m2) c) 0 0
-        refl refl refl refl refl (omega arith) (omega arith) e
+        refl refl refl refl refl refl (omega arith) (omega arith) e
 
 -- A call takes the records of a leaf alone, and leaves a new tree.
 module _ {shape : ShapeNumbers} {c : TreeCounts} {most stored few h : ℕ} {t : Sums} (is : IsShape shape)
@@ -275,7 +275,7 @@ pub leaf_refused : {shape : ShapeNumbers} {c : TreeCounts} {most few h : ℕ} {t
     → few ≤ 47 + levels_of shape c.k → (IsSingle t → t.stored ≡ held)
     → IsCeil blocks (payload_of shape) held → blocks ≤ 4 * wide_of shape + 1
     → t.level ≤ levels_of shape c.k → m ≤ 2 * blocks + 4 * t.level + 5
-    → c.spent + m ≤ tree_share shape c.n c.k c.z c.y
+    → c.spent + m ≤ tree_share shape (c.n + c.adopted) c.k c.z c.y
 leaf_refused {shape} {c} {most} {few} {h} {t} is levels q at m held blocks down fits low same ceil leaf high made =
     let B = shape.block in
     let L = levels_of shape c.k in

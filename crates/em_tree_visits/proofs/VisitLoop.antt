@@ -64,10 +64,10 @@ take_parts (suc a) (suc n) (x ∷ xs) h =
 -- A call's end, over the counts that were moved on.
 ends_as : (reset : Bool) (shape : ShapeNumbers) (m n total : ℕ) (c : TreeCounts) (u : Sums) → total ≤ m + n
     → EndsBooks reset shape n (count_moves m c) u → EndsBooks reset shape total c u
-ends_as false shape m n total c u h b = books_less (count_moves n (count_moves m c)) (count_moves total c) 0 0
-    refl refl refl refl refl (omega (arith, h)) (omega arith) b
-ends_as true shape m n total c u h b = books_less (count_drain n (count_moves m c)) (count_drain total c) 0 0
-    refl refl refl refl refl (omega (arith, h)) (omega arith) b
+ends_as false shape m n total c u h b = (books_less (count_moves n (count_moves m c)) (count_moves total c) 0 0
+    refl refl refl refl refl refl (omega (arith, h)) (omega arith) b).0
+ends_as true shape m n total c u h b = (books_less (count_drain n (count_moves m c)) (count_drain total c) 0 0
+    refl refl refl refl refl refl (omega (arith, h)) (omega arith) b).0
 
 module _ (key : Record → Record) (step : Option Record → Record → Step) (IsOp IsKept : Record → Type 0)
     {s : RigState} {v : Trunk} (can : CanWork key IsOp IsKept s v) (take_all : CanTakeAll s v) where
@@ -87,9 +87,9 @@ module _ (key : Record → Record) (step : Option Record → Record → Step) (I
     began m l c h known through b =
         let P : ℕ → Type 0 = λ k. InCall s.pool.shape (count_moves m c) first_owed k l (sums_in t w) in
         let z : h ≡ h + 0 = omega arith in
-        let start = call_fewer c (count_moves 0 c) 0 0 refl refl refl refl refl (omega arith) (omega arith) b in
+        let start = call_fewer c (count_moves 0 c) 0 0 refl refl refl refl refl refl (omega arith) (omega arith) b in
         subst P z (known (call_fewer (count_moves (m + 0) c) (count_moves m c) (0 + first_owed) first_owed
-        refl refl refl refl refl (omega arith) (omega arith) (through start)))
+        refl refl refl refl refl refl (omega arith) (omega arith) (through start)))
 
     visiting_by : (area : List Record) (l : ℕ)
         → ((c : TreeCounts) (h : ℕ) → InCall s.pool.shape c first_owed h 0 (sums_in t w)
@@ -115,11 +115,11 @@ module _ (key : Record → Record) (step : Option Record → Record → Step) (I
             c.represents c.advances;
         charges = λ told. record {
           books = λ c h same b. began (t.moves - s.moves) l c h (known (count_moves (t.moves - s.moves) c) h)
-              ((top.works.charges told).books c 0 h 0 same) b;
+              (λ x. ((top.works.charges told).books c 0 h 0 same x).call) b;
         };
         paces = λ told. record {
           books = λ c h same b. began top.taken l c h (known (count_moves top.taken c) h)
-              ((top.works.paces told).books c 0 h 0 same) b;
+              (λ x. ((top.works.paces told).books c 0 h 0 same x).call) b;
         };
         gives = top.works.gives;
         room = top.works.room;
@@ -193,10 +193,10 @@ module _ (key : Record → Record) (step : Option Record → Record → Step) (I
         let h = q.handed + length (take taken area) in
         let K : ShapeNumbers → Type 0 = λ g. InCall g (count_moves loop.steps c) loop.owed h loop.split
         (sums_in t w) in
-        let A : ShapeNumbers → Type 0 = λ g. w.steps + (c.spent + loop.steps) ≡ step_allowance g c.n c.k in
+        let A : ShapeNumbers → Type 0 = λ g. w.steps + (c.spent + loop.steps) ≡ step_allowance g (c.n + c.k) c.k in
         let left = q.left in
         let st = loop.works.steps in
-        let allowance : w.steps + (c.spent + loop.steps) ≡ step_allowance shape c.n c.k =
+        let allowance : w.steps + (c.spent + loop.steps) ≡ step_allowance shape (c.n + c.k) c.k =
         omega (arith, left, st) in
         let x : TakesSteps t w = record {
           counts = count_moves loop.steps c;
@@ -257,7 +257,7 @@ module _ (key : Record → Record) (step : Option Record → Record → Step) (I
           let e : h + length (take taken area) + length zs ≡ h + length (take n new) = omega (arith, size) in
           let P : ℕ → Type 0 = λ j. InCall s.pool.shape (count_moves total c) 0 j 1 (sums_in u x) in
           subst P e (call_fewer (count_moves k (count_moves m c)) (count_moves total c) 0 0
-          refl refl refl refl refl (omega (arith, most)) (omega arith) (through b))
+          refl refl refl refl refl refl (omega (arith, most)) (omega arith) (through b))
 
       -- the visit's books, of the shape and the k that the call began with
       next_books : (k : ℕ) → (IsTrue s.device.told → ChargesTaking t.pool.shape w.longest loop.owed k 0
@@ -413,7 +413,7 @@ module _ (key : Record → Record) (step : Option Record → Record → Step) (I
               let e = b.share (on told) (count_moves m c) (handed + length (take taken area))
               (same ∙ sym a.numbers.longest) (subst K (sym shape_now) q) in
               let S : ShapeNumbers → Type 0 =
-              λ g. c.spent + m + (u.moves - t.moves) ≤ tree_share g c.n c.k c.z c.y in
+              λ g. c.spent + m + (u.moves - t.moves) ≤ tree_share g (c.n + c.adopted) c.k c.z c.y in
               let all = subst S first.shape e in
               let moves = moves_then s.moves t.moves u.moves first.moves later in
               omega (arith, all, moves);

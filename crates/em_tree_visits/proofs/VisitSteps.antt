@@ -22,7 +22,7 @@ use Rattle.em_trunk.specs.Works.{StopsWorking, Works, CanWork, deepest, unstored
 use Rattle.em_trunk.specs.declared.trunk.Trunk.{Trunk}
 use Rattle.em_trunk.proofs.Charges.{call_fewer, level_most}
 use Rattle.em_trunk.proofs.StepWorks.{refused_either}
-use Rattle.em_trunk.proofs.Steps.{steps_most}
+use Rattle.em_trunk.proofs.Steps.{adopted_few, steps_most}
 use Rattle.em_tree_visits.proofs.VisitBooks.{StandsOwing, share_more, stage}
 use Rattle.em_trunk.proofs.Works.{moves_then, numbers_then, works_then}
 use Rattle.em_trunk.proofs.Waits.{waits_after}
@@ -64,9 +64,9 @@ stops_unknown {s = s} {t = t} {v = v} can owed r d h may = record {
   share = λ told c handed same b.
       let m = t.moves - s.moves in
       let up = h.charges told in
-      let start = call_fewer c (count_moves 0 c) owed owed refl refl refl refl refl (omega arith)
+      let start = call_fewer c (count_moves 0 c) owed owed refl refl refl refl refl refl (omega arith)
       (omega arith) b in
-      let e = up.charges.books c owed handed r same start in
+      let e = (up.charges.books c owed handed r same start).call in
       let M : ℕ → Type 0 = λ k. MayRefuse s.pool.shape k r (owed + d) 0 in
       let all = call_refused e can.sound.shape
       (refused_either up.sums (omega arith) (subst M (sym same) (may told))) in
@@ -109,9 +109,10 @@ step_there {s} {v} held sound x some may =
     let M : ℕ → Type 0 = λ k. MayRefuse s.pool.shape k x.split (x.owed + s.pool.shape.block * 1) held in
     let within = share_more 1 held sound.shape x.books some (subst M (sym x.longest) may) in
     let y = x.none_settled in
-    let S : ℕ → Type 0 = λ n. c.spent + 1 ≤ tree_share s.pool.shape c.n c.k n c.y in
-    let share : c.spent + 1 ≤ tree_share s.pool.shape c.n c.k 0 c.y = subst S x.none_taken within in
-    let most = steps_most s.pool.shape c.n c.k c.y sound.shape (omega (arith, x.few)) (omega (arith, y)) in
+    let S : ℕ → Type 0 = λ n. c.spent + 1 ≤ tree_share s.pool.shape (c.n + c.adopted) c.k n c.y in
+    let share : c.spent + 1 ≤ tree_share s.pool.shape (c.n + c.adopted) c.k 0 c.y = subst S x.none_taken within in
+    let most = steps_most s.pool.shape c.n c.adopted c.k c.y sound.shape (adopted_few x.books.books) (omega (arith, x.few))
+    (omega (arith, y)) in
     let l = x.left in
     omega (arith, share, most, l)
 
@@ -140,10 +141,10 @@ module _ (key : Record → Record) (step : Option Record → Record → Step) (I
       let shape = full.session.touches.shape in
       let K : ShapeNumbers → Type 0 = λ z. InCall z (count_moves n c) q.owed x.handed q.split (sums_in t w) in
       let O : ShapeNumbers → Type 0 = λ z. OwesAt z (most + more) stored next q.owed q.split (sums_in t w) in
-      let L : ShapeNumbers → Type 0 = λ z. w.steps + (c.spent + n) ≡ step_allowance z c.n c.k in
+      let L : ShapeNumbers → Type 0 = λ z. w.steps + (c.spent + n) ≡ step_allowance z (c.n + c.k) c.k in
       let e = full.steps in
       let l = x.left in
-      let left : w.steps + (c.spent + n) ≡ step_allowance s.pool.shape c.n c.k = omega (arith, e, l) in
+      let left : w.steps + (c.spent + n) ≡ step_allowance s.pool.shape (c.n + c.k) c.k = omega (arith, e, l) in
       let y : TakesSteps t w = record {
         counts = count_moves n c;
         owed = q.owed;
@@ -188,7 +189,7 @@ module _ (key : Record → Record) (step : Option Record → Record → Step) (I
             let e = (inner q.owed q.split (λ z. subst O (sym first.shape) q.owes)).share (first.told ∙ told)
             (count_moves m c) h (same ∙ sym full.numbers.longest) (subst K (sym first.shape) q.books) in
             let S : ShapeNumbers → Type 0 =
-            λ z. c.spent + m + (u.moves - t.moves) ≤ tree_share z c.n c.k c.z c.y in
+            λ z. c.spent + m + (u.moves - t.moves) ≤ tree_share z (c.n + c.adopted) c.k c.z c.y in
             let all = subst S first.shape e in
             let moves = moves_then s.moves t.moves u.moves first.moves later in
             omega (arith, all, moves);

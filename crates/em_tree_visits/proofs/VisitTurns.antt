@@ -332,8 +332,8 @@ module _ (key : Record → Record) (step : Option Record → Record → Step) (I
                 (omega (arith, many, size)) (subst S (sym size) (ceil_of n)) (omega (arith, made)) in
                 let moves = moves_then s.moves t.moves u.moves a.works.session.touches.moves
                 p.changes.session.touches.moves in
-                books_less (count_moves m2 (count_moves m c)) (count_moves (u.moves - s.moves) c) 0 0
-                refl refl refl refl refl (omega (arith, moves)) (omega arith) e;
+                (books_less (count_moves m2 (count_moves m c)) (count_moves (u.moves - s.moves) c) 0 0
+                refl refl refl refl refl refl (omega (arith, moves)) (omega arith) e).0;
           }
 
       -- The leaf was removed: another visit may follow.
@@ -363,7 +363,7 @@ module _ (key : Record → Record) (step : Option Record → Record → Step) (I
               (gone_sums key step IsOp IsKept run a.drained over_here p.changes laws p.told (on told))
               (record { root = refl; blocks = refl }) (omega (arith, low, some)) in
               call_fewer (count_moves (m1 + m2) (count_moves m c)) (count_moves total c) 0 0
-              refl refl refl refl refl (omega (arith, most)) (omega arith) e
+              refl refl refl refl refl refl (omega (arith, most)) (omega arith) e
 
           gone_works : (owed r : ℕ) → (IsTrue s.device.told → OwesBefore owed r s v)
               → WorksTaking key step IsOp IsKept (take n (drop taken new)) owed 0 r 1 a.steps s u v w
@@ -449,8 +449,8 @@ module _ (key : Record → Record) (step : Option Record → Record → Step) (I
               let whole = subst W shape_then (lone_books key step IsOp IsKept laws run a.drained over_here
               p.changes p.in_use p.told (on told) (count_drain (m1 + m2) (count_moves m c))
               (subst Z (sym shape_then) e)) in
-              books_less (count_drain (m1 + m2) (count_moves m c)) (count_drain (u.moves - s.moves) c) 0 0
-              refl refl refl refl refl (omega (arith, made, first)) (omega arith) whole
+              (books_less (count_drain (m1 + m2) (count_moves m c)) (count_drain (u.moves - s.moves) c) 0 0
+              refl refl refl refl refl refl (omega (arith, made, first)) (omega arith) whole).0
 
           pub emptied_last : VisitedLast key step IsOp IsKept taken (record { count = taken + n; reset = true })
               old new s u v (replanted w block)
@@ -513,7 +513,7 @@ module _ (key : Record → Record) (step : Option Record → Record → Step) (I
             frames = h.goes.frames;
           };
           frames = frames_same h.goes.frames run.frames;
-          numbers = record { pushed = refl; longest = refl; since = refl; settled = refl; resets = refl; spent = refl };
+          numbers = record { pushed = refl; longest = refl; since = refl; settled = refl; resets = refl; spent = refl; adopted = refl; counted = refl };
           pays = pays_more h.pays (omega arith);
           cause = h.cause;
           needs = full_by fault (IsTrue t.device.told → ⊥)
@@ -524,7 +524,7 @@ module _ (key : Record → Record) (step : Option Record → Record → Step) (I
               let O : ShapeNumbers → Type 0 = λ g. OwesAt g (root + way_moves a.at s v) (sums_in t w).stored
               (47 + L) owed r (sums_in t w) in
               let C : ShapeNumbers → Type 0 = λ g. InCall g c owed handed r (sums_in t w)
-              → c.spent + m ≤ tree_share g c.n c.k c.z c.y in
+              → c.spent + m ≤ tree_share g (c.n + c.adopted) c.k c.z c.y in
               let D : ℕ → Type 0 = λ k. a.at ≤ levels_of s.pool.shape k in
               let A : ℕ → Type 0 = λ k. root + way_moves a.at s v
               ≤ arrival_debt s.pool.shape (levels_of s.pool.shape k) a.at in

@@ -38,7 +38,7 @@ pub record TakesSteps (s : RigState) (v : Trunk) : Type 0 where
   pub none_taken : counts.z ≡ 0
   pub none_settled : counts.y ≡ 0
   pub books : InCall s.pool.shape counts owed handed split (sums_in s v)
-  pub left : v.steps + counts.spent ≡ step_allowance s.pool.shape counts.n counts.k
+  pub left : v.steps + counts.spent ≡ step_allowance s.pool.shape (counts.n + counts.k) counts.k
 
 -- the keys of the least record alone end here: a search among them finds the first entry of a level
 abbrev pub first_until : Option Record
@@ -149,7 +149,7 @@ pub record StopsVisit (owed r : ℕ) (s t : RigState) (v w : Trunk) (fault : EmF
   pub needs : FullIfWaits s v fault
   pub share : IsTrue s.device.told → (c : TreeCounts) (h : ℕ) → c.k ≡ v.longest
       → InCall s.pool.shape c owed h r (sums_in s v)
-      → c.spent + (t.moves - s.moves) ≤ tree_share s.pool.shape c.n c.k c.z c.y
+      → c.spent + (t.moves - s.moves) ≤ tree_share s.pool.shape (c.n + c.adopted) c.k c.z c.y
   pub room : IsTrue s.device.told → (g : ℕ) → MayHold g 0 s v → StopsIn g s t v fault
 
 -- What is owed before a leaf is taken away, in moves times B. If a leaf was split, so many moves; else one leaf is

@@ -11,7 +11,8 @@ use Rattle.em_space.proofs.Paying.{pays_kept}
 use Rattle.em_space.proofs.Steps.{goes_nothing}
 use Rattle.em_settle.specs.declared.step.Step.{Step}
 use Rattle.em_tree_cost.specs.Books.{KeepsBooks, count_moves}
-use Rattle.em_tree_cost.specs.Shares.{floors_of, levels_of}
+use Rattle.em_tree_cost.specs.Paid.{settle_rest}
+use Rattle.em_tree_cost.specs.Shares.{levels_of}
 use Rattle.em_tree_cost.proofs.Ceilings.{blocks_ceil}
 use Rattle.em_tree_cost.proofs.Paid.{levels_within}
 use Rattle.em_tree_walk.proofs.Losses.{loses_still}
@@ -47,7 +48,7 @@ may_toll {s = s} {v = v} p more d sound m h =
     let e = m.books.k ∙ m.longest in
     let P : ℕ → Type 0 = λ k. m.debt + d
     ≤ 10 * blocks_of shape k + (sums_in s v).leaves * (63 * levels_of shape k) in
-    let Q : ℕ → Type 0 = λ k. m.debt + d ≤ 64 * (blocks_of shape k + 1) * floors_of shape k in
+    let Q : ℕ → Type 0 = λ k. m.debt + d ≤ settle_rest shape k in
     subst Q e (settling_most (m.debt + d) sound.shape m.books.paid.fits (subst P (sym e) few))
 
 -- So a step is left.
@@ -55,7 +56,7 @@ pub may_step : {s : RigState} {v : Trunk} (p more : ℕ) → Sound s → MayOwe 
 may_step {s = s} {v = v} p more sound m =
     let shape = s.pool.shape in
     let toll = may_toll p more 0 sound m (omega arith) in
-    let T : ℕ → Type 0 = λ k. m.debt + 0 ≤ 64 * (blocks_of shape k + 1) * floors_of shape k in
+    let T : ℕ → Type 0 = λ k. m.debt + 0 ≤ settle_rest shape k in
     let own = subst T (sym m.longest) toll in
     let few = m.few in
     let within = settling_steps {c = count_moves p m.counts} m.debt sound.shape (omega (arith, few))
@@ -92,10 +93,10 @@ may_then {s = s} {t = t} {v = v} {w = w} p q d n more next told m a k =
     let B = s.pool.shape.block in
     let shape = a.session.touches.shape in
     let longest = a.numbers.longest in
-    let after = charges_books (a.paces told) c (B * m.debt) m.longest m.books in
+    let after = (charges_books (a.paces told) c (B * m.debt) m.longest m.books).call.books in
     let K : ShapeNumbers → Type 0 = λ x. KeepsBooks x (count_moves q (count_moves n c))
     (x.block * (m.debt + d)) (sums_in t w) in
-    let S : ShapeNumbers → Type 0 = λ x. w.steps + (c.spent + n) ≡ step_allowance x c.n c.k in
+    let S : ShapeNumbers → Type 0 = λ x. w.steps + (c.spent + n) ≡ step_allowance x (c.n + c.k) c.k in
     let M : ShapeNumbers → Type 0 = λ x. x.block * (m.debt + d) + next
     ≤ x.block * (10 * blocks_of x w.longest + (sums_in t w).leaves * (63 * levels_of x w.longest)) in
     let N : ℕ → Type 0 = λ y. B * (m.debt + d) + next
@@ -109,8 +110,8 @@ may_then {s = s} {t = t} {v = v} {w = w} p q d n more next told m a k =
       few = m.few;
       none_taken = m.none_taken;
       none_settled = m.none_settled;
-      books = subst K (sym shape) (books_less (count_moves (n + q) c) (count_moves q (count_moves n c))
-          (B * m.debt + B * d) (B * (m.debt + d)) refl refl refl refl refl (omega arith) (omega arith) after);
+      books = subst K (sym shape) ((books_less (count_moves (n + q) c) (count_moves q (count_moves n c))
+          (B * m.debt + B * d) (B * (m.debt + d)) refl refl refl refl refl refl (omega arith) (omega arith) after).0);
       left = subst S (sym shape) (omega (arith, taken, left));
       most = subst M (sym shape) (subst N (sym longest) (most_then B m.debt d more next
           (blocks_of s.pool.shape v.longest) (deepest s v) (sums_in s v).leaves (sums_in t w).leaves
@@ -139,7 +140,7 @@ owing_bought {step = step} {s = s} {v = v} n can =
       frames = g.frames;
       pays = pays_kept (trunk_unstored v) (omega arith) g.touches.moves;
       loses = loses_still (trunk_blocks s v) s s refl;
-      numbers = record { pushed = refl; longest = refl; since = refl; settled = refl; resets = refl; spent = refl };
+      numbers = record { pushed = refl; longest = refl; since = refl; settled = refl; resets = refl; spent = refl; adopted = refl; counted = refl };
       steps = omega arith;
       running = still_running i g;
       continues = still_continues i g step;
@@ -190,7 +191,7 @@ pub may_begin : {key : Record → Record} {IsOp IsKept : Record → Type 0} {s :
 may_begin {s = s} {v = v} sound is told =
     let shape = s.pool.shape in
     let n = is.running.numbers in
-    let b = is.books told in
+    let b = (is.books told).books in
     let f = b.paid.fits in
     let w = counted_settling shape v in
     let few : v.longest ≤ 2 ^ 101 = (let x = n.longest_most in let y = n.pushed_most in omega (arith, x, y)) in
@@ -198,7 +199,7 @@ may_begin {s = s} {v = v} sound is told =
     let low : v.level ≤ deepest s v = level_most sound.shape b in
     let held : (sums_in s v).stored + (sums_in s v).waiting ≤ blocks_of shape v.longest * shape.block =
     (let c = blocks_ceil shape v.longest sound.shape in let h = c.holds in
-    let x = f.since_pushed in let y = f.since_most in let z = b.k in omega (arith, h, x, y, z)) in
+    let x = f.sums.since_pushed in let y = f.sums.since_most in let z = b.k in omega (arith, h, x, y, z)) in
     let x : MayOwe 0 (owing_all s w) s w = record {
       counts = since_call (counts_of v);
       debt = 0;
@@ -206,9 +207,9 @@ may_begin {s = s} {v = v} sound is told =
       few = few;
       none_taken = refl;
       none_settled = refl;
-      books = books_less (since_call (counts_of v)) (count_moves 0 (since_call (counts_of v))) 0
-          (shape.block * 0) refl refl refl refl refl (omega arith) (omega arith)
-          (books_anew (omega arith) b);
+      books = (books_less (since_call (counts_of v)) (count_moves 0 (since_call (counts_of v))) 0
+          (shape.block * 0) refl refl refl refl refl refl (omega arith) (omega arith)
+          (books_anew (omega arith) b)).0;
       left = omega arith;
       most =
           let all = owing_most s w v.level n.level_some low levels.most held in

@@ -34,6 +34,8 @@ fresh_trunk root buffer answers spent = record {
   since = 0;
   settled = 0;
   resets = 0;
+  adopted = 0;
+  counted = 0;
   spent = spent;
   steps = 0;
 }

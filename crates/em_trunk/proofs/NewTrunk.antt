@@ -13,7 +13,7 @@ use Rattle.em_tree_model.specs.Ranges.{IsTree, least_record}
 use Rattle.em_tree_model.specs.Tree.{Tree}
 use Rattle.em_tree_model.specs.Tree.Tree.{end, entry}
 use Rattle.em_tree_blocks.specs.Reading.{IsTreeAt, tree_at}
-use Rattle.em_tree_cost.specs.Books.{KeepsBooks, TreeCounts, count_moves, no_counts}
+use Rattle.em_tree_cost.specs.Books.{Balanced, TreeCounts, count_moves, no_counts}
 use Rattle.em_tree_cost.specs.Counters.{fresh_sums}
 use Rattle.em_tree_cost.specs.Outline.{sums_of}
 use Rattle.em_tree_cost.proofs.Books.{books_new}
@@ -75,10 +75,10 @@ fresh_lows = (below_itself least_record, tt, tt)
 
 -- and its books are kept over the moves that made it.
 pub fresh_books : {shape : ShapeNumbers} (half m : ℕ) → IsShape shape → m ≤ 4
-    → KeepsBooks shape (count_moves m no_counts) 0 (sums_of half 1 (outline_of fresh_root) 0 0)
+    → Balanced shape (count_moves m no_counts) (sums_of half 1 (outline_of fresh_root) 0 0)
 fresh_books {shape = shape} half m is few =
     let none : 0 - half + 0 ≡ 0 = omega arith in
-    let P : ℕ → Type 0 = λ x. KeepsBooks shape (count_moves m no_counts) 0 (record fresh_sums { excess = x })
+    let P : ℕ → Type 0 = λ x. Balanced shape (count_moves m no_counts) (record fresh_sums { excess = x })
     in
     subst P (sym none) (books_new shape m is few)
 
@@ -128,6 +128,8 @@ module _ (key : Record → Record) (IsOp IsKept : Record → Type 0) {s t : RigS
       let since : v.since ≡ 0 = ap (λ x. x.since) c in
       let settled : v.settled ≡ 0 = ap (λ x. x.y) c in
       let resets : v.resets ≡ 0 = ap (λ x. x.z) c in
+      let adopted : v.adopted ≡ 0 = ap (λ x. x.adopted) c in
+      let counted : v.counted ≡ 0 = ap (λ x. x.counted) c in
       record {
         frames = record {
           buffer = f.buffer.frame.len_is;
@@ -142,6 +144,8 @@ module _ (key : Record → Record) (IsOp IsKept : Record → Type 0) {s t : RigS
           pushed_most = omega (arith, pushed);
           settled_most = omega (arith, settled);
           resets_most = omega (arith, resets);
+          adopted_most = omega (arith, adopted);
+          counted_most = omega (arith, adopted, counted);
           spent_most = omega (arith, f.spent);
           root_below = in_use_below t v.root f.session.sound f.in_use;
         };
@@ -150,21 +154,21 @@ module _ (key : Record → Record) (IsOp IsKept : Record → Type 0) {s t : RigS
         stands = λ z. fresh_stands (told_first z);
       }
 
-  fresh_kept : IsTrue s.device.told → KeepsBooks t.pool.shape (counts_of v) 0 (sums_in t v)
+  fresh_kept : IsTrue s.device.told → Balanced t.pool.shape (counts_of v) (sums_in t v)
   fresh_kept z =
       let is = f.session.sound.shape in
       let half = 2 * wide_of t.pool.shape * t.pool.shape.block in
       let spent : v.spent ≤ 4 = (let a = f.spent in let b = f.moves in omega (arith, a, b)) in
       let base = fresh_books half v.spent is spent in
-      let A : TreeCounts → Type 0 = λ c. KeepsBooks t.pool.shape c 0
+      let A : TreeCounts → Type 0 = λ c. Balanced t.pool.shape c
       (sums_of half 1 (outline_of fresh_root) 0 0) in
-      let B : ℕ → Type 0 = λ n. KeepsBooks t.pool.shape (counts_of v) 0
+      let B : ℕ → Type 0 = λ n. Balanced t.pool.shape (counts_of v)
       (sums_of half n (outline_of fresh_root) 0 0) in
-      let C : Tree → Type 0 = λ x. KeepsBooks t.pool.shape (counts_of v) 0
+      let C : Tree → Type 0 = λ x. Balanced t.pool.shape (counts_of v)
       (sums_of half v.level (outline_of x) 0 0) in
-      let D : ℕ → Type 0 = λ n. KeepsBooks t.pool.shape (counts_of v) 0
+      let D : ℕ → Type 0 = λ n. Balanced t.pool.shape (counts_of v)
       (sums_of half v.level (outline_of (root_of t v)) n 0) in
-      let E : ℕ → Type 0 = λ n. KeepsBooks t.pool.shape (counts_of v) 0
+      let E : ℕ → Type 0 = λ n. Balanced t.pool.shape (counts_of v)
       (sums_of half v.level (outline_of (root_of t v)) v.buffer.count n) in
       subst E (sym f.no_block) (subst D (sym f.none) (subst C (sym (fresh_read z))
       (subst B (sym f.level) (subst A (sym f.counts) base))))

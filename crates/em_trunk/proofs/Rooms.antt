@@ -20,7 +20,8 @@ use Rattle.em_tree_cost.specs.Books.{InCall, TreeCounts, count_moves}
 use Rattle.em_tree_cost.specs.Counters.{Counters, Sums}
 use Rattle.em_tree_cost.specs.Outline.{IsLevel, inner_of, leaves_of, node_of}
 use Rattle.em_tree_cost.specs.Shares.{levels_of, tree_room}
-use Rattle.em_tree_cost.proofs.Ceilings.{blocks_ceil, ceil_mono, ceil_most, ceiling_is}
+use Rattle.std.specs.Int.{div_ceil}
+use Rattle.em_tree_cost.proofs.Ceilings.{ceil_is, blocks_ceil, ceil_mono, ceil_most, ceiling_is}
 use Rattle.em_tree_cost.proofs.Heights.{root_levels}
 use Rattle.em_tree_cost.proofs.Held.{held_whole}
 use Rattle.em_tree_cost.proofs.Outlines.{inner_most}
@@ -39,14 +40,23 @@ use Rattle.em_trunk.proofs.HeldTrees.{tree_below}
 
 -- the numbers of counters, with no move made
 abbrev pub counted : Counters → TreeCounts
-counted cs = record { n = cs.n; k = cs.k; since = cs.since; spent = 0; z = cs.z; y = cs.y }
+counted cs = record {
+  n = cs.n;
+  k = cs.k;
+  since = cs.since;
+  spent = 0;
+  z = cs.z;
+  y = cs.y;
+  adopted = cs.adopted;
+  counted = 0;
+}
 
 -- Counters are books of a call in which p moves were made, if so many are owed.
 pub books_of : {shape : ShapeNumbers} {k r : ℕ} {t : Sums} (p : ℕ) → (h : HasCounters shape k r t)
     → InCall shape (count_moves p (counted h.counters)) (shape.block * p + 3 * t.root) 0 r t
 books_of {shape = shape} {t = t} p h =
     let cs = h.counters in
-    let left = h.fits.left_most in
+    let left = h.fits.sums.left_most in
     record {
       books = record {
         counters = cs;
@@ -55,7 +65,9 @@ books_of {shape = shape} {t = t} p h =
         since = refl;
         z = refl;
         y = refl;
+        adopted = refl;
         few = h.few;
+        few_adopted = h.few_adopted;
         paid = record {
           fits = h.fits;
           covers = record { covered = omega arith };
@@ -64,7 +76,7 @@ books_of {shape = shape} {t = t} p h =
       };
       taken = omega (arith, left);
       taken_since = omega arith;
-      splits_since = h.split;
+      parts = h.parts;
     }
 
 -- And such books have counters.
@@ -73,13 +85,15 @@ pub counters_of : {shape : ShapeNumbers} {c : TreeCounts} {more h r : ℕ} {t : 
 counters_of k same b =
     let x = b.books in
     let F : ℕ → Type 0 = λ n. n < 2 ^ 101 in
+    let G : ℕ → Type 0 = λ n. n ≤ 2 ^ 100 in
     record {
       counters = x.counters;
       k_is = x.k ∙ same;
       few = subst F (sym x.n) x.few;
+      few_adopted = subst G (sym x.adopted) x.few_adopted;
       fits = x.paid.fits;
       root = x.paid.root;
-      split = b.splits_since;
+      parts = b.parts;
     }
 
 -- Counters are there after what the books are kept over.
@@ -87,7 +101,7 @@ pub counters_on : {shape : ShapeNumbers} {k p m q d r : ℕ} {t u : Sums} → Ch
     → HasCounters shape k r t → HasCounters shape k r u
 counters_on {shape = shape} {k = k} {p = p} {r = r} {t = t} a h =
     let c = counted h.counters in
-    counters_of k h.k_is (a.books c (shape.block * p + 3 * t.root) 0 r h.k_is (books_of p h))
+    counters_of k h.k_is (a.books c (shape.block * p + 3 * t.root) 0 r h.k_is (books_of p h)).call
 
 -- the same by another shape and number that are equal
 pub counters_as : {shape : ShapeNumbers} {k r : ℕ} {t : Sums} (other : ShapeNumbers) (j : ℕ)
@@ -120,9 +134,10 @@ hold_any h =
         counters = c.counters;
         k_is = c.k_is;
         few = c.few;
+        few_adopted = c.few_adopted;
         fits = c.fits;
         root = c.root;
-        split = omega arith;
+        parts = omega arith;
       };
       answers = h.answers;
     }
@@ -180,16 +195,20 @@ module _ {key : Record → Record} {IsOp IsKept : Record → Type 0} {s : RigSta
       let root = root_levels is c.fits in
       let rows : suc l * leaves_of o ≤ L * leaves_of o =
       mul-le-mul_right (leaves_of o) (omega (arith, root, up)) in
-      let leaves = c.fits.leaves_some in
+      let leaves = c.fits.sums.leaves_some in
       let nodes : 1 + inner_of o ≤ L * leaves_of o = omega (arith, inner, rows, leaves) in
       let whole = held_whole P (2 * wide_of sh * sh.block) v.level v.buffer.count v.buffer.blocks below.count o
       below.held c.root in
-      let most = c.fits.k_most in
+      let most = c.fits.sums.k_most in
       let few = c.few in
-      let top : cs.k ≤ 2 ^ 103 = omega (arith, most, few) in
+      let adopted = c.few_adopted in
+      let top : cs.k ≤ 2 ^ 103 = omega (arith, most, few, adopted) in
       let rest = at_rest (1 + below.count + v.buffer.blocks) (1 + inner_of o) is c.fits top whole nodes in
+      let eighths : 8 * (1 + below.count + v.buffer.blocks)
+      ≤ 85 * blocks_of sh v.longest + 8 * (5 + 3 * levels_of sh v.longest) = rw (c.k_is) at rest in
+      let up8 = (ceil_is (85 * blocks_of sh v.longest) 8 (omega arith)).holds in
       let here : 1 + below.count + v.buffer.blocks
-      ≤ 7 * blocks_of sh v.longest + 5 + 3 * levels_of sh v.longest = rw (c.k_is) at rest in
+      ≤ div_ceil (85 * blocks_of sh v.longest) 8 + 5 + 3 * levels_of sh v.longest = omega (arith, eighths, up8) in
       let b = writer_blocks s v.buffer in
       let x = writer_blocks s v.answers in
       let t = tree_blocks v.level s v.root in
@@ -285,9 +304,13 @@ room_most shape k c x is few =
     let sum = ceiling_add c x P some in
     let whole = blocks_ceil shape k is in
     let holds = whole.holds in
-    let twice : q * shape.block ≤ q * (2 * P) = mul-le-mul_left q (omega (arith, low)) in
-    let fits : x ≤ 2 * q * P = omega (arith, few, holds, twice) in
-    let part = ceil_most (ceiling x P) P x (2 * q) (ceiling_is x P some) fits in
+    let y = div_ceil (9 * q) 8 in
+    let nine = ceil_is (9 * q) 8 (omega arith) in
+    let own = ceil_is (85 * q) 8 (omega arith) in
+    let eighths : q * (8 * shape.block) ≤ q * (9 * P) = mul-le-mul_left q (omega (arith, low)) in
+    let up : P * (9 * q) ≤ P * (y * 8) = mul-le-mul_left P nine.holds in
+    let fits : x ≤ y * P = omega (arith, few, holds, eighths, up) in
+    let part = ceil_most (ceiling x P) P x y (ceiling_is x P some) fits in
     let v = lev shape q in
     let m : 64 * v ≤ shape.frames * v = mul-le-mul_right v is.frames_low in
-    omega (arith, sum, part, m)
+    omega (arith, sum, part, m, nine.tight, own.tight)

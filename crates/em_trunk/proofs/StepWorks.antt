@@ -31,7 +31,7 @@ use Rattle.em_trunk.specs.declared.trunk.Trunk.{Trunk}
 use Rattle.em_trunk.proofs.Charges.{call_fewer, charges_known, charges_prepaid, charges_within}
 use Rattle.em_trunk.proofs.Continues.{continues_same}
 use Rattle.em_trunk.proofs.Stays.{TrunkReads, reads_same, running_stays}
-use Rattle.em_trunk.proofs.Steps.{steps_most}
+use Rattle.em_trunk.proofs.Steps.{adopted_few, steps_most}
 use Rattle.em_trunk.proofs.Waits.{waits_never}
 use Rattle.em_trunk.proofs.Rooms.{keeps_by, stops_by_peaks}
 use Rattle.em_tree_load.proofs.Peaks.{peaks_same}
@@ -65,9 +65,10 @@ steps_some {s = s} {v = v} p sound some h =
     let within = call_refused h.books sound.shape (refused_either (sums_in s v) (omega arith) h.may) in
     let z = h.none_taken in
     let y = h.none_settled in
-    let S : ℕ → Type 0 = λ x. c.spent + p ≤ tree_share s.pool.shape c.n c.k x c.y in
-    let share : c.spent + p ≤ tree_share s.pool.shape c.n c.k 0 c.y = subst S z within in
-    let most = steps_most s.pool.shape c.n c.k c.y sound.shape (omega (arith, h.few)) (omega (arith, y)) in
+    let S : ℕ → Type 0 = λ x. c.spent + p ≤ tree_share s.pool.shape (c.n + c.adopted) c.k x c.y in
+    let share : c.spent + p ≤ tree_share s.pool.shape (c.n + c.adopted) c.k 0 c.y = subst S z within in
+    let most = steps_most s.pool.shape c.n c.adopted c.k c.y sound.shape (adopted_few h.books.books) (omega (arith, h.few))
+    (omega (arith, y)) in
     let l = h.left in
     omega (arith, share, most, l, some)
 
@@ -77,17 +78,17 @@ pub steps_after : {key : Record → Record} {step : Option Record → Record →
     → HasSteps p s v → Works key step IsOp IsKept p q 0 n s t v w → HasSteps q t w
 steps_after {s = s} {t = t} {v = v} {w = w} p q n told h a =
     let c = h.counts in
-    let next = (a.paces told).books c h.owed h.handed h.split h.longest h.books in
+    let next = ((a.paces told).books c h.owed h.handed h.split h.longest h.books).call in
     let shape = a.session.touches.shape in
     let K : ShapeNumbers → Type 0 = λ x. InCall x (count_moves q (count_moves n c)) h.owed h.handed h.split
     (sums_in t w) in
     let M : ShapeNumbers → Type 0 = λ x. MayRefuse x c.k h.split h.owed 0 in
-    let L : ShapeNumbers → Type 0 = λ x. w.steps + (c.spent + n) ≡ step_allowance x c.n c.k in
+    let L : ShapeNumbers → Type 0 = λ x. w.steps + (c.spent + n) ≡ step_allowance x (c.n + c.k) c.k in
     let here = call_fewer (count_moves (n + q) c) (count_moves q (count_moves n c)) (h.owed + 0) h.owed
-    refl refl refl refl refl (omega arith) (omega arith) next in
+    refl refl refl refl refl refl (omega arith) (omega arith) next in
     let e = a.steps in
     let l = h.left in
-    let left : w.steps + (c.spent + n) ≡ step_allowance s.pool.shape c.n c.k = omega (arith, e, l) in
+    let left : w.steps + (c.spent + n) ≡ step_allowance s.pool.shape (c.n + c.k) c.k = omega (arith, e, l) in
     record {
       counts = count_moves n c;
       owed = h.owed;
@@ -126,6 +127,8 @@ running_steps k r =
         pushed_most = n.pushed_most;
         settled_most = n.settled_most;
         resets_most = n.resets_most;
+        adopted_most = n.adopted_most;
+        counted_most = n.counted_most;
         spent_most = n.spent_most;
         root_below = n.root_below;
       };
@@ -217,6 +220,8 @@ module _ {key : Record → Record} {IsOp IsKept : Record → Type 0} {s t : RigS
           settled = refl;
           resets = refl;
           spent = refl;
+          adopted = refl;
+          counted = refl;
         };
         steps = one;
         running = running_steps k r;
@@ -250,6 +255,8 @@ module _ {key : Record → Record} {IsOp IsKept : Record → Type 0} {s t : RigS
       settled = refl;
       resets = refl;
       spent = refl;
+      adopted = refl;
+      counted = refl;
     };
     pays = pays_more (pays_kept (trunk_unstored v) (let e = used.used in omega (arith, e)) g.touches.moves)
         (omega arith);

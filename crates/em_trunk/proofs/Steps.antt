@@ -5,6 +5,7 @@ use Rattle.std.proofs.Math.Nat.{mul-le-mul_left}
 use Rattle.std.proofs.lemmas.Nat.{le-div}
 use Rattle.em_record.specs.Cost.{blocks_of}
 use Rattle.em_record.specs.Shape.{ShapeNumbers, IsShape}
+use Rattle.em_record.proofs.Blocks.{blocks_rise}
 use Rattle.em_tree_cost.specs.Books.{KeepsBooks, TreeCounts}
 use Rattle.em_tree_cost.specs.Counters.{Sums}
 use Rattle.em_tree_cost.specs.Shares.{floors_of, tree_share}
@@ -17,13 +18,13 @@ abbrev pub since_call : TreeCounts → TreeCounts
 since_call c = record c { spent = 0; z = 0; y = 0 }
 
 -- The operations that were pushed pay for the root's buffer: so books can be opened anew with no
--- move made and no call settled.
+-- move made and no call settled. A tree's operations alone wait in it.
 pub books_anew : {shape : ShapeNumbers} {c : TreeCounts} {more : ℕ} {t : Sums} → t.root ≤ t.waiting
     → KeepsBooks shape c more t → KeepsBooks shape (since_call c) 0 t
 books_anew {shape = shape} {t = t} held b =
     let cs = b.counters in
     let f = b.paid.fits in
-    let few : 3 * t.root ≤ 3 * cs.n = omega (arith, f.all_pushed, held) in
+    let few : 3 * t.root ≤ 3 * cs.n = omega (arith, f.sums.loaded_most, held) in
     record {
       counters = record cs { z = 0; y = 0 };
       n = b.n;
@@ -31,31 +32,20 @@ books_anew {shape = shape} {t = t} held b =
       since = b.since;
       z = refl;
       y = refl;
+      adopted = b.adopted;
       few = b.few;
+      few_adopted = b.few_adopted;
       paid = record {
-        fits = record {
-          all_pushed = f.all_pushed;
-          since_pushed = f.since_pushed;
-          since_most = f.since_most;
-          k_most = f.k_most;
-          lowered_most = f.lowered_most;
-          loaded_most = f.loaded_most;
-          splits_most = f.splits_most;
-          splits_since_most = f.splits_since_most;
-          leaves_are = f.leaves_are;
-          leaves_some = f.leaves_some;
-          visits_most = f.visits_most;
-          left_most = f.left_most;
-          splits_need = f.splits_need;
-          left_need = f.left_need;
-          level_some = f.level_some;
-          level_most = f.level_most;
-          level_split = f.level_split;
-        };
+        fits = record { sums = omega (arith, f.sums); needs = f.needs; root = f.root };
         covers = record { covered = omega (arith, few) };
         root = b.paid.root;
       };
     }
+
+-- The records that a tree was adopted with are no more than k.
+pub adopted_few : {shape : ShapeNumbers} {c : TreeCounts} {more : ℕ} {t : Sums} → KeepsBooks shape c more t
+    → c.adopted ≤ c.k
+adopted_few b = omega (arith, b.paid.fits.sums.adopted_most, b.adopted, b.k)
 
 -- a block more than the whole ones
 part_at : (q B n : ℕ) → 0 < B → q * B < n + B → q ≤ n / B + 1
@@ -77,17 +67,18 @@ blocks_part shape n is = part_at (blocks_of shape n) shape.block n (omega (arith
     (blocks_ceil shape n is).tight
 
 -- The share of one call is within the steps that it is given.
-pub steps_most : (shape : ShapeNumbers) (n k y : ℕ) → IsShape shape → k ≤ 2 ^ 103 → y ≤ 1
-    → tree_share shape n k 0 y ≤ step_allowance shape n k
-steps_most shape n k y is few one =
-    let a = blocks_part shape n is in
+pub steps_most : (shape : ShapeNumbers) (n a k y : ℕ) → IsShape shape → a ≤ k → k ≤ 2 ^ 103 → y ≤ 1
+    → tree_share shape (n + a) k 0 y ≤ step_allowance shape (n + k) k
+steps_most shape n a k y is low few one =
+    let rise = blocks_rise shape (n + a) (n + k) is (omega (arith, low)) in
+    let p = blocks_part shape (n + k) is in
     let b = blocks_part shape k is in
     let lv = levels_most shape k is few in
-    let all = 160 * (blocks_of shape n + 1) + 64 * 0 + 64 * y * (blocks_of shape k + 1) in
-    let most = 160 * (n / shape.block + 2) + 64 * (k / shape.block + 2) in
+    let all = 160 * (blocks_of shape (n + a) + 1) + 64 * 0 + 64 * y * (blocks_of shape k + 1) in
+    let most = 160 * ((n + k) / shape.block + 2) + 64 * (k / shape.block + 2) in
     let settled : 64 * y * (blocks_of shape k + 1) ≤ 64 * (blocks_of shape k + 1) =
     settled_most y (blocks_of shape k + 1) one in
-    let within : all ≤ most = omega (arith, a, b, settled) in
+    let within : all ≤ most = omega (arith, rise, p, b, settled) in
     let floors : floors_of shape k ≤ 26 = omega (arith, lv) in
     let high : all * floors_of shape k ≤ all * 26 = mul-le-mul_left all floors in
     omega (arith, high, within)

@@ -100,6 +100,8 @@ lists_stay_by {s = s} {t = t} {v = v} i sound f h g x =
         pushed_most = n.pushed_most;
         settled_most = n.settled_most;
         resets_most = n.resets_most;
+        adopted_most = n.adopted_most;
+        counted_most = n.counted_most;
         spent_most = omega (arith, n.spent_most, h.moves);
         root_below = rw (h.blocks) n.root_below;
       };

@@ -107,9 +107,9 @@ none_from (entry low b c r) m lo hi e =
 pub none_unused : {key : Record → Record} {IsOp IsKept : Record → Type 0} {s : RigState} {v : Trunk}
     → IsTrunk key IsOp IsKept s v → v.longest ≡ 0 → IsTrue s.device.told → EachRead (NoneFrom 0) s v
 none_unused {s = s} {v = v} i unused told =
-    let b = i.books told in
-    let few = b.paid.fits.since_pushed in
-    let most = b.paid.fits.since_most in
+    let b = (i.books told).books in
+    let few = b.paid.fits.sums.since_pushed in
+    let most = b.paid.fits.sums.since_most in
     let k = b.k in
     none_from (root_of s v) v.level _ _ (omega (arith, few, most, k, unused))
 

@@ -28,6 +28,8 @@ numbers_then a b = record {
   settled = b.settled ∙ a.settled;
   resets = b.resets ∙ a.resets;
   spent = b.spent ∙ a.spent;
+  adopted = b.adopted ∙ a.adopted;
+  counted = b.counted ∙ a.counted;
 }
 
 -- the moves of two steps
@@ -144,7 +146,7 @@ module _ (key : Record → Record) (step : Option Record → Record → Step) (I
       frames = (goes_nothing s sound).frames;
       pays = pays_kept (trunk_unstored v) (omega arith) (omega arith);
       loses = loses_still (trunk_blocks s v) s s refl;
-      numbers = record { pushed = refl; longest = refl; since = refl; settled = refl; resets = refl; spent = refl };
+      numbers = record { pushed = refl; longest = refl; since = refl; settled = refl; resets = refl; spent = refl; adopted = refl; counted = refl };
       steps = omega arith;
       running = i;
       continues = λ told. continues_same key step IsOp IsKept (given_by s v) (model_of s v);

@@ -6,7 +6,7 @@ use Rattle.em_settle.specs.declared.step.Step.{Step}
 use Rattle.em_space.specs.Rig.{RigState}
 use Rattle.em_space.specs.declared.fault.EmFault.{EmFault}
 use Rattle.em_tree_cost.specs.Books.{KeepsBooks, TreeCounts, count_moves}
-use Rattle.em_tree_cost.specs.Paid.{settle_toll}
+use Rattle.em_tree_cost.specs.Paid.{settle_rest}
 use Rattle.em_trunk.specs.Events.{step_allowance}
 use Rattle.em_trunk.specs.Owing.{loads_owing, lowers_owing}
 use Rattle.em_trunk.specs.Trunk.{root_of, sums_in}
@@ -43,9 +43,9 @@ owing_all s v = owing_to v.level s v + s.pool.shape.block * (23 * (sums_in s v).
 abbrev pub settling_moves : RigState → Trunk → ℕ
 settling_moves s v = 10 * blocks_of s.pool.shape v.longest + (sums_in s v).leaves * (63 * deepest s v)
 
--- what such a call pays for by itself
+-- what such a call pays for by itself, beside the splits
 abbrev pub settling_toll : RigState → Trunk → ℕ
-settling_toll s v = settle_toll s.pool.shape v.longest
+settling_toll s v = settle_rest s.pool.shape v.longest
 
 -- The books of a running call that empties all buffers, in its steps. Those that were taken, and p more,
 -- are paid for, but for a debt. The call may owe `more` beside (moves times B).
@@ -57,7 +57,7 @@ pub record MayOwe (p more : ℕ) (s : RigState) (v : Trunk) : Type 0 where
   pub none_taken : counts.z ≡ 0
   pub none_settled : counts.y ≡ 0
   pub books : KeepsBooks s.pool.shape (count_moves p counts) (s.pool.shape.block * debt) (sums_in s v)
-  pub left : v.steps + counts.spent ≡ step_allowance s.pool.shape counts.n counts.k
+  pub left : v.steps + counts.spent ≡ step_allowance s.pool.shape (counts.n + counts.k) counts.k
   pub most : s.pool.shape.block * debt + more ≤ s.pool.shape.block * settling_moves s v
 
 -- A step owes this many moves, and what may be owed fell by as much. Only leaves that came add to it.

@@ -7,7 +7,8 @@ use Rattle.em_settle.specs.declared.step.Step.{Step}
 use Rattle.em_tree_model.specs.Meaning.{Advances, Represents}
 use Rattle.em_tree_model.specs.Tree.{Tree}
 use Rattle.em_tree_cost.specs.Books.{InCall, TreeCounts, count_moves}
-use Rattle.em_tree_cost.specs.Counters.{Sums}
+use Rattle.em_tree_cost.specs.Counters.{Counters, Sums}
+use Rattle.em_tree_cost.specs.Effects.{OnlySplits}
 use Rattle.em_tree_cost.specs.Paid.{toll_of}
 use Rattle.em_tree_cost.specs.Parts.{thin_debt}
 use Rattle.em_tree_cost.specs.Shares.{levels_of}
@@ -25,12 +26,24 @@ pub record Continues (key : Record → Record) (step : Option Record → Record 
       → Represents key step IsOp IsKept contents answers given t
       → (q : Record) → Advances key step t u [] q
 
+-- For each leaf that came w · B operations less wait.
+pub record Pairs (shape : ShapeNumbers) (t u : Sums) : Type 0 where
+  pub most : wide_of shape * shape.block * u.leaves + u.waiting
+      ≤ wide_of shape * shape.block * t.leaves + t.waiting
+
+-- What a part of a call leaves of the books, which counted so before it: it took nothing, and if it owes nothing (d is 0), a
+-- full load paid for each leaf that came.
+pub record Charged (shape : ShapeNumbers) (c : TreeCounts) (more h r d : ℕ) (cs : Counters) (t u : Sums) : Type 0 where
+  pub call : InCall shape c more h r u
+  pub only : OnlySplits cs call.books.counters
+  pub pairs : d ≡ 0 → Pairs shape t u
+
 -- The books of a tree over m moves, of which p were paid for in advance; q are paid for afterwards,
 -- and d more is owed. Its k is the most operations since a reset: the number stays inside a call. So does
 -- what the call handed out before, h records, and what is known of splits (`InCall`).
 pub record Charges (shape : ShapeNumbers) (k p m q d : ℕ) (t u : Sums) : Type 0 where
-  pub books : (c : TreeCounts) (more h r : ℕ) → c.k ≡ k → InCall shape (count_moves p c) more h r t
-      → InCall shape (count_moves (m + q) c) (more + d) h r u
+  pub books : (c : TreeCounts) (more h r : ℕ) → c.k ≡ k → (b : InCall shape (count_moves p c) more h r t)
+      → Charged shape (count_moves (m + q) c) (more + d) h r d b.books.counters t u
 
 -- The moves of a tree that is given up are paid for but for d: there are sums that it would have
 -- had.
@@ -50,7 +63,7 @@ pub record MayRefuse (shape : ShapeNumbers) (k split owed held : ℕ) : Type 0 w
   pub either : (owed ≤ 18 * held + toll_of shape k)
       ⊎ ((1 ≤ split) × (owed ≤ shape.block * path_most shape k))
 
--- the steps that a call may take after n operations, k of them since the contents were empty: no
+-- the steps that a call may take after n operations and adopted records, k of them since the contents were empty: no
 -- fewer than the moves that it can be charged for
 abbrev pub step_allowance : ShapeNumbers → ℕ → ℕ → ℕ
 step_allowance shape n k = 26 * (160 * (n / shape.block + 2) + 64 * (k / shape.block + 2))

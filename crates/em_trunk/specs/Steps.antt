@@ -21,7 +21,7 @@ pub record HasSteps (p : ℕ) (s : RigState) (v : Trunk) : Type 0 where
   pub none_settled : counts.y ≡ 0
   pub books : InCall s.pool.shape (count_moves p counts) owed handed split (sums_in s v)
   pub may : MayRefuse s.pool.shape counts.k split owed 0
-  pub left : v.steps + counts.spent ≡ step_allowance s.pool.shape counts.n counts.k
+  pub left : v.steps + counts.spent ≡ step_allowance s.pool.shape (counts.n + counts.k) counts.k
 
 -- One of the call's steps was taken.
 pub record TakesStep (v w : Trunk) : Type 0 where

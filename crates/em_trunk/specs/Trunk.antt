@@ -11,7 +11,7 @@ use Rattle.em_tree_model.specs.Ranges.{IsTree, least_record}
 use Rattle.em_tree_model.specs.Tree.{Tree}
 use Rattle.em_tree_model.specs.Tree.Tree.{end, entry}
 use Rattle.em_tree_blocks.specs.Reading.{IsTreeAt, tree_at, tree_blocks}
-use Rattle.em_tree_cost.specs.Books.{KeepsBooks, TreeCounts}
+use Rattle.em_tree_cost.specs.Books.{Balanced, TreeCounts}
 use Rattle.em_tree_cost.specs.Counters.{Sums}
 use Rattle.em_tree_cost.specs.Outline.{sums_of}
 use Rattle.em_tree_outline.specs.Outline.{outline_of}
@@ -44,7 +44,7 @@ trunk_blocks s v =
 abbrev pub trunk_unstored : Trunk → ℕ
 trunk_unstored v = min v.buffer.blocks 1 + min v.answers.blocks 1
 
--- its numbers: operations pushed, moves made, resets, calls that settled all
+-- its numbers: operations pushed, moves made, resets, calls that settled all, records that it was adopted with
 abbrev pub counts_of : Trunk → TreeCounts
 counts_of v = record {
   n = v.pushed;
@@ -53,6 +53,8 @@ counts_of v = record {
   spent = v.spent;
   z = v.resets;
   y = v.settled;
+  adopted = v.adopted;
+  counted = v.counted;
 }
 
 -- the operations of a full buffer: f · B
@@ -71,7 +73,7 @@ pub record TrunkHasFrames (s : RigState) (v : Trunk) : Type 0 where
   pub out : s.pool.free + 2 ≤ singles_of s.pool.shape
 
 -- Its numbers are in their ranges, over any device. `longest` is at most 2 ^ 100 above `pushed`; over a device that
--- tells the books say that it is at most `pushed`.
+-- tells the books say that it is at most `pushed` and `adopted`.
 pub record AreTrunkNumbers (s : RigState) (v : Trunk) : Type 0 where
   pub level_some : 1 ≤ v.level
   pub level_most : v.level ≤ 24
@@ -80,6 +82,8 @@ pub record AreTrunkNumbers (s : RigState) (v : Trunk) : Type 0 where
   pub pushed_most : v.pushed ≤ 2 ^ 100
   pub settled_most : v.settled ≤ 2 ^ 100
   pub resets_most : v.resets ≤ 2 ^ 100
+  pub adopted_most : v.adopted ≤ 2 ^ 64
+  pub counted_most : v.counted ≤ v.adopted
   pub spent_most : v.spent ≤ s.moves
   pub root_below : v.root < s.blocks
 
@@ -120,4 +124,4 @@ pub record IsTrunk (key : Record → Record) (IsOp IsKept : Record → Type 0) (
   pub blocks : v.buffer.blocks ≤ v.buffer.count
   pub thin : IsTrue s.device.told
       → EachEntry (IsThin (full_limit s.pool.shape)) v.level least_record None (root_of s v)
-  pub books : IsTrue s.device.told → KeepsBooks s.pool.shape (counts_of v) 0 (sums_in s v)
+  pub books : IsTrue s.device.told → Balanced s.pool.shape (counts_of v) (sums_in s v)

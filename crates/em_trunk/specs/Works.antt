@@ -24,6 +24,8 @@ pub record SameNumbers (v w : Trunk) : Type 0 where
   pub settled : w.settled ≡ v.settled
   pub resets : w.resets ≡ v.resets
   pub spent : w.spent ≡ v.spent
+  pub adopted : w.adopted ≡ v.adopted
+  pub counted : w.counted ≡ v.counted
 
 -- A call was full only if an operation waited, over a device that tells.
 abbrev pub FullIfWaits : RigState → Trunk → EmFault → Type 0

@@ -5,7 +5,7 @@ ghost use Rattle.em_record.specs.Shape.{IsShape};
 ghost use Rattle.em_space.specs.Rig.{Sound};
 ghost use Rattle.em_space.specs.Seen.{seen};
 ghost use Rattle.em_chain.specs.Writer.{IsWriter};
-ghost use Rattle.em_trunk.specs.Counting.{counted_moves, counted_push, counted_reset, counted_settling, with_steps};
+ghost use Rattle.em_trunk.specs.Counting.{counted_all, counted_moves, counted_push, counted_reset, counted_settling, with_steps};
 ghost use Rattle.em_trunk.specs.Lists.{TakesAll, TakesAnswers, GivesAnswers, LeavesTrunk};
 ghost use Rattle.em_trunk.specs.Steps.{StepsTo};
 ghost use Rattle.em_trunk.specs.Planting.{MakesFresh};
@@ -31,14 +31,18 @@ pub struct Trunk {
     pub answers: Writer,
     /// Operations pushed.
     pub pushed: u128,
-    /// The most of them between two resets, or since the last one.
+    /// The most of them between two resets, or since the last one. The records that the tree was adopted with count too.
     pub longest: u128,
-    /// The number of them since the last reset.
+    /// The number of these since the last reset.
     pub since: u128,
     /// Calls in which all buffers were emptied.
     pub settled: u128,
     /// Resets: calls that took out all that there was.
     pub resets: u128,
+    /// The records that the tree was adopted with.
+    pub adopted: u64,
+    /// As many of them as the share of its moves counts: none before the first call that takes records out, and then all.
+    pub counted: u64,
     /// Moves that were made in its calls, but for those of `take_answers`: at most one each.
     pub spent: u128,
     /// Steps that the running call may still take.
@@ -68,6 +72,8 @@ impl Trunk {
             since: 0,
             settled: 0,
             resets: 0,
+            adopted: 0,
+            counted: 0,
             spent,
             steps: 0,
         })
@@ -89,6 +95,8 @@ impl Trunk {
             since: _,
             settled: _,
             resets: _,
+            adopted: _,
+            counted: _,
             spent: _,
             steps: _,
         } = self;
@@ -113,6 +121,8 @@ impl Trunk {
             since: _,
             settled: _,
             resets: _,
+            adopted: _,
+            counted: _,
             spent: _,
             steps: _,
         } = self;
@@ -146,6 +156,17 @@ impl Trunk {
         self.allow_steps(shape);
     }
 
+    /// Counts a call that takes records out, and gives it its steps.
+    pub fn count_all(&mut self, shape: &Shape)
+        requires shape { IsShape shape.now }
+        requires pushed { self.old.pushed ≤ 2 ^ 100 }
+        requires longest { self.old.longest ≤ 2 ^ 101 }
+        ensures { self.new ≡ counted_all shape.now self.old }
+    {
+        self.counted = self.adopted;
+        self.allow_steps(shape);
+    }
+
     /// Counts a reset: nothing is left in the tree.
     pub fn count_reset(&mut self)
         requires room { self.old.resets < 2 ^ 100 }
@@ -173,7 +194,7 @@ impl Trunk {
         ensures { self.new ≡ with_steps shape.now self.old }
     {
         let block = shape.block();
-        let pushed = 160 * (whole_blocks(self.pushed, block) + 2);
+        let pushed = 160 * (whole_blocks(self.pushed + self.longest, block) + 2);
         let longest = 64 * (whole_blocks(self.longest, block) + 2);
         self.steps = (MOST_LEVELS as u128 + 2) * (pushed + longest);
     }

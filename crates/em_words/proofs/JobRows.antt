@@ -5,7 +5,7 @@ use Rattle.em_words.specs.declared.job.Origin.{Origin}
 use Rattle.em_words.specs.declared.job.Origin.TheVariants.{Files, Made}
 use Rattle.em_words.specs.declared.job.Task.{Task}
 use Rattle.em_words.specs.declared.job.Task.TheVariants.{Answer, Eval}
-use Rattle.em_lines.specs.declared.text.FileKind.TheVariants.{Map, Queue, Stab}
+use Rattle.em_lines.specs.declared.text.FileKind.TheVariants.{Map, Queue, Stab, Dump}
 use Rattle.em_settle.specs.declared.combine.Combine.{Combine}
 use Rattle.em_settle.specs.declared.combine.Combine.TheVariants.{Sum, Max, Min, Xor}
 use Rattle.em_ends.specs.declared.status.Usage.{Usage}
@@ -254,6 +254,46 @@ no_early : map job_of (
     ∷ refused UnknownOption 1 ∷ refused UnknownOption 1 ∷ []
 no_early = refl
 
+-- the job of `dump` by this combiner, where the operand is the word of this number
+abbrev dumped : Combine → ℕ → Result Job Usage
+dumped combine = job_of_task (Answer Dump combine false) 1024 256 1048576 false
+
+-- words after `dump`, and what they give
+abbrev Dumps : List Row → Type 0
+Dumps rows = map (λ (row : Row). job_of (codes "dump" ∷ row.0)) rows ≡ map (λ (row : Row). row.1) rows
+
+-- a dump: by each combiner and with the options of every command, of which those of other commands are unknown; and its operand
+dumps : Dumps (
+    (codes "a" ∷ [], dumped Sum 1)
+    ∷ (codes "--combine=sum" ∷ codes "a" ∷ [], dumped Sum 2)
+    ∷ (codes "--combine=max" ∷ codes "a" ∷ [], dumped Max 2)
+    ∷ (codes "--combine=min" ∷ codes "a" ∷ [], dumped Min 2)
+    ∷ (codes "--combine=xor" ∷ codes "a" ∷ [], dumped Xor 2)
+    ∷ (
+      codes "--block=128" ∷ codes "--combine=max" ∷ codes "--stats" ∷ codes "a" ∷ [],
+      job_of_task (Answer Dump Max false) 128 64 1048576 true 4,
+    )
+    ∷ (codes "--blocks=7" ∷ codes "--frames=64" ∷ codes "a" ∷ [], job_of_task (Answer Dump Sum false) 1024 64 7 false 3)
+    ∷ (codes "--combine=avg" ∷ codes "a" ∷ [], refused BadValue 1)
+    ∷ (codes "--combine" ∷ codes "a" ∷ [], refused BadValue 1)
+    ∷ (codes "--combine=max" ∷ codes "--combine=max" ∷ codes "a" ∷ [], refused RepeatedOption 2)
+    ∷ (codes "--early" ∷ codes "a" ∷ [], refused UnknownOption 1)
+    ∷ (codes "--combine=max" ∷ codes "--early" ∷ codes "a" ∷ [], refused UnknownOption 2)
+    ∷ (codes "--early=1" ∷ codes "a" ∷ [], refused UnknownOption 1)
+    ∷ (codes "--wide" ∷ codes "a" ∷ [], refused UnknownOption 1)
+    ∷ (codes "--uninit=1" ∷ codes "a" ∷ [], refused UnknownOption 1)
+    ∷ ([], refused MissingOperand 1)
+    ∷ (codes "--stats" ∷ [], refused MissingOperand 2)
+    ∷ (codes "a" ∷ codes "b" ∷ [], refused ExtraOperand 2)
+    ∷ (codes "a" ∷ codes "--stats" ∷ [], refused ExtraOperand 2)
+    ∷ (codes "--frames=60" ∷ codes "a" ∷ [], refused FramesRange 1)
+    ∷ (codes "--blocks=0" ∷ codes "a" ∷ [], refused BlocksRange 1)
+    ∷ [])
+dumps = refl
+
+another_dump : job_of (codes "dumps" ∷ codes "a" ∷ []) ≡ refused UnknownCommand 0
+another_dump = refl
+
 -- Made texts.
 
 -- words after `gen`, and the job that they name
@@ -290,6 +330,8 @@ jobs_refused : MakesJobs (
     ∷ (codes "map" ∷ codes "1" ∷ codes "8" ∷ codes "9" ∷ [], refused ExtraOperand 4)
     ∷ (codes "tree" ∷ codes "1" ∷ codes "8" ∷ [], refused UnknownKind 1)
     ∷ (codes "gen" ∷ codes "x" ∷ codes "0" ∷ [], refused UnknownKind 1)
+    ∷ (codes "dump" ∷ codes "1" ∷ codes "2" ∷ [], refused UnknownKind 1)
+    ∷ (codes "--combine=sum" ∷ codes "dump" ∷ codes "1" ∷ codes "2" ∷ [], refused UnknownOption 1)
     ∷ (codes "map" ∷ codes "x" ∷ codes "0" ∷ [], refused BadValue 2)
     ∷ (codes "map" ∷ [] ∷ codes "8" ∷ [], refused BadValue 2)
     ∷ (codes "map" ∷ codes "18446744073709551616" ∷ codes "8" ∷ [], refused BadValue 2)

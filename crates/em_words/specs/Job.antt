@@ -13,7 +13,7 @@ use Rattle.em_words.specs.declared.job.Task.{Task}
 use Rattle.em_words.specs.declared.job.Task.TheVariants.{Answer, Eval}
 use Rattle.em_words.specs.declared.job.Verb.{Verb}
 use Rattle.em_words.specs.declared.job.Verb.TheVariants.{Over, Generate}
-use Rattle.em_lines.specs.declared.text.FileKind.TheVariants.{Map, Queue, Stab}
+use Rattle.em_lines.specs.declared.text.FileKind.TheVariants.{Map, Queue, Stab, Dump}
 use Rattle.em_settle.specs.declared.combine.Combine.TheVariants.{Sum}
 use Rattle.em_ends.specs.declared.status.Usage.{Usage}
 use Rattle.em_ends.specs.declared.status.UsageKind.{UsageKind}
@@ -98,19 +98,25 @@ abbrev pub task_name : Task → List ℕ
 task_name (Answer Map combine early) = codes "map"
 task_name (Answer Queue combine early) = codes "queue"
 task_name (Answer Stab combine early) = codes "stab"
+task_name (Answer Dump combine early) = codes "dump"
 task_name (Eval uninit wide) = codes "eval"
 
 -- the word names this task
 abbrev pub is_named : Task → List ℕ → Bool
 is_named task word = bytes_eq word (task_name task)
 
--- the task of a command, from the command's word, before its options are read
-abbrev pub task_of : List ℕ → Option Task
-task_of word =
+-- the task of a word of those for which `gen` makes texts, by no option of its own
+abbrev pub made_task_of : List ℕ → Option Task
+made_task_of word =
     if is_named (Answer Map Sum false) word then Some (Answer Map Sum false)
     else (if is_named (Answer Queue Sum false) word then Some (Answer Queue Sum false)
     else (if is_named (Answer Stab Sum false) word then Some (Answer Stab Sum false)
     else (if is_named (Eval None false) word then Some (Eval None false) else None)))
+
+-- the task of a command over files, from the command's word, before its options are read: one of these or a dump
+abbrev pub task_of : List ℕ → Option Task
+task_of word =
+    if is_named (Answer Dump Sum false) word then Some (Answer Dump Sum false) else made_task_of word
 
 -- a bit that a number says
 abbrev pub bit_said : ℕ → Option Bool
@@ -159,9 +165,9 @@ abbrev pub count_within : ℕ → ℕ → Result ℕ Usage
 count_within word count =
     if is_within 1 (2 ^ 30) count then Ok count else refused CountRange word
 
--- the task that the operand of this number names
+-- the task that the operand of this number names, of those for which texts are made
 abbrev pub task_at : List (List ℕ) → ℕ → Result Task Usage
-task_at words word = said_or UnknownKind word (task_of (name_at words word))
+task_at words word = said_or UnknownKind word (made_task_of (name_at words word))
 
 -- the number that the operand of this number spells
 abbrev pub number_at : List (List ℕ) → ℕ → Result ℕ Usage

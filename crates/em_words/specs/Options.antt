@@ -7,7 +7,7 @@ use Rattle.em_ends.specs.declared.status.Usage.{Usage}
 use Rattle.em_ends.specs.declared.status.UsageKind.{UsageKind}
 use Rattle.em_ends.specs.declared.status.UsageKind.TheVariants.{UnknownOption, RepeatedOption, BadValue}
 use Rattle.em_lines.specs.CommandLine.{number_of}
-use Rattle.em_lines.specs.declared.text.FileKind.TheVariants.{Map}
+use Rattle.em_lines.specs.declared.text.FileKind.TheVariants.{Map, Dump}
 use Rattle.em_settle.specs.declared.combine.Combine.{Combine}
 use Rattle.em_settle.specs.declared.combine.Combine.TheVariants.{Sum, Max, Min, Xor}
 use Rattle.em_words.specs.declared.job.Task.TheVariants.{Answer, Eval}
@@ -43,9 +43,10 @@ abbrev pub option_names : List (List ℕ)
 option_names =
     codes "--block" ∷ codes "--frames" ∷ codes "--blocks" ∷ codes "--stats" ∷ []
 
--- the names of those that a command has besides: one that answers a map file, or evaluates a circuit of its files
+-- the names of those that a command has besides: one that answers or dumps a map file, or evaluates a circuit of its files
 abbrev pub own_names : Verb → List (List ℕ)
 own_names (Over (Answer Map combine early)) = codes "--combine" ∷ codes "--early" ∷ []
+own_names (Over (Answer Dump combine early)) = codes "--combine" ∷ []
 own_names (Over (Eval uninit wide)) = codes "--uninit" ∷ codes "--wide" ∷ []
 own_names other = []
 

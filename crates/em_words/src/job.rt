@@ -1,5 +1,5 @@
 ghost use Rattle.std.specs.Prelude.{◌≡◌, ◌+◌, ◌-◌, ◌<◌, ◌≤◌, ◌^◌, false, length, IfOk};
-ghost use Rattle.em_words.specs.Job.{texts_of, job_of, task_name, task_of, blocks_with, count_at, count_within, default_frames, job_by, job_with, made_job, name_at, number_at, operand_count, operands_by, operands_of, operands_wanted, shape_with, task_at, task_with, uninit_with, verb_of, IsCount, IsJob, IsOrigin};
+ghost use Rattle.em_words.specs.Job.{texts_of, job_of, task_name, task_of, made_task_of, blocks_with, count_at, count_within, default_frames, job_by, job_with, made_job, name_at, number_at, operand_count, operands_by, operands_of, operands_wanted, shape_with, task_at, task_with, uninit_with, verb_of, IsCount, IsJob, IsOrigin};
 
 use crate::option::{
     BLOCK, BLOCKS, EARLY, FRAMES, STATS, UNINIT, WIDE, combine_with, has_option, number_or,
@@ -14,7 +14,7 @@ use em_settle::Combine;
 #[derive(Clone, Copy, Debug, PartialEq, Eq, Drop)]
 pub enum Task {
     /// A file of commands is answered. The adds of a map file are joined by `combine`, with `early` each run of them also
-    /// before it enters the structure that answers them.
+    /// before it enters the structure that answers them. A dump is never early.
     Answer {
         kind: FileKind,
         combine: Combine,
@@ -43,7 +43,7 @@ pub enum Origin {
 pub enum Verb {
     /// A task over files.
     Over(Task),
-    /// A task over made texts, which the first operand names.
+    /// A task over made texts, which the first operand names. None is a dump.
     Generate,
 }
 
@@ -96,6 +96,10 @@ pub fn task_name(task: Task) -> &'static [u8]
             kind: FileKind::Stab,
             ..
         } => b"stab",
+        Task::Answer {
+            kind: FileKind::Dump,
+            ..
+        } => b"dump",
         Task::Eval { .. } => b"eval",
     }
 }
@@ -111,9 +115,9 @@ fn answering(kind: FileKind) -> Task
     }
 }
 
-/// The task of a command, before its options are read.
-fn task_of(word: &str) -> Option<Task>
-    ensures { result ≡ task_of word.now }
+/// The task of a word of those for which `gen` makes texts, by no option of its own.
+fn made_task_of(word: &str) -> Option<Task>
+    ensures { result ≡ made_task_of word.now }
 {
     let word = word.as_bytes();
     if word == task_name(answering(FileKind::Map)) {
@@ -127,6 +131,16 @@ fn task_of(word: &str) -> Option<Task>
     } else {
         None
     }
+}
+
+/// The task of a command over files, before its options are read.
+fn task_of(word: &str) -> Option<Task>
+    ensures { result ≡ task_of word.now }
+{
+    if word.as_bytes() == task_name(answering(FileKind::Dump)) {
+        return Some(answering(FileKind::Dump));
+    }
+    made_task_of(word)
 }
 
 /// What the word of a command asks for.
@@ -270,11 +284,11 @@ pub fn name_at(words: &[String], number: u64) -> &str
     words[number as usize].as_str()
 }
 
-/// The task that the word of this number names.
+/// The task that the word of this number names, of those for which `gen` makes texts.
 fn task_at(words: &[String], word: u64) -> Result<Task, Usage>
     ensures { result ≡ task_at (texts_of words.now) word }
 {
-    match task_of(name_at(words, word)) {
+    match made_task_of(name_at(words, word)) {
         Some(task) => Ok(task),
         None => Err(Usage {
             kind: UsageKind::UnknownKind,

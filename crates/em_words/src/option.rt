@@ -110,6 +110,12 @@ fn is_own(verb: Verb, name: &[u8]) -> bool
                 ..
             },
         ) => name == COMBINE || name == EARLY,
+        Verb::Over(
+            Task::Answer {
+                kind: FileKind::Dump,
+                ..
+            },
+        ) => name == COMBINE,
         _ => false,
     }
 }

@@ -3,7 +3,7 @@ pub const VERSION: &str = "emtool 0.1.0\n";
 
 /// What `emtool --help` prints.
 pub const HELP: &str = "\
-usage: emtool map|queue|stab [options] FILE
+usage: emtool map|queue|stab|dump [options] FILE
        emtool eval [options] CIRCUIT STIMULUS
        emtool gen [options] map|queue|stab|eval START COUNT
        emtool --help | --version
@@ -25,6 +25,10 @@ Commands:
                 intervals before it that hold the point, counted from 0, or `-`; nothing where a line
                 is faulty
                 example: emtool stab spans.txt
+  dump FILE     lines as those of `map`; prints after the last one a line for each key that has a value
+                then: the key and the value, keys ascending; nothing for gets and syncs, and nothing
+                where a line is faulty
+                example: emtool dump prices.txt
   eval CIRCUIT STIMULUS
                 the circuit is in the ASCII or the binary form of AIGER, without a cycle of gates;
                 each line of STIMULUS is a step, with a `0` or `1` for each input; prints the outputs,
@@ -47,7 +51,7 @@ Options, before the operands:
   --blocks=N    blocks of the scratch device, 1 to 1099511627776; default 1048576
                 example: emtool map --blocks=1000 prices.txt
   --combine=NAME
-                at `map` alone: how an add joins two values: sum (modulo 2^64), max, min or xor;
+                at `map` and `dump`: how an add joins two values: sum (modulo 2^64), max, min or xor;
                 default sum
                 example: emtool map --combine=max prices.txt
   --early       at `map` alone: gathers commands in memory, --frames / 8 times --block or up to a sync, and

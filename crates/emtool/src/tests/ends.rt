@@ -56,12 +56,15 @@ fn ends_so(rt: &HostRuntime, row: &str) -> Result<bool, Fail> {
 
 /// A row has the words of a run, its file, what goes wrong, the exit code, what output and error stream took, and the moves of
 /// the device.
-const ROWS: [&str; 42] = [
+const ROWS: [&str; 48] = [
     // Call 2 of the shelf gives the end of line 1, which is faulty, and call 3 would fail: nothing is read after the first
     // fault.
     "map a|bogus/get 1/pop/stab 1/bogus/|shelf 3|2||emtool: malformed: Unknown at 1/|",
     "queue a|bogus/get 1/pop/stab 1/bogus/|shelf 3|2||emtool: malformed: Unknown at 1/|",
     "stab a|bogus/get 1/pop/stab 1/bogus/|shelf 3|2||emtool: malformed: Unknown at 1/|",
+    "dump a|bogus/get 1/pop/stab 1/bogus/|shelf 3|2||emtool: malformed: Unknown at 1/|",
+    // Call 9 gives the end of line 4, which stands after a get and a sync.
+    "dump a|put 1 2/get 1/sync/bogus/get 1/|shelf 10|2||emtool: malformed: Unknown at 4/|",
     // The message of the status, and the line of the statistics after it.
     "map --stats a|put 5 10/get 5/put 5 11/get 5/del 5/get 5/|device 0|5||\
      emtool: the scratch device failed/moves 0 peak 0/|",
@@ -69,6 +72,11 @@ const ROWS: [&str; 42] = [
      emtool: an input could not be read/moves 0 peak 0/|",
     "map --stats a|put 5 10/get 5/put 5 11/get 5/del 5/get 5/|output 0|4||\
      emtool: the output could not be written/moves 24 peak 37/|",
+    "dump --stats a|put 5 10/get 5/|device 0|5||emtool: the scratch device failed/moves 0 peak 0/|",
+    "dump --stats a|put 5 10/get 5/|shelf 0|3||emtool: an input could not be read/moves 0 peak 0/|",
+    "dump a|put 5 10/get 5/|output 0|4||emtool: the output could not be written/|",
+    // Of the pairs of 3,000 keys 4,095 bytes went out before call 1365: 700 lines, and 3 bytes of the next one.
+    "dump --block=128 --frames=64 a|3000*put # 1/|output 1365|4|700*# 1/701|emtool: the output could not be written/|",
     // Lines of 2 bytes leave when 4096 are there: in 1365 calls for 3 bytes each, and one for the last. The next call comes
     // for the other lines, at the end.
     "map --block=128 --frames=64 a|put 1 2/3000*get 1/|output 1365|4|2047*2/2|emtool: the output could not be written/|",
@@ -231,5 +239,6 @@ fn commands_are_answered_over_a_device_that_tells(rt: HostRuntime) -> Result<(),
     assert!(rt; is_answered(&rt, "map a", "put 5 10/get 5/get 6/", "10/-/")?);
     assert!(rt; is_answered(&rt, "queue a", "push 4 1/pop/pop/", "4 1/-/")?);
     assert!(rt; is_answered(&rt, "stab a", "iv 0 5/stab 5/stab 6/", "0/-/")?);
+    assert!(rt; is_answered(&rt, "dump a", "put 6 1/put 5 10/get 5/", "5 10/6 1/")?);
     Ok(())
 }

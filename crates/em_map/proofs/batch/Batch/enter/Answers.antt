@@ -48,7 +48,7 @@ pub returns-in_err-push_all-clause-room : goal.returns-in_err-push_all-clause-ro
 returns-in_err-push_all-clause-room g c = λ told.
     room_entered (rule_of c.args.self.now) c.args.load.now.items c.records.result.now
     (seen g.D.Device.state c.args.rig.now) (trunk_of c.args.self.now) c.requires.sound c.requires.can.is
-    (joins g ((goal.at.returns-in_err-push_all-clause-room g c).After-records)) told
+    c.requires.can.longest (joins g ((goal.at.returns-in_err-push_all-clause-room g c).After-records)) told
     (seen g.D.Device.state c.push_all.new.rig) (c.push_all.ensures.room told)
 
 pub returns-in_err-push_all-clause-over : goal.returns-in_err-push_all-clause-over
@@ -59,7 +59,7 @@ returns-in_err-push_all-clause-over g c =
     err_of _ _ (λ fault. IsTrue s.device.told
     → LoadOver ((trunk_of b).pushed + n) (answers_in (rule_of b) s (trunk_of b) + n) s (trunk_of b) fault)
     c.from_residual.ensures.1 (λ told. over_entered (rule_of b) c.args.load.now.items c.records.result.now s (trunk_of b)
-    c.requires.sound c.requires.can.is (joins g ((goal.at.returns-in_err-push_all-clause-over g c).After-records)) told _
+    c.requires.sound c.requires.can.is c.requires.can.longest (joins g ((goal.at.returns-in_err-push_all-clause-over g c).After-records)) told _
     (c.in_err-push_all.ensures.over told))
 
 pub returns-clause-enters : goal.returns-clause-enters
@@ -73,5 +73,5 @@ pub returns-clause-room : goal.returns-clause-room
 returns-clause-room g c = λ told.
     room_entered (rule_of c.args.self.now) c.args.load.now.items c.records.result.now
     (seen g.D.Device.state c.args.rig.now) (trunk_of c.args.self.now) c.requires.sound c.requires.can.is
-    (joins g ((goal.at.returns-clause-room g c).After-records)) told (seen g.D.Device.state c.push_all.new.rig)
+    c.requires.can.longest (joins g ((goal.at.returns-clause-room g c).After-records)) told (seen g.D.Device.state c.push_all.new.rig)
     (c.push_all.ensures.room told)
