@@ -1,7 +1,21 @@
-/* The baseline of map in bench/run: a std::map in memory. It prints what emtool map prints. */
+/* The baseline of map in bench/run: a std::map in memory. It prints what emtool map prints. With -DDUMP it passes over gets, walks
+   the map at the end, and prints what emtool dump prints. */
 #include <map>
 
 #include "baseline.h"
+
+#ifdef DUMP
+static const bool dumps = true;
+#else
+static const bool dumps = false;
+#endif
+
+static void print_pair(uint64_t key, uint64_t value) {
+    print_number(key);
+    print_byte(' ');
+    print_number(value);
+    print_byte('\n');
+}
 
 int main(int argc, char **argv) {
     struct text *text = opened_text(argc, argv);
@@ -15,7 +29,7 @@ int main(int argc, char **argv) {
             held[key] += command.operand[1];
         } else if (command.letter == 'd') {
             held.erase(key);
-        } else {
+        } else if (!dumps) {
             auto found = held.find(key);
             if (found == held.end())
                 print_byte('-');
@@ -24,6 +38,8 @@ int main(int argc, char **argv) {
             print_byte('\n');
         }
     }
+    if (dumps)
+        for (const auto &pair : held) print_pair(pair.first, pair.second);
     flush_printed();
     return 0;
 }

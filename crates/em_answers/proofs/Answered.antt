@@ -15,10 +15,12 @@ use Rattle.em_model.specs.declared.command.Command.{Command}
 use Rattle.em_model.specs.declared.command.Command.TheVariants.{Put, Add, Del, Get, Sync, Push, Pop, Interval, Stab}
 use Rattle.em_model.specs.MapAnswers.{answer_record, answers_after, get_numbers, with_numbers}
 use Rattle.em_model.specs.StabAnswers.{pair_record, pairs_from, stab_pairs}
-use Rattle.em_answers.specs.Answer.{answer_line, map_text, pairs_text, stab_text, synced_text, text_at, text_for}
+use Rattle.em_lines.specs.BaseLine.{pairs_text}
+use Rattle.em_answers.specs.Answer.{answer_line, map_text, stab_text, synced_text, text_at, text_for}
 use Rattle.em_answers.specs.Print.{answer_in, answers_in, groups_from, intervals_at, pairs_behind, pairs_in, records_text}
 use Rattle.em_lines.specs.RunSize.{pairs_reported}
-use Rattle.em_services.specs.Service.{records_at_sync, records_for, records_of_pairs}
+use Rattle.em_map.specs.Over.{records_of_pairs}
+use Rattle.em_services.specs.Service.{records_at_sync, records_for}
 use Rattle.em_lines.specs.declared.text.FileKind.{FileKind}
 use Rattle.em_lines.specs.declared.text.FileKind.TheVariants as kind
 

@@ -18,7 +18,7 @@ use Rattle.em_lines.specs.CommandLine.{first_fault, good_commands}
 use Rattle.em_lines.specs.declared.text.FileKind.{FileKind}
 use Rattle.em_lines.specs.declared.text.FileKind.TheVariants as kind
 use Rattle.em_ends.specs.Stop.{Faults, IfStopsFull, OnFault, Prints, fault_counts}
-use Rattle.em_ends.specs.declared.status.Malform.TheVariants.{Text, Aig}
+use Rattle.em_ends.specs.declared.status.Malform.TheVariants.{Text, Base, Aig}
 use Rattle.em_ends.specs.declared.stop.Stop.{Stop}
 use Rattle.em_ends.specs.declared.stop.Stop.TheVariants.{Fault, Read, Write, Em}
 use Rattle.em_services.specs.Service.{records_for}
@@ -75,6 +75,7 @@ fault_due : (apply : Combiner) (took : List ℕ → List ℕ → List ℕ) (old 
     → OnFault stop (new ≡ took old (output_text apply k text))
 fault_due apply took old new tells k text faults later s t (Fault (Text fault) line) n told cause e =
     e ∙ ap (took old) (sym (front_due apply k text (fault, line) n (cause told)))
+fault_due apply took old new tells k text faults later s t (Fault (Base fault) place) n told cause e = absurd cause
 fault_due apply took old new tells k text faults later s t (Fault (Aig fault) place) n told cause e = absurd cause
 fault_due apply took old new tells k text faults later s t Read n told cause e = tt
 fault_due apply took old new tells k text faults later s t Write n told cause e = tt

@@ -19,7 +19,7 @@ use Rattle.em_ends.specs.Opens.{IsAllRead}
 use Rattle.em_ends.specs.RunStop.{FillsRun, RunCause}
 use Rattle.em_ends.specs.Status.{OnDone, OnNoMemory, OnUsage}
 use Rattle.em_ends.specs.Stop.{Faults, IfStopsFull, fault_counts, stop_status}
-use Rattle.em_ends.specs.declared.status.Malform.TheVariants.{Text, Aig}
+use Rattle.em_ends.specs.declared.status.Malform.TheVariants.{Text, Base, Aig}
 use Rattle.em_ends.specs.declared.status.Status.{Status}
 use Rattle.em_ends.specs.declared.status.Status.TheVariants.{DeviceFault, Done, ReadFault, WriteFault}
 use Rattle.em_ends.specs.declared.stop.Stop.{Stop}
@@ -55,6 +55,7 @@ pub file_cause : (apply : Combiner) (size : ShapeNumbers → (text left : List �
     → RunCause tells (asked_by apply size limits k text) faults later a c stop
 file_cause apply size limits tells k text faults later a c (Fault (Text fault) line) cause =
     λ t d. ap status_for (cause t)
+file_cause apply size limits tells k text faults later a c (Fault (Base fault) place) cause = absurd cause
 file_cause apply size limits tells k text faults later a c (Fault (Aig fault) place) cause = absurd cause
 file_cause apply size limits tells k text faults later a c Read cause = cause
 file_cause apply size limits tells k text faults later a c Write cause = cause

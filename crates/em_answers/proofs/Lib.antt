@@ -1,5 +1,7 @@
 pub mod AnswerBlocks
 pub mod Answered
+pub mod Base
+pub mod BaseMoves
 pub mod Due
 pub mod FileRuns
 pub mod Listing

@@ -13,7 +13,7 @@ use Rattle.em_lines.specs.CommandLine.{good_commands}
 use Rattle.em_services.specs.Service.{MakesService, RisesBySize, ServiceCounts, TakesCommand, WithinAllowance, WithinRoom, size_of, FullOverRoom}
 use Rattle.em_ready.specs.Ready.{IsUnused}
 use Rattle.em_lines.specs.RunSize.{commands_taken, pairs_reported, run_size}
-use Rattle.em_answers.specs.Reading.{IsFilled, StandsAlone, service_limits}
+use Rattle.em_answers.specs.Reading.{IsFilledAt, StandsAlone, service_limits}
 use Rattle.em_ends.specs.Stop.{IfStopsFull}
 use Rattle.em_ends.specs.declared.stop.Stop.TheVariants.{Em}
 use Rattle.em_lines.specs.declared.text.FileKind.{FileKind}
@@ -265,23 +265,23 @@ filled_room (Some f) run size used held s rises is told alone sized =
     omega (arith, over, alone, more)
 
 -- What a full device says of a call on a service that is alone.
-pub filled_call : (allowance room : Option (ShapeNumbers → ℕ → ℕ)) {few : ℕ} (size : ℕ) (tells : Bool)
-    (kind : FileKind) (text left : List ℕ) (held : List ℕ) (c : ServiceCounts) (s u : RigState)
+pub filled_call : (run : ℕ) (allowance room : Option (ShapeNumbers → ℕ → ℕ)) {few : ℕ} (size : ℕ) (tells : Bool)
+    (held : List ℕ) (c : ServiceCounts) (s u : RigState)
     (fault : EmFault) → IfSome room RisesBySize → IsShape s.pool.shape → Touches held s u
     → StandsAlone allowance room few held c s → Pays c.unstored (2 * s.pool.shape.frames) s u
     → Cause s u fault
-    → (IsTrue tells → IsSized room (run_size kind text left) size held s fault)
-    → IfStopsFull (Em fault) (IsFilled (service_limits allowance room) tells kind text left u)
-filled_call allowance room size tells kind text left held c s u em.DeviceFault rises is touches a p cause sized =
+    → (IsTrue tells → IsSized room run size held s fault)
+    → IfStopsFull (Em fault) (IsFilledAt (service_limits allowance room) tells run u)
+filled_call run allowance room size tells held c s u em.DeviceFault rises is touches a p cause sized =
     tt
-filled_call allowance room size tells kind text left held c s u (em.Damaged block) rises is touches a p cause
+filled_call run allowance room size tells held c s u (em.Damaged block) rises is touches a p cause
     sized = tt
-filled_call allowance room size tells kind text left held c s u (em.Full used) rises is touches a p cause sized =
+filled_call run allowance room size tells held c s u (em.Full used) rises is touches a p cause sized =
     record {
       paid = full_paid (λ shape. 2 * shape.frames) held s u c.unstored used touches a.paid p cause;
       room = λ told d.
           let here = sym touches.told ∙ d in
-          rw (touches.shape) (filled_room room (run_size kind text left) size used held s rises is here
+          rw (touches.shape) (filled_room room run size used held s rises is here
           (a.used here) (sized told));
     }
 

@@ -11,7 +11,7 @@ use Rattle.em_lines.specs.RunSize.{commands_taken}
 use Rattle.em_lines.specs.declared.text.FileKind.{FileKind}
 use Rattle.em_lines.specs.declared.text.FileKind.TheVariants as kind
 use Rattle.em_ends.specs.Stop.{Faults, IfStopsFull}
-use Rattle.em_ends.specs.declared.status.Malform.TheVariants.{Text, Aig}
+use Rattle.em_ends.specs.declared.status.Malform.TheVariants.{Text, Base, Aig}
 use Rattle.em_ends.specs.declared.stop.Stop.{Stop}
 use Rattle.em_ends.specs.declared.stop.Stop.TheVariants.{Fault, Read, Write, Em}
 use Rattle.em_answers.specs.Limits.{queue_limits}
@@ -80,6 +80,7 @@ pub queue_stops : (tells : Bool) (k : FileKind) (text : List ℕ) (faults later 
     (a s t : RigState) (c : QueueCounts) (stop : Stop) → Leaves c s t
     → StopCause tells k text faults later a s stop → StopCause tells k text faults later a t stop
 queue_stops tells k text faults later a s t c (Fault (Text fault) line) l cause = cause
+queue_stops tells k text faults later a s t c (Fault (Base fault) place) l cause = absurd cause
 queue_stops tells k text faults later a s t c (Fault (Aig fault) place) l cause = absurd cause
 queue_stops tells k text faults later a s t c Read l cause = cause
 queue_stops tells k text faults later a s t c Write l cause = cause

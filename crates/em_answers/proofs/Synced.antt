@@ -24,13 +24,6 @@ use Rattle.em_ends.specs.Stop.{OnFault, Prints}
 use Rattle.em_ends.specs.declared.stop.Stop.{Stop}
 use Rattle.em_ends.specs.declared.stop.Stop.TheVariants.{Fault, Read, Write, Em}
 
--- nothing was printed of no command
-pub synced_none : (apply : Combiner) (k : FileKind) → synced_text apply k [] ≡ []
-synced_none apply kind.Map = refl
-synced_none apply kind.Queue = refl
-synced_none apply kind.Stab = refl
-synced_none apply kind.Dump = refl
-
 -- a command that is no sync prints nothing
 same_text : (apply : Combiner) (given : List Command) (c : Command) → synced_answers apply (given ++ c ∷ []) ≡ synced_answers apply given
     → map_text (synced_answers apply (given ++ c ∷ [])) ≡ map_text (synced_answers apply given) ++ []
@@ -127,8 +120,8 @@ never_fault faults after s t (Em fault) P cause = tt
 module _ (apply : Combiner) {IsState : List ℕ → Type 0} {took : List ℕ → List ℕ → List ℕ} (rule : IsRule IsState took)
     {old : List ℕ} (ok : IsState old) where
   -- Before the first command nothing was printed.
-  pub printed_none : (k : FileKind) → old ≡ took old (synced_text apply k [])
-  printed_none k = sym (ap (took old) (synced_none apply k) ∙ rule.nothing old ok)
+  pub printed_start : (k : FileKind) (cs : List Command) → synced_text apply k cs ≡ [] → old ≡ took old (synced_text apply k cs)
+  printed_start k cs none = sym (ap (took old) none ∙ rule.nothing old ok)
 
   module _ (k : FileKind) (given : List Command) {now : List ℕ} (p : now ≡ took old (synced_text apply k given)) where
     -- A command printed what it prints.

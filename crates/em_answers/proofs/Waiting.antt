@@ -14,7 +14,7 @@ use Rattle.em_answers.specs.Print.{PrintsInto}
 use Rattle.em_answers.specs.Reading.{StopCause}
 use Rattle.em_answers.specs.Serve.{Answers, AnswersInto, ServeCause}
 use Rattle.em_ends.specs.Stop.{EndsAs, IfStopsFull, OnDue, OnFault, SendsRest, fault_counts}
-use Rattle.em_ends.specs.declared.status.Malform.TheVariants.{Text, Aig}
+use Rattle.em_ends.specs.declared.status.Malform.TheVariants.{Text, Base, Aig}
 use Rattle.em_ends.specs.declared.stop.Stop.{Stop}
 use Rattle.em_ends.specs.declared.stop.Stop.TheVariants.{Fault, Read, Write, Em}
 use Rattle.em_lines.specs.declared.text.FileKind.{FileKind}
@@ -147,6 +147,7 @@ cause_later : (tells : Bool) (kind : FileKind) (text : List ℕ) (read write rea
     → StopCause tells kind text (fault_counts read write) (fault_counts read_after mid) s t stop
     → StopCause tells kind text (fault_counts read write) (fault_counts read_after after) s t stop
 cause_later tells kind text read write read_after mid after s t (Fault (Text fault) line) later c = c
+cause_later tells kind text read write read_after mid after s t (Fault (Base fault) place) later c = c
 cause_later tells kind text read write read_after mid after s t (Fault (Aig fault) place) later c = c
 cause_later tells kind text read write read_after mid after s t Read later c = c
 cause_later tells kind text read write read_after mid after s t Write later c = omega (arith, c, later)

@@ -8,6 +8,7 @@ use Rattle.em_model.specs.Stab.{stab_answers}
 use Rattle.em_model.specs.Sync.{since_sync, synced_answers, up_to_sync}
 use Rattle.em_model.specs.declared.command.Command.{Command}
 use Rattle.em_model.specs.declared.command.Command.TheVariants.{Sync}
+use Rattle.em_lines.specs.BaseLine.{pair_word, pairs_text}
 use Rattle.em_lines.specs.declared.text.FileKind.{FileKind}
 use Rattle.em_lines.specs.declared.text.FileKind.TheVariants.{Map, Queue, Stab, Dump}
 
@@ -23,17 +24,6 @@ answer_line answer = answer_word answer ++ 10 ∷ []
 -- the lines of some answers of a map
 abbrev pub map_text : List (Option ℕ) → List ℕ
 map_text answers = flat_map answer_line answers
-
--- a key and its value in words, with a space between
-abbrev pub pair_word : ℕ × ℕ → List ℕ
-pair_word p = decimal p.0 ++ 32 ∷ decimal p.1
-
-abbrev pub pair_line : ℕ × ℕ → List ℕ
-pair_line p = pair_word p ++ 10 ∷ []
-
--- the lines of some pairs
-abbrev pub pairs_text : List (ℕ × ℕ) → List ℕ
-pairs_text pairs = flat_map pair_line pairs
 
 -- an answer of a queue in words: the key and the value, or a dash
 abbrev pub popped_word : Option (ℕ × ℕ) → List ℕ

@@ -6,7 +6,8 @@ use Rattle.em_io.specs.declared.sink.Sink.{Ghosts as SinkGhosts}
 use Rattle.em_space.specs.Rig.{RigState, Goes, Sound, BlockCause}
 use Rattle.em_chain.specs.Reader.{IsReader, ReaderHasFrame, owed, reader_items}
 use Rattle.em_chain.specs.declared.reader.Reader.{Reader}
-use Rattle.em_answers.specs.Answer.{map_text, pairs_text, stab_text}
+use Rattle.em_lines.specs.BaseLine.{pairs_text}
+use Rattle.em_answers.specs.Answer.{map_text, stab_text}
 use Rattle.em_ends.specs.declared.stop.Stop.{Stop}
 use Rattle.em_lines.specs.declared.text.FileKind.{FileKind}
 use Rattle.em_lines.specs.declared.text.FileKind.TheVariants.{Map, Queue, Stab, Dump}

@@ -14,7 +14,8 @@ ghost use Rattle.em_space.specs.Rig.{Sound};
 ghost use Rattle.em_space.specs.Seen.{seen};
 ghost use Rattle.em_chain.specs.Chain.{IsChain, chain_items};
 ghost use Rattle.em_chain.specs.Reader.{owed, reader_items};
-ghost use Rattle.em_answers.specs.Answer.{answer_line, further_words, map_text, numbers_line, pair_line, pairs_text, popped_line, stab_text};
+ghost use Rattle.em_lines.specs.BaseLine.{pair_line, pairs_text};
+ghost use Rattle.em_answers.specs.Answer.{answer_line, further_words, map_text, numbers_line, popped_line, stab_text};
 ghost use Rattle.em_answers.specs.Print.{IsBehind, KeepsBlocks, Looks, PrintStops, PrintsInto, ReadsOn, ReadsWithin, answer_in, answers_in, groups_from, intervals_at, pairs_in, popped_in, records_text};
 ghost use Rattle.em_ends.specs.Stop.{Prints};
 

@@ -20,7 +20,7 @@ ghost use Rattle.em_answers.specs.Answer.{synced_text, text_at};
 ghost use Rattle.em_answers.specs.FileDue.{output_text};
 ghost use Rattle.em_answers.specs.Limits.{taken_commands};
 ghost use Rattle.em_answers.specs.Print.{records_text};
-ghost use Rattle.em_answers.specs.Reading.{FullAtSync, KeepsAllowance, KeepsRoom, StandsAlone, StopsReading, SyncCause, TookCommands, moves_within, service_limits, ReadsAll};
+ghost use Rattle.em_answers.specs.Reading.{ArePuts, FullAtSync, KeepsAllowance, KeepsRoom, KeepsRoomOver, StandsAlone, StopsReading, StopsReadingOver, SyncCause, TookCommands, moves_within, service_limits, size_after, ReadsAll};
 ghost use Rattle.em_answers.specs.Serve.{Answers as AnswersAll};
 ghost use Rattle.em_ends.specs.Stop.{IfStopsFull, Prints};
 ghost use Rattle.em_map.specs.Areas.{KeepsAreas};
@@ -56,11 +56,12 @@ fn answer_sync<D: Device, W: Sink, S: Service>(
     requires sound { Sound (seen D.state rig.old) }
     requires is { S.IsService service.old (seen D.state rig.old) }
     requires free { CanSync (S.areas service.old) (seen D.state rig.old).pool }
-    requires few { (S.counts service.old).n < 2 ^ 40 }
+    requires few { (S.counts service.old).n < S.most service.old }
     requires kind { IsOfKind S.KIND variants.Sync }
     ensures goes { KeepsAreas (S.areas service.old) (S.areas service.new)
         (S.blocks service.old (seen D.state rig.old)) (seen D.state rig.old) (seen D.state rig.new) }
     ensures joins { S.combiner service.new ≡ S.combiner service.old }
+    ensures bounds { S.most service.new ≡ S.most service.old }
     ensures sizes { S.size service.new ≡ S.size service.old }
     ensures frames { S.HasItsFrames service.new (seen D.state rig.new) }
     ensures is { OnOk result (S.IsService service.new (seen D.state rig.new)) }
@@ -108,11 +109,12 @@ fn give<D: Device, W: Sink, S: Service>(
     requires sound { Sound (seen D.state rig.old) }
     requires is { S.IsService service.old (seen D.state rig.old) }
     requires free { CanSync (S.areas service.old) (seen D.state rig.old).pool }
-    requires few { (S.counts service.old).n < 2 ^ 40 }
+    requires few { (S.counts service.old).n < S.most service.old }
     requires kind { IsOfKind S.KIND command }
     ensures goes { KeepsAreas (S.areas service.old) (S.areas service.new)
         (S.blocks service.old (seen D.state rig.old)) (seen D.state rig.old) (seen D.state rig.new) }
     ensures joins { S.combiner service.new ≡ S.combiner service.old }
+    ensures bounds { S.most service.new ≡ S.most service.old }
     ensures sizes { S.size service.new ≡ S.size service.old }
     ensures frames { S.HasItsFrames service.new (seen D.state rig.new) }
     ensures is { OnOk result (S.IsService service.new (seen D.state rig.new)) }
@@ -152,8 +154,8 @@ fn give<D: Device, W: Sink, S: Service>(
     }
 }
 
-/// Gives all commands of a file to a service that has none, up to the first fault, on a rig on which the service is
-/// alone. At each sync the answers that are due are printed. Answers the number of stabs.
+/// Gives all commands of a file to a service, up to the first fault, on a rig on which the service is alone. It may have taken
+/// puts before, which are the ghost `base`. At each sync the answers that are due are printed. Answers the number of stabs.
 fn read_all<D: Device, H: Shelf, W: Sink, S: Service>(
     rig: &mut Rig<'_, D>,
     service: &mut S,
@@ -161,10 +163,14 @@ fn read_all<D: Device, H: Shelf, W: Sink, S: Service>(
     shelf: &mut H,
     out: &mut W,
 ) -> Result<u64, Stop>
+    ghost base: { List commands.Command }
     requires sound { Sound (seen D.state rig.old) }
     requires is { S.IsService service.old (seen D.state rig.old) }
-    requires none { S.Has service.old (seen D.state rig.old) [] [] }
-    requires alone { StandsAlone S.allowance S.room 0
+    requires puts { ArePuts base }
+    requires has { S.Has service.old (seen D.state rig.old) [] base }
+    requires many { 2 ^ 40 + length base ≤ S.most service.old }
+    requires alone { StandsAlone S.allowance S.room
+        (S.size service.old (seen D.state rig.old).pool.shape base)
         (S.blocks service.old (seen D.state rig.old)) (S.counts service.old)
         (seen D.state rig.old) }
     requires free { CanSync (S.areas service.old) (seen D.state rig.old).pool }
@@ -173,6 +179,7 @@ fn read_all<D: Device, H: Shelf, W: Sink, S: Service>(
     ensures goes { KeepsAreas (S.areas service.old) (S.areas service.new)
         (S.blocks service.old (seen D.state rig.old)) (seen D.state rig.old) (seen D.state rig.new) }
     ensures joins { S.combiner service.new ≡ S.combiner service.old }
+    ensures bounds { S.most service.new ≡ S.most service.old }
     ensures sizes { S.size service.new ≡ S.size service.old }
     ensures frames { S.HasItsFrames service.new (seen D.state rig.new) }
     ensures is { OnOk result (S.IsService service.new (seen D.state rig.new)) }
@@ -181,7 +188,7 @@ fn read_all<D: Device, H: Shelf, W: Sink, S: Service>(
         (S.blocks service.new (seen D.state rig.new))) }
     ensures alone { OnOk result (TookCommands S.Service
         (S.size service.old (seen D.state rig.old).pool.shape) H.tells
-        (good_commands S.KIND (rest feed.old (H.stand shelf.old))) service.new (seen D.state rig.new)) }
+        (base ++ good_commands S.KIND (rest feed.old (H.stand shelf.old))) service.new (seen D.state rig.new)) }
     ensures reads { Reads H.tells feed.old (H.stand shelf.old) feed.new (H.stand shelf.new) }
     ensures later { H.faults shelf.old ≤ H.faults shelf.new }
     ensures write_later { W.faults out.old ≤ W.faults out.new }
@@ -189,23 +196,23 @@ fn read_all<D: Device, H: Shelf, W: Sink, S: Service>(
         (rest feed.old (H.stand shelf.old)) (rest feed.new (H.stand shelf.new))) }
     ensures taken { IsTrue H.tells → OnOk result ((S.counts service.new).n
         ≤ commands_taken S.KIND (rest feed.old (H.stand shelf.old))
-        ((H.stand shelf.new).slot feed.old.slot).left) }
+        ((H.stand shelf.new).slot feed.old.slot).left + length base) }
     ensures has { IsTrue H.tells → OnOk result (S.Has service.new (seen D.state rig.new)
-        (up_to_sync (good_commands S.KIND (rest feed.old (H.stand shelf.old))))
-        (since_sync (good_commands S.KIND (rest feed.old (H.stand shelf.old))))) }
+        (up_to_sync (base ++ good_commands S.KIND (rest feed.old (H.stand shelf.old))))
+        (since_sync (base ++ good_commands S.KIND (rest feed.old (H.stand shelf.old))))) }
     ensures stabs { IsTrue H.tells → IfOk result (λ n. n
         ≡ length (stab_answers (good_commands S.KIND (rest feed.old (H.stand shelf.old))))) }
     ensures synced { IsTrue H.tells → IsTrue (seen D.state rig.old).device.told
         → AnswersAll W.took
-        (synced_text (S.combiner service.old) S.KIND (good_commands S.KIND (rest feed.old (H.stand shelf.old))))
+        (synced_text (S.combiner service.old) S.KIND (base ++ good_commands S.KIND (rest feed.old (H.stand shelf.old))))
         (W.state out.old) (W.state out.new) result }
-    ensures stop { IfErr result (StopsReading H.Shelf W.Sink
+    ensures stop { IfErr result (StopsReadingOver (length base) H.Shelf W.Sink
         (service_limits S.allowance S.room) S.KIND feed.old shelf.old shelf.new out.old out.new
         (seen D.state rig.old) (seen D.state rig.new)) }
-    ensures moves { IsTrue H.tells → KeepsAllowance S.allowance (S.size service.old) S.KIND
+    ensures moves { IsTrue H.tells → KeepsAllowance S.allowance (size_after base (S.size service.old)) S.KIND
         (rest feed.old (H.stand shelf.old)) ((H.stand shelf.new).slot feed.old.slot).left
         (seen D.state rig.old) (seen D.state rig.new) }
-    ensures most { KeepsRoom S.room H.tells S.KIND (rest feed.old (H.stand shelf.old))
+    ensures most { KeepsRoomOver (length base) S.room H.tells S.KIND (rest feed.old (H.stand shelf.old))
         ((H.stand shelf.new).slot feed.old.slot).left (seen D.state rig.new) }
 {
     let mut number: u64 = 1;

@@ -1,8 +1,11 @@
 pub mod Added
+pub mod Adopts
+pub mod Agreeing
 pub mod AllListed
 pub mod Begun
 pub mod Calls
 pub mod Closed
+pub mod Counted
 pub mod DrainBegun
 pub mod DrainEnds
 pub mod DrainFresh
@@ -16,9 +19,11 @@ pub mod Kept
 pub mod Keys
 pub mod LastJoined
 pub mod LeafTaken
+pub mod Limits
 pub mod ListGiven
 pub mod Listed
 pub mod Lots
+pub mod MadeTrees
 pub mod NonePlanted
 pub mod Pushed
 pub mod Raised

@@ -62,3 +62,40 @@ some_share w B P e c r x q s j i h =
     let m : e * x ≤ (2 * w + 1) * x = mul-le-mul_right x few in
     let o : 8 * x ≤ w * x = mul-le-mul_right x w8 in
     omega (arith, few, least, d, m, o, w8)
+
+-- The blocks of x leaves that are listed, h that are held, and one of r records, with those of the list and as many as come into
+-- use at the end.
+pub room_share : (w B P e c d r x h q : ℕ) → IsSize w B P → IsCeil e P (2 * (w * B)) → IsCeil c P r → IsCeil d P (2 * x)
+    → r + 2 * (w * B) * (x + h) ≤ q * B → (e * x + x) + (e * h + d) + c + (2 * x + 9) ≤ 12 * (q + 1)
+room_share w B P e c d r x h q s j i k l =
+    let b = s.payload in
+    let n = s.narrow in
+    let w8 = s.wide in
+    let few = lot_most w B P e s j in
+    let least = whole_least w B q r (x + h) (omega (arith, n, w8)) l in
+    let rest = rest_most w B q r (x + h) least l in
+    let own = twice_most B P (q - 2 * w * (x + h)) r c b (omega (arith, b, n, w8)) rest i in
+    let two : x * 2 ≤ x * P = mul-le-mul_left x (omega (arith, b, n, w8)) in
+    let list : d ≤ x = ceil_most d P (2 * x) x k (omega (arith, two)) in
+    let m : e * x ≤ (2 * w + 1) * x = mul-le-mul_right x few in
+    let y : e * h ≤ (2 * w + 1) * h = mul-le-mul_right h few in
+    let o : 8 * x ≤ w * x = mul-le-mul_right x w8 in
+    let p : 8 * h ≤ w * h = mul-le-mul_right h w8 in
+    omega (arith, least, own, list, m, y, o, p)
+
+-- The moves that a builder may have spent on them, and seven more.
+pub spent_share : (w B P e c r x h q : ℕ) → IsSize w B P → IsCeil e P (2 * (w * B)) → IsCeil c P r
+    → r + 2 * (w * B) * (x + h) ≤ q * B → (2 * e + 5) * x + (2 * e + 1) * h + 2 * c + 7 ≤ 12 * (q + 1)
+spent_share w B P e c r x h q s j i l =
+    let b = s.payload in
+    let n = s.narrow in
+    let w8 = s.wide in
+    let few = lot_most w B P e s j in
+    let least = whole_least w B q r (x + h) (omega (arith, n, w8)) l in
+    let rest = rest_most w B q r (x + h) least l in
+    let own = twice_most B P (q - 2 * w * (x + h)) r c b (omega (arith, b, n, w8)) rest i in
+    let m : e * x ≤ (2 * w + 1) * x = mul-le-mul_right x few in
+    let y : e * h ≤ (2 * w + 1) * h = mul-le-mul_right h few in
+    let o : 8 * x ≤ w * x = mul-le-mul_right x w8 in
+    let p : 8 * h ≤ w * h = mul-le-mul_right h w8 in
+    omega (arith, least, own, m, y, o, p)

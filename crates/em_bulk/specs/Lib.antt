@@ -3,5 +3,7 @@ pub mod Taken
 pub mod Full
 pub mod Ended
 pub mod Building
+pub mod Made
+pub mod Limits
 pub mod Refilling
 pub mod Draining

@@ -4,18 +4,22 @@
 //! Kept here: the keys rise, and so do the low keys of the leaves; each leaf of several has w·B records or more. Left to
 //! `em_tree_raise`: the nodes.
 
-ghost use Rattle.std.specs.Prelude.{◌≡◌, ◌<◌, ◌≤◌, ◌^◌};
+ghost use Rattle.std.specs.Prelude.{◌≡◌, ◌+◌, ◌<◌, ◌≤◌, ◌^◌, IfErr, IfOk, IsTrue};
 ghost use Rattle.em_space.specs.Rig.{Sound};
 ghost use Rattle.em_space.specs.Seen.{seen};
 ghost use Rattle.em_bulk.specs.Pairs.{lot_of};
-ghost use Rattle.em_bulk.specs.Building.{AddsPair, BeginsBuilder, Builds, BuildsTree, BuilderHasFrames, Closes, GivesList, IsBuilder, IsOpen, LeavesBuilder, Pushes, Turns};
+ghost use Rattle.em_bulk.specs.Building.{AddsPair, BeginsBuilder, Builds, BuildsTree, BuilderHasFrames, Closes, GivesList, IsBuilder, IsOpen, LeavesBuilder, Pushes, StopsBuilding, Turns, pairs_in};
+ghost use Rattle.em_bulk.specs.Limits.{FullOverBuilderRoom, WithinBuilderRoom, WithinBuilderShare};
+ghost use Rattle.em_bulk.specs.Made.{MadeTree, TakesPairs};
 
 use crate::keeping::Leaves;
 use crate::taking::take_list;
 use em_chain::{Chain, Writer};
 use em_frames::Device;
 use em_record::{Record, Shape};
+use em_settle::Settle;
 use em_space::{EmFault, Rig};
+use em_tree::Tree;
 use em_tree_raise::raise;
 use em_tree_walk::Root;
 use em_trunk::plant;
@@ -38,11 +42,11 @@ pub struct Builder {
 
 /// A tree that was built.
 #[derive(Drop)]
-pub struct Built {
+pub(crate) struct Built {
     /// The root of its nodes.
-    pub root: Root,
+    pub(crate) root: Root,
     /// Its pairs.
-    pub count: u64,
+    pub(crate) count: u64,
 }
 
 impl Builder {
@@ -95,6 +99,12 @@ impl Builder {
         ensures frames { BuilderHasFrames (seen D.state rig.new) self.new }
         ensures pushes { Pushes (seen D.state rig.old) (seen D.state rig.new) self.old self.new key value
             result }
+        ensures share { WithinBuilderShare (self.old.count + 1) (seen D.state rig.old) (seen D.state rig.new)
+            self.old }
+        ensures room { IsTrue (seen D.state rig.old).device.told → WithinBuilderRoom (self.old.count + 1)
+            (seen D.state rig.old) (seen D.state rig.new) self.old }
+        ensures over { IfErr result (λ fault. IsTrue (seen D.state rig.old).device.told
+            → FullOverBuilderRoom (self.old.count + 1) (seen D.state rig.old) self.old fault) }
     {
         if self.leaf.len() < lot(&rig.shape()) {
             return self.add(rig, key, value);
@@ -151,11 +161,38 @@ impl Builder {
         )
     }
 
-    /// Makes a tree of all pairs. Six frames must be free besides the builder's.
+    /// Makes a tree of all pairs, which settles its operations by this rule. The rule must take each pair (K, 0, 0, V) as the
+    /// stored record of the key (K, 0, 0, 0). Six frames must be free besides the builder's, which the tree then holds.
     ///
     /// `Full` comes only if all blocks are in use. `DeviceFault` comes only if the device's count of faults rose, and `Damaged`
-    /// only over a device that doesn't tell. After a fault the blocks may stay in use. All frames are back on each way out.
-    pub fn finish<D: Device>(self, rig: &mut Rig<'_, D>) -> Result<Built, EmFault>
+    /// only over a device that doesn't tell. After a fault the blocks may stay in use, and both frames are back.
+    pub fn finish<D: Device, S: Settle>(
+        self,
+        rig: &mut Rig<'_, D>,
+        settle: S,
+    ) -> Result<Tree<S>, EmFault>
+        requires sound { Sound (seen D.state rig.old) }
+        requires is { IsBuilder (seen D.state rig.old) self }
+        requires takes { IsTrue (seen D.state rig.old).device.told
+            → TakesPairs (S.key_of settle) (S.IsKept settle) (pairs_in (seen D.state rig.old) self) }
+        requires free { 6 ≤ (seen D.state rig.old).pool.free }
+        ensures rule { IfOk result (λ tree. tree.settle ≡ settle) }
+        ensures makes { IfOk result (λ tree. MadeTree (S.key_of settle) (S.IsOp settle) (S.IsKept settle)
+            (seen D.state rig.old) (seen D.state rig.new) self tree.trunk) }
+        ensures stops { IfErr result (StopsBuilding (seen D.state rig.old) (seen D.state rig.new) self) }
+        ensures share { IsTrue (seen D.state rig.old).device.told → WithinBuilderShare self.count
+            (seen D.state rig.old) (seen D.state rig.new) self }
+        ensures room { IsTrue (seen D.state rig.old).device.told → WithinBuilderRoom self.count
+            (seen D.state rig.old) (seen D.state rig.new) self }
+        ensures over { IfErr result (λ fault. IsTrue (seen D.state rig.old).device.told
+            → FullOverBuilderRoom self.count (seen D.state rig.old) self fault) }
+    {
+        let Built { root, count } = self.build_counted(rig)?;
+        Ok(Tree::adopt(rig, settle, root, count))
+    }
+
+    /// The root of a tree of all pairs, and their number. All frames are back on each way out.
+    fn build_counted<D: Device>(self, rig: &mut Rig<'_, D>) -> Result<Built, EmFault>
         requires sound { Sound (seen D.state rig.old) }
         requires is { IsBuilder (seen D.state rig.old) self }
         requires free { 6 ≤ (seen D.state rig.old).pool.free }

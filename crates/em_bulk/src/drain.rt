@@ -133,8 +133,8 @@ impl<S: Settle> Drain<S> {
     /// Releases the tree, with its answers and with the records that weren't given, and gives the frames and the area back,
     /// which it does after a fault too. It needs the frames of a queue's call beside its own.
     ///
-    /// `Full` comes only if all blocks are in use, and the tree counts an operation. `Damaged` comes only over a device that
-    /// doesn't tell, and `DeviceFault` only if the device's count of faults rose.
+    /// `Full` comes only if all blocks are in use, and the tree counts an operation or an adopted record. `Damaged` comes only
+    /// over a device that doesn't tell, and `DeviceFault` only if the device's count of faults rose.
     pub fn end<D: Device>(self, rig: &mut Rig<'_, D>) -> Result<(), EmFault>
         requires sound { Sound (seen D.state rig.old) }
         requires ready { S.IsReady self.tree.settle }

@@ -8,5 +8,5 @@ mod ending;
 mod keeping;
 mod taking;
 
-pub use builder::{Builder, Built};
+pub use builder::Builder;
 pub use drain::Drain;

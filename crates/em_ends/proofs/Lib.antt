@@ -1,3 +1,4 @@
 pub mod EndLaws
 pub mod Opening
 pub mod Printing
+mod ReportRows

@@ -4,9 +4,9 @@ use Rattle.std.specs.Prelude.{ℕ, List, [], ◌∷◌, ◌++◌, codes, decimal
 use Rattle.aig_defs.specs.declared.fault.AigKind.{AigKind}
 use Rattle.aig_defs.specs.declared.fault.AigKind.TheVariants as aig
 use Rattle.em_lines.specs.declared.text.TextKind.{TextKind}
-use Rattle.em_lines.specs.declared.text.TextKind.TheVariants.{BadNumber, TooLarge, BadSeparator, Unknown, EmptyLine, LowAboveHigh, TooLong}
+use Rattle.em_lines.specs.declared.text.TextKind.TheVariants.{BadNumber, TooLarge, BadSeparator, Unknown, EmptyLine, LowAboveHigh, TooLong, OutOfOrder}
 use Rattle.em_ends.specs.declared.status.Malform.{Malform}
-use Rattle.em_ends.specs.declared.status.Malform.TheVariants.{Text, Aig}
+use Rattle.em_ends.specs.declared.status.Malform.TheVariants.{Text, Base, Aig}
 use Rattle.em_ends.specs.declared.status.UsageKind.{UsageKind}
 use Rattle.em_ends.specs.declared.status.UsageKind.TheVariants.{NoCommand, UnknownCommand, UnknownOption, RepeatedOption, BadValue, MissingOperand, ExtraOperand, BlockRange, FramesRange, FramesMultiple, BlocksRange, UnknownKind, CountRange}
 use Rattle.em_ends.specs.declared.status.Status.{Status}
@@ -21,6 +21,7 @@ text_kind_name Unknown = codes "Unknown"
 text_kind_name EmptyLine = codes "EmptyLine"
 text_kind_name LowAboveHigh = codes "LowAboveHigh"
 text_kind_name TooLong = codes "TooLong"
+text_kind_name OutOfOrder = codes "OutOfOrder"
 
 -- the name of a fault of a circuit or of a stimulus
 abbrev pub aig_kind_name : AigKind → List ℕ
@@ -48,9 +49,14 @@ aig_kind_name aig.Fairness = codes "Fairness"
 aig_kind_name aig.BadReset = codes "BadReset"
 aig_kind_name aig.Latched = codes "Latched"
 
+-- the name of a fault of a line of the base
+abbrev pub base_kind_name : TextKind → List ℕ
+base_kind_name kind = codes "base " ++ text_kind_name kind
+
 -- the name of what is wrong with an input
 abbrev pub malform_name : Malform → List ℕ
 malform_name (Text kind) = text_kind_name kind
+malform_name (Base kind) = base_kind_name kind
 malform_name (Aig kind) = aig_kind_name kind
 
 -- the name of a usage fault

@@ -2,7 +2,7 @@ ghost use Rattle.std.specs.Prelude.{◌≡◌, ◌≤◌, ◌+◌, ◌++◌, [],
 ghost use Rattle.em_record.specs.Count.{HasCause};
 ghost use Rattle.em_io.specs.Sink.{SentPart};
 ghost use Rattle.em_ends.specs.Outcome.{stats_line, report_text};
-ghost use Rattle.em_ends.specs.Report.{message_of, line_of, digits_of, aig_kind_name, text_kind_name, malform_name, usage_kind_name};
+ghost use Rattle.em_ends.specs.Report.{message_of, line_of, digits_of, aig_kind_name, base_kind_name, text_kind_name, malform_name, usage_kind_name};
 
 use crate::outcome::{Outcome, Stats};
 use crate::status::{Malform, Status, UsageKind};
@@ -24,6 +24,7 @@ fn text_kind(kind: TextKind) -> &'static [u8]
         TextKind::EmptyLine => b"EmptyLine",
         TextKind::LowAboveHigh => b"LowAboveHigh",
         TextKind::TooLong => b"TooLong",
+        TextKind::OutOfOrder => b"OutOfOrder",
     }
 }
 
@@ -59,6 +60,23 @@ fn aig_kind(kind: AigKind) -> &'static [u8]
     }
 }
 
+/// The name of a fault of a line of the base.
+fn base_kind(kind: TextKind) -> &'static [u8]
+    ensures is { result.now ≡ base_kind_name kind }
+    ensures short { length result.now ≤ 20 }
+{
+    match kind {
+        TextKind::BadNumber => b"base BadNumber",
+        TextKind::TooLarge => b"base TooLarge",
+        TextKind::BadSeparator => b"base BadSeparator",
+        TextKind::Unknown => b"base Unknown",
+        TextKind::EmptyLine => b"base EmptyLine",
+        TextKind::LowAboveHigh => b"base LowAboveHigh",
+        TextKind::TooLong => b"base TooLong",
+        TextKind::OutOfOrder => b"base OutOfOrder",
+    }
+}
+
 /// The name of what is wrong with an input.
 fn malform(kind: Malform) -> &'static [u8]
     ensures is { result.now ≡ malform_name kind }
@@ -66,6 +84,7 @@ fn malform(kind: Malform) -> &'static [u8]
 {
     match kind {
         Malform::Text(kind) => text_kind(kind),
+        Malform::Base(kind) => base_kind(kind),
         Malform::Aig(kind) => aig_kind(kind),
     }
 }

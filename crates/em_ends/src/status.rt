@@ -48,6 +48,8 @@ pub struct Usage {
 pub enum Malform {
     /// A line of a command file; the place is the line's number, from 1.
     Text(TextKind),
+    /// A line of the base of a `load`; the place is the line's number, from 1.
+    Base(TextKind),
     /// A circuit or a stimulus. The place is a byte's offset; for `Twice`, `Undefined` and `Cyclic` it
     /// is the variable.
     Aig(AigKind),

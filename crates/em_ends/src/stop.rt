@@ -1,6 +1,6 @@
 // Why a run stopped before its end, and what is sent then.
 ghost use Rattle.std.specs.Prelude.{◌≡◌};
-ghost use Rattle.em_ends.specs.declared.status.Malform.TheVariants.{Text, Aig};
+ghost use Rattle.em_ends.specs.declared.status.Malform.TheVariants.{Text, Base, Aig};
 ghost use Rattle.em_ends.specs.declared.stop.Stop.TheVariants as stop;
 ghost use Rattle.em_ends.specs.Stop.{SendsRest, circuit_stop, step_stop};
 
@@ -27,12 +27,22 @@ pub enum Stop {
 }
 
 impl Stop {
-    /// The stop at a fault of the line of this number.
+    /// The stop at a fault of the command file's line of this number.
     pub fn at_line(fault: TextKind, number: u64) -> Stop
         ensures is { result ≡ stop.Fault (Text fault) number }
     {
         Stop::Fault {
             kind: Malform::Text(fault),
+            place: number,
+        }
+    }
+
+    /// The stop at a fault of the base's line of this number.
+    pub fn at_base_line(fault: TextKind, number: u64) -> Stop
+        ensures is { result ≡ stop.Fault (Base fault) number }
+    {
+        Stop::Fault {
+            kind: Malform::Base(fault),
             place: number,
         }
     }

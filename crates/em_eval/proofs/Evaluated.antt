@@ -31,7 +31,7 @@ use Rattle.em_ends.specs.Ended.{Caused, Ended, GoesOn, KeepsRoom, Outside}
 use Rattle.em_ends.specs.Stop.{stop_status, Faults, IfStopsFull, OnFault, fault_counts}
 use Rattle.em_ends.specs.RunStop.{FillsRun, RunCause}
 use Rattle.em_ends.specs.declared.status.Malform.{Malform}
-use Rattle.em_ends.specs.declared.status.Malform.TheVariants.{Text, Aig}
+use Rattle.em_ends.specs.declared.status.Malform.TheVariants.{Text, Base, Aig}
 use Rattle.em_ends.specs.declared.status.Status.TheVariants.{Done, Malformed, ReadFault}
 use Rattle.em_ends.specs.declared.stop.Stop.{Stop}
 use Rattle.em_ends.specs.declared.stop.Stop.TheVariants.{Fault, Read, Write, Em}
@@ -100,6 +100,7 @@ module _ (wide : Bool) (start : Option ℕ) (tells : Bool) (x y stimulus : List 
       → CircuitCause start tells x faults later a c stop
       → RunCause tells (asked_of_eval wide start y stimulus) faults later a c stop
   circuit_cause faults later a c (Fault (Text kind) line) cause = absurd cause
+  circuit_cause faults later a c (Fault (Base kind) line) cause = absurd cause
   circuit_cause faults later a c (Fault (Aig kind) place) cause = λ t d.
       fault_due wide start y stimulus kind place (fault_first wide start y kind place
       (subst (λ (v : List ℕ). text_fault start v ≡ Some (kind, place)) (e t) (cause t d)))
@@ -156,6 +157,7 @@ module _ (wide : Bool) (start : Option ℕ) (tells : Bool) (x y stimulus : List 
         → old.device ≡ a.device → CircuitCause start tells x faults later a c stop
         → Stopped tells took (asked_of_eval wide start y stimulus) old new stop
     circuit_stopped faults later a c (Fault (Text kind) line) before cause = absurd cause
+    circuit_stopped faults later a c (Fault (Base kind) line) before cause = absurd cause
     circuit_stopped faults later a c (Fault (Aig kind) place) before cause = record {
       fault = λ t d.
           let first = cause t (subst (λ (v : DeviceState). IsTrue v.told) before d) in
@@ -218,6 +220,8 @@ module _ (wide : Bool) {start : Option ℕ} (tells told : Bool) (x y z w : List 
       → StepsCause faults later m c stop
       → RunCause tells (asked_of_eval wide start y w) faults later a c stop
   steps_cause faults later a c (Fault (Text kind) line) same touches ends cause =
+      λ t d. absurd (ends t)
+  steps_cause faults later a c (Fault (Base kind) line) same touches ends cause =
       λ t d. absurd (ends t)
   steps_cause faults later a c (Fault (Aig kind) place) same touches ends cause = λ t d.
       status_after (Some (kind, place)) t (subst (λ (b : Bool). IsTrue b) same d) (ends t)

@@ -35,7 +35,7 @@ use Rattle.em_eval.specs.EvalSize.{circuit_read, eval_room, given_of, passes_rea
 use Rattle.em_ends.specs.Opens.{IsAllRead, ReadsFirst}
 use Rattle.em_ready.specs.Ready.{IsReady}
 use Rattle.em_ends.specs.Stop.{Faults, IfStopsFull, fault_counts, OnDue, UnlessWrite}
-use Rattle.em_ends.specs.declared.status.Malform.TheVariants.{Text, Aig}
+use Rattle.em_ends.specs.declared.status.Malform.TheVariants.{Text, Base, Aig}
 use Rattle.em_ends.specs.declared.stop.Stop.{Stop}
 use Rattle.em_ends.specs.declared.stop.Stop.TheVariants.{Fault, Read, Write, Em}
 
@@ -67,6 +67,7 @@ pub record MakesEdges (start : Option ℕ) {H : Type 0} (h : ShelfGhosts H) (s t
 -- faults rose; or what a call on the rig says
 abbrev pub CircuitCause : Option ℕ → Bool → List ℕ → Faults → Faults → RigState → RigState → Stop → Type 0
 CircuitCause start tells text faults after old new (Fault (Text kind) line) = ⊥
+CircuitCause start tells text faults after old new (Fault (Base kind) line) = ⊥
 CircuitCause start tells text faults after old new (Fault (Aig kind) place) =
     IsTrue tells → IsTrue old.device.told → text_fault start text ≡ Some (kind, place)
 CircuitCause start tells text faults after old new Read = Rose faults.read after.read
@@ -118,6 +119,7 @@ pub record ReadsSecond (tells : Bool) (old new : Stand) : Type 0 where
 abbrev pub EndsSteps : Stimulus → Result (Unit {0}) Stop → Type 0
 EndsSteps stimulus (Ok u) = stimulus.fault ≡ None
 EndsSteps stimulus (Err (Fault (Text kind) line)) = ⊥
+EndsSteps stimulus (Err (Fault (Base kind) line)) = ⊥
 EndsSteps stimulus (Err (Fault (Aig kind) place)) = stimulus.fault ≡ Some (kind, place)
 EndsSteps stimulus (Err Read) = Unit {0}
 EndsSteps stimulus (Err Write) = Unit {0}

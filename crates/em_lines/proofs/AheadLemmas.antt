@@ -1,9 +1,9 @@
 -- Words that end within the bytes that were read ahead.
-use Rattle.std.proofs.Common.{◌≡◌, ℕ, ◌+◌, ◌-◌, ◌<◌, ◌≤◌, ◌==◌, ◌||◌, ◌≢◌, Bool, true, false, cond, List, [], ◌∷◌, ◌++◌, length, length-take, drop, drop-drop, slice_index_or, slice_range, Option, Some, None, Ok, refl, sym, ap, ◌∙◌, arith}
+use Rattle.std.proofs.Common.{◌≡◌, ℕ, ◌+◌, ◌-◌, ◌<◌, ◌≤◌, ◌==◌, ◌||◌, ◌≢◌, Bool, true, false, cond, List, [], ◌∷◌, ◌++◌, length, length-take, drop, drop-drop, slice_index_or, slice_range, Option, Some, None, Ok, take, refl, sym, ap, ◌∙◌, arith}
 use Rattle.std.specs.Prelude.{IfSome}
-use Rattle.std.proofs.lemmas.List.{length-append}
+use Rattle.std.proofs.lemmas.List.{length-append, take-append-drop}
 use Rattle.std.proofs.lemmas.List.Folds.{drop_split}
-use Rattle.em_lines.specs.Ahead.{BeginsNumber, BeginsOperand, BeginsWord}
+use Rattle.em_lines.specs.Ahead.{BeginsFirst, BeginsNumber, BeginsOperand, BeginsWord}
 use Rattle.em_lines.specs.CommandLine.{number_of, operand}
 use Rattle.em_lines.specs.Stream.{after_line, after_word, parts_left, word_at}
 use Rattle.em_lines.specs.declared.ahead.Spelled.{Spelled}
@@ -103,3 +103,36 @@ operand_found xs m (Some f) e low high n =
     (e ∙ ap (λ (z : List ℕ). 32 ∷ z) (drop_split xs 1 m low))
     (omega (arith, high, length-take (m - 1) (drop 1 xs))) n
 operand_found xs m None e low high n = tt
+
+-- A number that begins a line, whatever is read next.
+pub first_spelled : {xs : List ℕ} {v k : ℕ} → BeginsFirst xs v k → (ys : List ℕ)
+    → number_of (word_at (xs ++ ys)) ≡ Ok v
+first_spelled f ys = ap number_of (word_begins ys f.number.word) ∙ f.number.spells
+
+pub first_skipped : {xs : List ℕ} {v k : ℕ} → BeginsFirst xs v k → (ys : List ℕ)
+    → drop k (xs ++ ys) ≡ after_word (xs ++ ys)
+first_skipped f ys = word_skipped ys f.number.word
+
+-- a number that stands in a window is one of the whole
+first_begins : (xs ys zs : List ℕ) (v k : ℕ) → xs ≡ ys ++ zs → length ys ≤ 21 → BeginsNumber ys v k
+    → BeginsFirst xs v k
+first_begins xs ys zs v k e few n =
+    let same : word_at xs ≡ word_at ys = ap word_at e ∙ word_begins zs n.word in
+    record {
+      number = record {
+        word = record {
+          is = ap length same ∙ n.word.is;
+          ended = omega (arith, n.word.ended, ap length e, length-append ys zs);
+        };
+        spells = ap number_of same ∙ n.spells;
+      };
+      few = omega (arith, n.word.ended, few);
+    }
+
+pub first_found : (xs : List ℕ) (m : ℕ) (r : Option Spelled) → m ≤ 21
+    → IfSome r (λ f. BeginsNumber (take m xs) f.value f.digits)
+    → IfSome r (λ f. BeginsFirst xs f.value f.digits)
+first_found xs m (Some f) high n =
+    first_begins xs (take m xs) (drop m xs) f.value f.digits (sym (take-append-drop m xs))
+    (omega (arith, high, length-take m xs)) n
+first_found xs m None high n = tt

@@ -2,10 +2,11 @@
 use Rattle.std.specs.Prelude.{◌≡◌, [], ◌∷◌, codes, drop, map, refl, Some, None, Ok, Err}
 use Rattle.em_model.specs.declared.command.Command.TheVariants as command
 use Rattle.em_lines.specs.declared.text.FileKind.TheVariants.{Map, Queue, Stab, Dump}
-use Rattle.em_lines.specs.declared.text.TextKind.TheVariants.{BadNumber, TooLarge, BadSeparator, Unknown, EmptyLine, LowAboveHigh, TooLong}
+use Rattle.em_lines.specs.declared.text.TextKind.TheVariants.{BadNumber, TooLarge, BadSeparator, Unknown, EmptyLine, LowAboveHigh, TooLong, OutOfOrder}
+use Rattle.em_lines.specs.BaseLine.{base_fault, base_pairs, numbered_pair, pair_of}
 use Rattle.em_lines.specs.Lines.{lines_of, parts_of}
 use Rattle.em_lines.specs.CommandLine.{command_of, numbered, first_fault, good_commands}
-use Rattle.em_lines.specs.RunSize.{lines_given, syncs_taken}
+use Rattle.em_lines.specs.RunSize.{lines_given, pairs_taken, syncs_taken}
 
 -- How a text is cut.
 
@@ -230,3 +231,87 @@ the_last_line = refl
 
 a_line_too_many : numbered Queue 1099511627777 [] ≡ Err TooLong
 a_line_too_many = refl
+
+-- Bases.
+
+the_pairs_of_a_base : base_pairs (codes "1 2\n3 1\n") ≡ (1, 2) ∷ (3, 1) ∷ []
+the_pairs_of_a_base = refl
+
+no_fault_of_a_base : base_fault (codes "1 2\n3 1\n") ≡ None
+no_fault_of_a_base = refl
+
+a_base_without_newline : base_pairs (codes "1 2\n3 1") ≡ (1, 2) ∷ (3, 1) ∷ []
+a_base_without_newline = refl
+
+no_fault_without_newline : base_fault (codes "1 2\n3 1") ≡ None
+no_fault_without_newline = refl
+
+no_pair_of_the_empty_text : base_pairs [] ≡ []
+no_pair_of_the_empty_text = refl
+
+no_fault_of_an_empty_base : base_fault [] ≡ None
+no_fault_of_an_empty_base = refl
+
+an_equal_key : base_fault (codes "1 2\n1 3\n") ≡ Some (OutOfOrder, 2)
+an_equal_key = refl
+
+a_lesser_key : base_fault (codes "5 1\n6 1\n4 1\n") ≡ Some (OutOfOrder, 3)
+a_lesser_key = refl
+
+the_pairs_before_a_lesser_key : base_pairs (codes "5 1\n6 1\n4 1\n7 1\n") ≡ (5, 1) ∷ (6, 1) ∷ []
+the_pairs_before_a_lesser_key = refl
+
+a_key_of_zero : base_pairs (codes "0 7\n1 0\n") ≡ (0, 7) ∷ (1, 0) ∷ []
+a_key_of_zero = refl
+
+an_empty_line_of_a_base : base_fault (codes "1 2\n\n") ≡ Some (EmptyLine, 2)
+an_empty_line_of_a_base = refl
+
+a_space_before_a_key : base_fault (codes " 1 2") ≡ Some (BadSeparator, 1)
+a_space_before_a_key = refl
+
+two_spaces_before_a_value : base_fault (codes "1  2") ≡ Some (BadSeparator, 1)
+two_spaces_before_a_value = refl
+
+a_space_after_a_value : base_fault (codes "1 2 ") ≡ Some (BadSeparator, 1)
+a_space_after_a_value = refl
+
+a_key_alone : base_fault (codes "1") ≡ Some (BadSeparator, 1)
+a_key_alone = refl
+
+a_third_number : pair_of (codes "1 2 3") ≡ Err BadSeparator
+a_third_number = refl
+
+a_word_for_a_value : base_fault (codes "1 x") ≡ Some (BadNumber, 1)
+a_word_for_a_value = refl
+
+a_command_in_a_base : base_fault (codes "put 1 2\n") ≡ Some (BadNumber, 1)
+a_command_in_a_base = refl
+
+a_key_above_64_bits : base_fault (codes "18446744073709551616 1") ≡ Some (TooLarge, 1)
+a_key_above_64_bits = refl
+
+the_greatest_pair : pair_of (codes "18446744073709551615 18446744073709551615")
+    ≡ Ok (18446744073709551615, 18446744073709551615)
+the_greatest_pair = refl
+
+a_pair_with_leading_zeros : pair_of (codes "007 00000000000000000012") ≡ Ok (7, 12)
+a_pair_with_leading_zeros = refl
+
+-- the order is judged last
+a_word_before_the_order : base_fault (codes "5 1\n4 x") ≡ Some (BadNumber, 2)
+a_word_before_the_order = refl
+
+a_separator_before_the_order_of_keys : base_fault (codes "5 1\n4 1 \n") ≡ Some (BadSeparator, 2)
+a_separator_before_the_order_of_keys = refl
+
+the_last_line_of_a_base : numbered_pair 1099511627776 (Some 4) (codes "5 1") ≡ Ok (5, 1)
+the_last_line_of_a_base = refl
+
+a_line_too_many_of_a_base : numbered_pair 1099511627777 (Some 4) (codes "5 1") ≡ Err TooLong
+a_line_too_many_of_a_base = refl
+
+-- the pairs of a base of which the last line is faulty, with this much of it left
+pairs_of_a_front : map (λ k. pairs_taken (codes "1 2\n3 1\n3 2\n") (drop k (codes "1 2\n3 1\n3 2\n")))
+    (0 ∷ 3 ∷ 4 ∷ 8 ∷ 12 ∷ []) ≡ 0 ∷ 0 ∷ 1 ∷ 2 ∷ 2 ∷ []
+pairs_of_a_front = refl

@@ -13,6 +13,11 @@ pub record BeginsNumber (bytes : List ℕ) (value digits : ℕ) : Type 0 where
   pub word : BeginsWord bytes digits
   pub spells : number_of (word_at bytes) ≡ Ok value
 
+-- a number of at most 20 digits
+pub record BeginsFirst (bytes : List ℕ) (value digits : ℕ) : Type 0 where
+  pub number : BeginsNumber bytes value digits
+  pub few : digits ≤ 20
+
 -- a space, and a number of at most 20 digits
 pub record BeginsOperand (bytes : List ℕ) (value digits : ℕ) : Type 0 where
   pub space : bytes ≡ 32 ∷ drop 1 bytes

@@ -39,8 +39,8 @@ abbrev pub operand : List (List ℕ) → Result ℕ TextKind
 operand [] = Err BadSeparator
 operand (part ∷ parts) = number_of part
 
--- the command, if the line ends after its last operand
-abbrev pub at_end : List (List ℕ) → Command → Result Command TextKind
+-- what was spelled, a command or a pair, if the line ends after its last operand
+abbrev pub at_end : {A : Type 0} → List (List ℕ) → A → Result A TextKind
 at_end [] spelled = Ok spelled
 at_end (part ∷ parts) spelled = Err BadSeparator
 

@@ -1,8 +1,10 @@
 pub mod Ahead
+pub mod BaseLine
 pub mod CommandLine
 pub mod Kind
 pub mod LineTaken
 pub mod Lines
+pub mod PairTaken
 pub mod Reads
 pub mod RunSize
 pub mod Stops

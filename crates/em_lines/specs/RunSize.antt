@@ -6,6 +6,7 @@ use Rattle.em_model.specs.Sync.{syncs_of}
 use Rattle.em_model.specs.declared.command.Command.{Command}
 use Rattle.em_lines.specs.declared.text.FileKind.{FileKind}
 use Rattle.em_lines.specs.declared.text.FileKind.TheVariants.{Map, Queue, Stab, Dump}
+use Rattle.em_lines.specs.BaseLine.{base_pairs}
 use Rattle.em_lines.specs.Lines.{lines_of}
 use Rattle.em_lines.specs.CommandLine.{good_commands}
 
@@ -21,6 +22,10 @@ lines_given given text =
 abbrev pub commands_taken : FileKind → List ℕ → List ℕ → ℕ
 commands_taken kind text left =
     min (lines_given (length text - length left) text) (length (good_commands kind text))
+
+-- how many pairs before the first fault of a base were taken, where this much of it is left on the shelf
+abbrev pub pairs_taken : List ℕ → List ℕ → ℕ
+pairs_taken text left = min (lines_given (length text - length left) text) (length (base_pairs text))
 
 -- how many syncs were taken of a text, where this much of it is left on the shelf
 abbrev pub syncs_taken : FileKind → List ℕ → List ℕ → ℕ

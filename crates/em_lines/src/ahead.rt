@@ -1,7 +1,7 @@
 //! What stands whole in the bytes that a feed has read ahead: a word or an operand, and the space or
 //! newline after it. If none stands there, `word` and `operand` read byte by byte, and find the faults.
 ghost use Rattle.std.specs.Prelude.{◌≡◌, ◌≤◌, length, take, IfSome};
-ghost use Rattle.em_lines.specs.Ahead.{BeginsNumber, BeginsOperand, BeginsWord};
+ghost use Rattle.em_lines.specs.Ahead.{BeginsFirst, BeginsNumber, BeginsOperand, BeginsWord};
 ghost use Rattle.em_lines.specs.Stream.{word_at};
 
 /// The least value after which one more digit may be too many for 64 bits.
@@ -39,6 +39,13 @@ fn number_ahead(bytes: &[u8]) -> Option<Spelled>
         digits += 1;
     }
     None
+}
+
+/// The number that these bytes begin with, as the first of a line.
+pub fn first_ahead(bytes: &[u8]) -> Option<Spelled>
+    ensures { IfSome result (λ found. BeginsFirst bytes.now found.value found.digits) }
+{
+    number_ahead(&bytes[..bytes.len().min(WINDOW - 1)])
 }
 
 /// The operand that these bytes begin with.

@@ -18,29 +18,33 @@ use em_io::{Feed, Shelf};
 use em_model::Command;
 
 /// The last line that a file may have.
-const LAST_LINE: u64 = 1 << 40;
+pub const LAST_LINE: u64 = 1 << 40;
 
 /// More bytes than any word of a table has.
 const LONG_WORD: usize = 5;
 
-/// Reads the line's end after the last operand of a command.
+/// Reads the line's end after the last operand, and answers what was spelled.
 #[tactic(auto, using(crate::proofs::Steps::reads_then, crate::proofs::Steps::reads_take))]
-fn read_end<H: Shelf>(feed: &mut Feed, shelf: &mut H, command: Command) -> Result<Command, LineStop>
+pub fn read_end<H: Shelf, A: Drop>(
+    feed: &mut Feed,
+    shelf: &mut H,
+    spelled: A,
+) -> Result<A, LineStop>
     requires ready { ((H.stand shelf.old).slot feed.old.slot).ready ≡ true }
     requires place { feed.old.place < 2 ^ 48 }
     ensures value { IsTrue H.tells
-        → Gives result (at_end (parts_left (rest feed.old (H.stand shelf.old))) command) }
+        → Gives result (at_end (parts_left (rest feed.old (H.stand shelf.old))) spelled) }
     ensures line { IsTrue H.tells → OnOk result
         (rest feed.new (H.stand shelf.new) ≡ after_line (rest feed.old (H.stand shelf.old))) }
-    ensures command { IfOk result (λ c. c ≡ command) }
+    ensures spelled { IfOk result (λ x. x ≡ spelled) }
     ensures reads { ReadsLine 1 H.tells feed.old (H.stand shelf.old) (H.faults shelf.old)
         feed.new (H.stand shelf.new) (H.faults shelf.new) result }
 {
     match next_byte(feed, shelf)? {
-        None => Ok(command),
+        None => Ok(spelled),
         Some(b'\n') => {
             take_byte(feed);
-            Ok(command)
+            Ok(spelled)
         }
         Some(_) => Err(LineStop::Fault(TextKind::BadSeparator)),
     }

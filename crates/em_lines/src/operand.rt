@@ -1,12 +1,13 @@
-// The operands of a line: a space and a number each.
+// The operands of a line: a space and a number each, and the number that a line may begin with.
 ghost use Rattle.std.specs.Prelude.{◌≡◌, ◌+◌, ◌<◌, ◌≤◌, ◌^◌, true, drop, OnOk, IsTrue};
 ghost use Rattle.em_io.specs.Feed.{rest};
 ghost use Rattle.em_lines.specs.CommandLine.{number_of, operand};
-ghost use Rattle.em_lines.specs.Stream.{after_line, word_at, after_word, parts_left};
+ghost use Rattle.em_lines.specs.Lines.{parts_of};
+ghost use Rattle.em_lines.specs.Stream.{after_line, line_at, word_at, after_word, parts_left};
 ghost use Rattle.em_lines.specs.Stops.{Gives};
 ghost use Rattle.em_lines.specs.Reads.{ReadsLine};
 
-use crate::ahead::operand_ahead;
+use crate::ahead::{first_ahead, operand_ahead};
 use crate::byte::{next_byte, take_byte, take_bytes};
 use crate::numeral::MOST_DIGITS;
 use crate::text::{LineStop, TextKind};
@@ -45,6 +46,29 @@ fn read_number<H: Shelf>(feed: &mut Feed, shelf: &mut H) -> Result<u64, LineStop
         return Err(LineStop::Fault(TextKind::TooLarge));
     }
     Ok(value as u64)
+}
+
+/// Reads the number that a line begins with.
+#[tactic(auto, using(crate::proofs::Steps::reads_skip))]
+pub fn read_first<H: Shelf>(feed: &mut Feed, shelf: &mut H) -> Result<u64, LineStop>
+    requires ready { ((H.stand shelf.old).slot feed.old.slot).ready ≡ true }
+    requires place { feed.old.place < 2 ^ 48 }
+    ensures value { IsTrue H.tells
+        → Gives result (operand (parts_of (line_at (rest feed.old (H.stand shelf.old))))) }
+    ensures parts { IsTrue H.tells → OnOk result (parts_left (rest feed.new (H.stand shelf.new))
+        ≡ drop 1 (parts_of (line_at (rest feed.old (H.stand shelf.old))))) }
+    ensures line { IsTrue H.tells → OnOk result (after_line (rest feed.new (H.stand shelf.new))
+        ≡ after_line (rest feed.old (H.stand shelf.old))) }
+    ensures reads { ReadsLine 20 H.tells feed.old (H.stand shelf.old) (H.faults shelf.old)
+        feed.new (H.stand shelf.new) (H.faults shelf.new) result }
+{
+    match first_ahead(feed.ahead()) {
+        Some(found) => {
+            take_bytes(feed, found.digits);
+            Ok(found.value)
+        }
+        None => read_number(feed, shelf),
+    }
 }
 
 /// Reads the space before an operand, and the operand, byte by byte.

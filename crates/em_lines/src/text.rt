@@ -32,9 +32,11 @@ pub enum TextKind {
     EmptyLine,
     /// The low end of an interval is above its high end.
     LowAboveHigh,
-    /// The line stands past the last one that a file may have: the 2^40th of a command file, the 2^39th of a text of
+    /// The line stands past the last one that a file may have: the 2^40th of a command file or a base, the 2^39th of a text of
     /// numbers.
     TooLong,
+    /// The key of a pair isn't above that of the line before.
+    OutOfOrder,
 }
 
 /// Why a line gave no command.

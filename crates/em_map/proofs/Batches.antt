@@ -100,6 +100,7 @@ is_new {s = s} {t = t} b e f none n =
     let is : IsTrue t.device.told → IsTree map_key_of model least_record None =
     λ told. (n.is.running.stands told).is in
     let none_pushed : (trunk_of b).pushed ≡ 0 = ap (λ (c : TreeCounts). c.n) n.counts in
+    let none_adopted : (trunk_of b).adopted ≡ 0 = ap (λ (c : TreeCounts). c.adopted) n.counts in
     let no_ops : gathered_in b ≡ [] = ap ops_in none in
     let zero : length (gathered_in b) ≡ 0 = ap (λ (xs : List Record). length xs) no_ops in
     let due : IsTrue t.device.told → tree_answers map_key_of (add_step_of (rule_of b)) (given_by t (trunk_of b)) model ≡ [] =
@@ -108,21 +109,23 @@ is_new {s = s} {t = t} b e f none n =
     record {
       is = batch_is t b (record {
         is = n.is;
-        pushed = omega (arith, none_pushed, zero, e, f);
+        entries = omega (arith, none_pushed, none_adopted, zero, e, f);
         longest = let k = ap (λ (c : TreeCounts). c.k) n.counts in omega (arith, k);
         few = omega (arith, e);
+        few_adopted = omega (arith, none_adopted);
         settled = ap (λ (c : TreeCounts). c.y) n.counts ∙ sym f;
         unreset = ap (λ (c : TreeCounts). c.z) n.counts;
-        adopted = ap (λ (c : TreeCounts). c.adopted) n.counts;
+        uncounted = ap (λ (c : TreeCounts). c.counted) n.counts;
         waits = λ told. subst (λ k. WaitsUpTo k model) (let k : 0 ≡ b.calls - length (gathered_in b) = omega (arith, e) in k)
             (no_numbers (rule_of b) model (is told) (n.stored (back told)) (n.waiting (back told)));
-        answers = λ told. let none_due = ap (λ (rs : List Record). length rs) (due told) in omega (arith, none_due);
-      }) (λ plain. none) (λ plain. omega (arith, none_pushed, e, f)) (subst (λ (l : Option GatherState). IfSome l (HasArea t)) (sym none) tt)
+        answers = λ told. let none_due = ap (λ (rs : List Record). length rs) (due told) in omega (arith, none_due, none_adopted);
+      }) (λ plain. none) (λ plain. omega (arith, none_pushed, none_adopted, e, f)) (subst (λ (l : Option GatherState). IfSome l (HasArea t)) (sym none) tt)
           (subst (λ (l : Option GatherState). IfSome l (IsLoad t (entered_of b))) (sym none) tt);
       tree = n;
       none = record {
         calls = omega (arith, e);
         syncs = omega (arith, f);
+        base = omega (arith, none_adopted);
         closed = [];
         unclosed = [];
         parts = refl;
@@ -134,7 +137,7 @@ is_new {s = s} {t = t} b e f none n =
         };
         loads = no_ops ∙ none_held b.early (load_of t.pool.shape);
         size = let left = ap left_of no_ops in let size = none_sized b.early (load_of t.pool.shape) in
-            omega (arith, none_pushed, f, left, size);
+            omega (arith, none_pushed, none_adopted, f, left, size);
       };
       areas = ap areas_in none;
     }
@@ -164,7 +167,7 @@ one_enters apply n op s t v w number waits p = record {
 }
 
 -- What a push of a batch that doesn't join adds early did.
-module _ {F : Type 0} (s t : RigState) (b d : Batch F) (i : IsBatch s b) (plain : b.early ≡ false) (few : b.calls < 2 ^ 40)
+module _ {F : Type 0} (s t : RigState) (b d : Batch F) (i : IsBatch s b) (plain : b.early ≡ false) (few : b.calls < 2 ^ 40 + (trunk_of b).adopted)
     (c : CountsCall (count_push 0) s t (trunk_of b) (trunk_of d)) (rule : d.tree.settle ≡ b.tree.settle)
     (calls : d.calls ≡ b.calls + 1) (syncs : d.syncs ≡ b.syncs) (early : d.early ≡ b.early) (load : d.load ≡ None)
     (sound : Sound s) (op : Record) (number : op.b ≡ b.calls + 1) where
@@ -183,14 +186,17 @@ module _ {F : Type 0} (s t : RigState) (b d : Batch F) (i : IsBatch s b) (plain 
   one_more : (trunk_of d).pushed ≡ (trunk_of b).pushed + 1
   one_more = ap (λ (z : TreeCounts). z.n) c.counts
 
+  same_adopted : (trunk_of d).adopted ≡ (trunk_of b).adopted
+  same_adopted = ap (λ (z : TreeCounts). z.adopted) c.counts
+
   -- a push is the load of one operation
   pushes : CountsPushes 1 s t (trunk_of b) (trunk_of d)
   pushes = counts_then 0 s s t (trunk_of b) (trunk_of b) (trunk_of d) (omega arith) refl refl
       (counts_none s (trunk_of b) sound i.is) c
 
   pub counts_alone : (command : Command) → map_op (b.calls + 1) command ≡ op ∷ [] → CountsCommand command s t b d
-  counts_alone command ops = counts_command command op 1 s s t b d sound i ops pushes
-      refl refl refl (omega (arith, left)) (omega (arith, i.pushed)) calls syncs early sound (λ e. c)
+  counts_alone command ops = counts_command command op 1 s s t b d i ops pushes
+      refl refl refl (omega (arith, left)) (omega (arith, i.entries)) calls syncs early (λ e. c)
 
   module _ (p : ChangesTrunk map_key_of (add_step_of (rule_of b)) IsAddOp IsMapKept (op ∷ []) s t (trunk_of b) (trunk_of d))
     where
@@ -217,7 +223,7 @@ module _ {F : Type 0} (s t : RigState) (b d : Batch F) (i : IsBatch s b) (plain 
           one_more (omega arith) rule calls syncs in
           let no_load : gathered_in d ≡ [] = ap ops_in load in
           batch_is t d (subst (λ (xs : List Record). Stands t d xs) (sym no_load) is) (λ e. load)
-          (λ e. omega (arith, one_more, calls, syncs, i.alone plain))
+          (λ e. omega (arith, one_more, same_adopted, calls, syncs, i.alone plain))
           (subst (λ (l : Option GatherState). IfSome l (HasArea t)) (sym load) tt)
           (subst (λ (l : Option GatherState). IfSome l (IsLoad t (entered_of d))) (sym load) tt)
 
@@ -235,12 +241,12 @@ module _ {F : Type 0} (s t : RigState) (b d : Batch F) (i : IsBatch s b) (plain 
             s (trunk_of b) (b.calls + 1) h.tree
             (subst (λ (xs : List Record). EntersTree (rule_of b) (b.calls + 1) xs s t (trunk_of b) (trunk_of d)) (sym alone)
             enters)
-            (omega (arith, one_more, left)) (ap ops_in load) (λ e. absurd (true≢false (sym e ∙ plain)));
+            (omega (arith, one_more, same_adopted, left)) same_adopted (ap ops_in load) (λ e. absurd (true≢false (sym e ∙ plain)));
       }
 
 -- the same by the result
 pub takes_plain : {F : Type 0} (s t : RigState) (b d : Batch F) (i : IsBatch s b) (plain : b.early ≡ false)
-    (few : b.calls < 2 ^ 40) (c : CountsCall (count_push 0) s t (trunk_of b) (trunk_of d)) (rule : d.tree.settle ≡ b.tree.settle)
+    (few : b.calls < 2 ^ 40 + (trunk_of b).adopted) (c : CountsCall (count_push 0) s t (trunk_of b) (trunk_of d)) (rule : d.tree.settle ≡ b.tree.settle)
     (calls : d.calls ≡ b.calls + 1) (syncs : d.syncs ≡ b.syncs) (early : d.early ≡ b.early) (load : d.load ≡ None)
     (sound : Sound s) (op : Record) (number : op.b ≡ b.calls + 1) (r : Result (Unit {0}) EmFault)
     → PushesOp map_key_of (add_step_of (rule_of b)) IsAddOp IsMapKept op s t (trunk_of b) (trunk_of d) r
@@ -266,7 +272,7 @@ pub push_few : {F : Type 0} (s : RigState) (b : Batch F) → IsBatch s b
     → max (trunk_of b).longest ((trunk_of b).since + 1) ≤ b.calls + 1
 push_few s b i =
     let n = i.longest in
-    let p = i.pushed in
+    let p = i.entries in
     let k = i.is.running.numbers.since_most in
     omega (arith, n, p, k)
 

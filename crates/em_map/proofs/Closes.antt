@@ -1,5 +1,5 @@
 -- A batch whose load enters its tree, and whose area is given back.
-use Rattle.std.specs.Prelude.{◌≡◌, false, ℕ, ◌+◌, ◌≤◌, List, [], ◌++◌, length, IsTrue, Option, None, Some, IfSome}
+use Rattle.std.specs.Prelude.{◌≡◌, false, ℕ, ◌+◌, ◌-◌, ◌≤◌, List, [], ◌++◌, length, IsTrue, Option, None, Some, IfSome}
 use Rattle.std.proofs.Common.{sym, ap, subst, refl, ◌∙◌, arith}
 use Rattle.em_record.specs.declared.record.Record.{Record}
 use Rattle.em_model.specs.declared.command.Command.{Command}
@@ -10,24 +10,25 @@ use Rattle.em_space.specs.declared.fault.EmFault.TheVariants.{DeviceFault, Full,
 use Rattle.em_space.proofs.Paying.{pays_kept, pays_then}
 use Rattle.em_space.proofs.Sessions.{session_none, session_trans}
 use Rattle.em_space.proofs.Steps.{touches_then}
+use Rattle.em_adopt_cost.specs.Shares.{over_share}
 use Rattle.em_tree_cost.specs.Fusing.{synced_share}
 use Rattle.em_tree.specs.Calls.{StopsTrunk}
 use Rattle.em_trunk.specs.Trunk.{TrunkHasFrames}
 use Rattle.em_combine.specs.Gather.{GatherState}
 use Rattle.em_map.specs.Areas.{KeepsAreas, SharesAreas}
-use Rattle.em_map.specs.Batch.{HasArea, IsBatch, IsLoad, StopsBatch, TreeHas, areas_in, areas_of, batch_blocks, batch_spent, entered_of, gathered_in, ops_in, rule_of, trunk_of}
+use Rattle.em_map.specs.Batch.{HasArea, IsBatch, IsLoad, StopsBatch, TreeHas, areas_in, areas_of, batch_blocks, batch_spent, entered_of, entries_of, gathered_in, ops_in, rule_of, trunk_of}
 use Rattle.em_map.specs.Early.{joined_size, left_of}
 use Rattle.em_map.specs.Gathering.{ClosedBatch, CountsClose}
 use Rattle.em_map.specs.Loading.{CountsPushes, EntersTree}
 use Rattle.em_map.specs.declared.batch.Batch.{Batch}
 use Rattle.em_map.proofs.Lent.{MovesPool, blocks_lent, pays_lent, session_lent, stands_lent, tree_lent, used_lent, trunk_lent}
-use Rattle.em_map.proofs.Shares.{pushes_within}
+use Rattle.em_map.proofs.Shares.{pushes_joined, pushes_within}
 use Rattle.em_map.proofs.Stands.{Stands, answers_alike, answers_entered, batch_is, stands_entered, stands_is}
 use Rattle.em_map.proofs.Trees.{tree_closed, tree_takes}
 
 -- a batch that holds no load is one, if its tree and its numbers are
 closed_is : {F : Type 0} (t : RigState) (d : Batch F) → Stands t d [] → d.load ≡ None
-    → (d.early ≡ false → (trunk_of d).pushed + d.syncs ≡ d.calls) → IsBatch t d
+    → (d.early ≡ false → entries_of d + d.syncs ≡ d.calls) → IsBatch t d
 closed_is t d is none alone =
     let no_ops : gathered_in d ≡ [] = ap ops_in none in
     batch_is t d (subst (λ (xs : List Record). Stands t d xs) (sym no_ops) is) (λ e. none) alone
@@ -45,12 +46,13 @@ closed_none s b dest sound i e none =
     record {
       is = closed_is s (record b { load = dest }) (record {
         is = is.is;
-        pushed = is.pushed;
+        entries = is.entries;
         longest = is.longest;
         few = is.few;
+        few_adopted = is.few_adopted;
         settled = is.settled;
         unreset = is.unreset;
-        adopted = is.adopted;
+        uncounted = is.uncounted;
         waits = is.waits;
         answers = is.answers;
       }) none i.alone;
@@ -59,7 +61,7 @@ closed_none s b dest sound i e none =
       frames = record { shape = refl; free = refl; areas = omega (arith, n); rack = refl; peak = omega arith };
       pays = pays_kept _ (omega arith) (omega arith);
       loses = λ told. refl;
-      pushed = omega (arith, left);
+      entries = omega (arith, left);
       answers = λ told. omega arith;
       tree = λ before cs h. subst (λ (xs : List Command). TreeHas (rule_of b) s (trunk_of b) before xs) (sym h.parts)
           (tree_closed (rule_of b) s (trunk_of b) before h.closed h.unclosed (sym no_ops ∙ h.gathered) h.tree);
@@ -67,22 +69,29 @@ closed_none s b dest sound i e none =
     }
 
 -- The numbers, if at most n operations entered the tree, which joining left of those that were gathered.
-pub counts_close : {F : Type 0} (n : ℕ) (s m t : RigState) (b d : Batch F) → Sound s → IsBatch s b
+pub counts_close : {F : Type 0} (n : ℕ) (s m t : RigState) (b d : Batch F) → IsBatch s b
     → CountsPushes n s m (trunk_of b) (trunk_of d) → t.moves ≡ m.moves → n ≤ left_of (gathered_in b)
     → n ≤ length (gathered_in b) → d.calls ≡ b.calls → d.syncs ≡ b.syncs → d.early ≡ b.early → CountsClose s t b d
-counts_close n s m t b d sound i p moves few short calls syncs early =
+counts_close n s m t b d i p moves few short calls syncs early =
     let since = i.is.running.numbers.since_most in
+    let v = trunk_of b in
+    let C : ℕ → ℕ → ℕ → Type 0 = λ a N y. batch_spent d ≤ over_share s.pool.shape a (N - a) y in
     let S : ℕ → ℕ → Type 0 = λ N y. batch_spent d ≤ synced_share s.pool.shape N y in
-    let shared : (N : ℕ) → (trunk_of b).pushed + n ≤ N → IsTrue s.device.told → S N d.syncs =
-    λ N most z. subst (S N) (sym syncs) (let w = pushes_within n N b.syncs s m (trunk_of b) (trunk_of d) sound p since
-    i.longest i.unreset i.settled (omega (arith, i.adopted, i.is.running.numbers.counted_most)) most z in omega (arith, w, syncs)) in
+    let within = pushes_within n b.calls b.syncs s m v (trunk_of d) p since i.longest i.unreset i.settled i.uncounted
+    (omega (arith, short, i.entries)) in
+    let joined : (N : ℕ) → entries_of b + n ≤ N → IsTrue s.device.told → S N d.syncs =
+    λ N most z. subst (S N) (sym syncs) (let w = pushes_joined n N b.syncs s m v (trunk_of d) p since
+    i.longest i.unreset i.settled i.uncounted most z in omega (arith, w, syncs)) in
     record {
       calls = calls;
       syncs = syncs;
       early = early;
+      adopted = p.adopted;
       moves = let e = p.spent in omega (arith, e, moves, syncs);
-      share = shared d.calls (omega (arith, short, i.pushed, calls));
-      joined = λ z before cs h. shared (joined_size b.early (load_of s.pool.shape) (before ++ cs))
+      share = λ z. subst (λ (a : ℕ). C a d.calls d.syncs) (sym p.adopted)
+          (subst (λ (N : ℕ). C v.adopted N d.syncs) (sym calls) (subst (C v.adopted b.calls) (sym syncs)
+          (let w = within z in omega (arith, w, syncs))));
+      joined = λ z before cs h. joined (joined_size b.early (load_of s.pool.shape) (before ++ cs))
           (let size = h.size in omega (arith, size, few)) z;
     }
 
@@ -138,7 +147,7 @@ module _ {F : Type 0} (s m t : RigState) (b d : Batch F) (load : GatherState) (s
               let held = blocks_lent m t (trunk_of d) back e.is (e.session.touches.told ∙ told) in
               let used = used_lent m t (trunk_of d) back e.is in
               omega (arith, lost, held, used);
-          pushed = omega (arith, pushed, left);
+          entries = omega (arith, pushed, counts.adopted, left);
           answers = λ told.
               let r = (trunk_lent m t (trunk_of d) back e.is).reads (e.session.touches.told ∙ told) in
               let same = answers_alike (rule_of b) m t (trunk_of d) r.model r.given in

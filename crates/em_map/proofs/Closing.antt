@@ -10,7 +10,7 @@ use Rattle.em_space.specs.declared.fault.EmFault.{EmFault}
 use Rattle.em_space.proofs.Steps.{goes_nothing}
 use Rattle.em_trunk.specs.Trunk.{TrunkHasFrames}
 use Rattle.em_combine.specs.Gather.{GatherState}
-use Rattle.em_map.specs.Batch.{BatchOver, BatchWithin, HasArea, IsBatch, batch_blocks, entered_of, gathered_in, ops_in, rule_of, trunk_of}
+use Rattle.em_map.specs.Batch.{BatchOver, BatchWithin, HasArea, IsBatch, batch_blocks, entered_of, entries_of, gathered_in, ops_in, rule_of, trunk_of}
 use Rattle.em_map.specs.Early.{left_of}
 use Rattle.em_map.specs.Gathering.{CanEnter, ClosesBatch, CountsClose, EntersBatch}
 use Rattle.em_map.specs.Loading.{CountsPushes, LoadOver, LoadWithin, answers_in}
@@ -61,12 +61,13 @@ module _ {F : Type 0} (s : RigState) (b : Batch F) (load : GatherState) (sound :
       let ops : AreOps (b.calls - length load.items) load.items = subst (λ (k : ℕ). AreOps k load.items) n old in
       can_enter s (record b { load = dest }) load.items (record {
         is = is.is;
-        pushed = is.pushed;
+        entries = is.entries;
         longest = is.longest;
         few = is.few;
+        few_adopted = is.few_adopted;
         settled = is.settled;
         unreset = is.unreset;
-        adopted = is.adopted;
+        uncounted = is.uncounted;
         waits = is.waits;
         answers = is.answers;
       }) ops
@@ -118,7 +119,7 @@ module _ {F : Type 0} (s : RigState) (b : Batch F) (load : GatherState) (sound :
           let left : left_of (gathered_in b) ≡ left_of load.items = ap left_of items in
           let long = ap (λ (xs : List Record). length xs) items in
           let few = left_few load.items in
-          counts_close (left_of load.items) s m t b d sound i counts (ap (λ (x : RigState). x.moves) given)
+          counts_close (left_of load.items) s m t b d i counts (ap (λ (x : RigState). x.moves) given)
           (omega (arith, left)) (omega (arith, few, long)) calls syncs (ap (λ (x : Batch F). x.early) rest)
 
       by : (r : Result T EmFault) → EntersBatch load.items s m (record b { load = dest }) d r → ClosesBatch s t b d r
@@ -141,18 +142,18 @@ module _ {F : Type 0} (s : RigState) (b : Batch F) (load : GatherState) (sound :
     some_to h = subst (λ (xs : List Record). IfErr r (λ fault. 0 < length xs)) (sym items) h
 
     abbrev k : ℕ
-    k = (trunk_of b).pushed + length load.items
+    k = entries_of b + length load.items
 
     abbrev g : ℕ
     g = answers_in (rule_of b) s (trunk_of b) + length load.items
 
     k_few : k ≤ b.calls
-    k_few = let long = ap (λ (xs : List Record). length xs) items in omega (arith, long, i.pushed)
+    k_few = let long = ap (λ (xs : List Record). length xs) items in omega (arith, long, i.entries)
 
     g_few : g ≤ answers_in (rule_of b) s (trunk_of b) + (b.calls - entered_of b)
     g_few =
         let long = ap (λ (xs : List Record). length xs) items in
-        omega (arith, long, i.pushed)
+        omega (arith, long, i.entries)
 
     pub room_closed : (IsTrue s.device.told → LoadWithin k g s m (trunk_of b)) → IsTrue s.device.told
         → BatchWithin b.calls s t b

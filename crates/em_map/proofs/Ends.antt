@@ -1,11 +1,9 @@
 -- A sync and the end of a batch, whose load entered its tree first.
-use Rattle.std.specs.Prelude.{◌≡◌, Bool, false, ℕ, ◌+◌, ◌-◌, ◌*◌, ◌<◌, ◌≤◌, List, [], ◌∷◌, ◌++◌, length, IsTrue, Option, IfSome, IfErr, Result, Ok, Err}
+use Rattle.std.specs.Prelude.{◌≡◌, Bool, false, ℕ, ◌+◌, ◌-◌, ◌<◌, ◌≤◌, List, [], ◌∷◌, ◌++◌, length, IsTrue, Option, IfSome, IfErr, Result, Ok, Err}
 use Rattle.std.proofs.Common.{sym, ap, subst, refl, ◌∙◌, arith}
 use Rattle.std.specs.List.Sorted.{IsPermutation}
-use Rattle.std.proofs.Math.Nat.{mul-le-mul}
 use Rattle.std.proofs.lemmas.List.{append-nil, length-append}
 use Rattle.std.proofs.lemmas.List.Sorted.{IsPermutation-trans}
-use Rattle.em_record.specs.Cost.{blocks_of}
 use Rattle.em_record.specs.Order.{in_order}
 use Rattle.em_record.specs.Shape.{IsShape, ShapeNumbers}
 use Rattle.em_record.specs.declared.record.Record.{Record}
@@ -27,9 +25,9 @@ use Rattle.em_space.proofs.Steps.{cause_after, touches_pool, touches_then}
 use Rattle.em_space.proofs.Within.{touches_within}
 use Rattle.em_chain.specs.Chain.{chain_items}
 use Rattle.em_chain.specs.declared.chain.Chain.{Chain}
+use Rattle.em_adopt_cost.specs.Shares.{over_share}
 use Rattle.em_tree_cost.specs.Books.{count_settle}
 use Rattle.em_tree_cost.specs.Fusing.{synced_share}
-use Rattle.em_tree_cost.specs.Shares.{floors_of}
 use Rattle.em_tree_model.specs.Tree.{Tree, waiting_in}
 use Rattle.em_tree_outline.specs.Outline.{outline_of}
 use Rattle.em_tree_trim.specs.Trim.{IsTrim}
@@ -40,7 +38,7 @@ use Rattle.em_trunk.specs.Trunk.{counts_of, root_of}
 use Rattle.em_trunk.specs.declared.trunk.Trunk.{Trunk}
 use Rattle.em_combine.specs.Gather.{GatherState}
 use Rattle.em_map.specs.Areas.{KeepsAreas, SharesAreas}
-use Rattle.em_map.specs.Batch.{BatchCosts, BatchOver, BatchWithin, CountsSync, FinishesBatch, HasArea, HasCommands, IsBatch, LeavesBatch, StopsBatch, SyncNeedsMore, SyncedBatch, SyncsBatch, TreeHas, UnfinishedBatch, areas_in, areas_of, batch_blocks, batch_spent, batch_unstored, gathered_in, ops_in, rule_of, trunk_of}
+use Rattle.em_map.specs.Batch.{BatchCosts, BatchOver, BatchWithin, CountsSync, FinishesBatch, HasArea, HasCommands, IsBatch, LeavesBatch, StopsBatch, SyncNeedsMore, SyncedBatch, SyncsBatch, TreeHas, UnfinishedBatch, areas_in, areas_of, batch_blocks, batch_spent, batch_unstored, calls_share, entries_of, gathered_in, ops_in, rule_of, trunk_of}
 use Rattle.em_map.specs.Early.{gathered_after, joined_size, left_of}
 use Rattle.em_map.specs.Gathering.{ClosedBatch, CountsClose, CountsTree, SyncedTree, SyncsTree}
 use Rattle.em_map.specs.Loading.{answers_in}
@@ -54,17 +52,8 @@ use Rattle.em_map.proofs.Lent.{MovesPool, trunk_lent}
 use Rattle.em_map.proofs.Ordered.{in_order_of}
 use Rattle.em_map.proofs.Rooms.{full_given, given_counted, then_over, then_within}
 use Rattle.em_map.proofs.Rules.{same_rule, tree_by}
-use Rattle.em_map.proofs.Shares.{synced_share_rises, within_batch}
+use Rattle.em_map.proofs.Shares.{calls_more, calls_rise, calls_within, sync_more, synced_share_rises, within_calls}
 use Rattle.em_map.proofs.Sizes.{held_after_sync}
-
--- a sync more allows a move more
-sync_more : (shape : ShapeNumbers) (n y : ℕ) → synced_share shape n y + 1 ≤ synced_share shape n (y + 1)
-sync_more shape n y =
-    let q = blocks_of shape n + 1 in
-    let f = floors_of shape n in
-    let low : 1 ≤ 248 * q * f = mul-le-mul {n₁ = 1} {m₁ = 1} {n₂ = 248 * q} {m₂ = f} (omega arith) (omega arith) in
-    let all : 248 * (y + 1 + 1) * q * f ≡ 248 * (y + 1) * q * f + 248 * q * f = omega arith in
-    omega (arith, low, all)
 
 -- The load of a batch entered its tree.
 module _ {F : Type 0} (s m : RigState) (b x : Batch F) (sound : Sound s) (i : IsBatch s b) (closed : ClosedBatch s m b x)
@@ -100,22 +89,22 @@ module _ {F : Type 0} (s m : RigState) (b x : Batch F) (sound : Sound s) (i : Is
     pub counts_synced : CountsSync s t b d
     counts_synced =
         let S : ShapeNumbers → ℕ → Type 0 = λ q N. batch_spent d ≤ synced_share q N d.syncs in
-        let pushed = closed.pushed in
+        let entries = closed.entries in
         record {
           calls = omega (arith, k.calls, n.calls);
           syncs = omega (arith, k.syncs, n.syncs);
           early = k.early ∙ n.early;
+          adopted = k.adopted ∙ n.adopted;
           counts = λ e. k.counts
               ∙ ap (λ (v : Trunk). count_settle 0 (record (counts_of v) { spent = (trunk_of d).spent })) (plain_same e);
           moves = omega (arith, k.moves, n.moves);
-          share = λ told. subst (λ (q : ShapeNumbers). S q d.calls) shape
-              (k.share (told_m told) d.calls (let p = closed.is.pushed in omega (arith, p, k.calls)));
+          share = λ told. subst (λ (q : ShapeNumbers). batch_spent d ≤ calls_share q d) shape (k.share (told_m told));
           joined = λ told before cs h.
               let one = joined_sync b.early (load_of s.pool.shape) (before ++ cs) in
               let size = h.size in
               subst (λ (q : ShapeNumbers). S q (joined_size b.early (load_of s.pool.shape) (before ++ cs ++ Sync ∷ []))) shape
-              (k.share (told_m told) (joined_size b.early (load_of s.pool.shape) (before ++ cs ++ Sync ∷ []))
-              (omega (arith, one, size, pushed, n.syncs)));
+              (k.joined (told_m told) (joined_size b.early (load_of s.pool.shape) (before ++ cs ++ Sync ∷ []))
+              (omega (arith, one, size, entries, n.syncs)));
         }
 
     none_d : areas_of d ≡ 0
@@ -124,13 +113,13 @@ module _ {F : Type 0} (s m : RigState) (b x : Batch F) (sound : Sound s) (i : Is
     has_synced : (before cs : List Command) → HasCommands s b before cs
         → SharesAreas (areas_of b) 0 s.pool t.pool
         → TreeHas (rule_of x) t (trunk_of d) (before ++ cs ++ Sync ∷ []) []
-        → (trunk_of d).pushed ≡ (trunk_of x).pushed → HasCommands t d (before ++ cs ++ Sync ∷ []) []
-    has_synced before cs h frames tree pushed =
+        → entries_of d ≡ entries_of x → HasCommands t d (before ++ cs ++ Sync ∷ []) []
+    has_synced before cs h frames tree entries =
         let all = before ++ cs ++ Sync ∷ [] in
         let nil = append-nil all in
         let one = joined_sync b.early (load_of s.pool.shape) (before ++ cs) in
         let size = h.size in
-        let before_pushed = closed.pushed in
+        let before_entries = closed.entries in
         let empty : gathered_in d ≡ [] = ap ops_in k.none in
         let zero : left_of (gathered_in d) ≡ 0 = ap left_of empty in
         let held : [] ≡ gathered_after d.early (load_of t.pool.shape) (all ++ []) =
@@ -140,11 +129,13 @@ module _ {F : Type 0} (s m : RigState) (b x : Batch F) (sound : Sound s) (i : Is
         ap (λ (e : Bool). joined_size e (load_of s.pool.shape) all) (sym (k.early ∙ n.early))
         ∙ ap (λ (q : ShapeNumbers). joined_size d.early (load_of q) all) (sym frames.shape)
         ∙ ap (joined_size d.early (load_of t.pool.shape)) (sym nil) in
-        let total : (trunk_of d).pushed + d.syncs + left_of (gathered_in d) ≡ joined_size b.early (load_of s.pool.shape) all =
-        omega (arith, pushed, before_pushed, k.syncs, n.syncs, zero, one, size) in
+        let total : entries_of d + d.syncs + left_of (gathered_in d) ≡ joined_size b.early (load_of s.pool.shape) all =
+        omega (arith, entries, before_entries, k.syncs, n.syncs, zero, one, size) in
         record {
           calls = omega (arith, k.calls, n.calls, h.calls, length-append before cs, length-append (before ++ cs) (Sync ∷ []));
           syncs = omega (arith, k.syncs, n.syncs, h.syncs, syncs-append before cs, syncs-append (before ++ cs) (Sync ∷ []));
+          base = let adopted : (trunk_of d).adopted ≡ (trunk_of b).adopted = k.adopted ∙ n.adopted in
+              omega (arith, adopted, h.base, k.calls, n.calls);
           closed = [];
           unclosed = [];
           parts = refl;
@@ -168,7 +159,7 @@ module _ {F : Type 0} (s m : RigState) (b x : Batch F) (sound : Sound s) (i : Is
           areas = none_d;
           pays = pays_then closed.pays p.pays p.session.touches.moves;
           loses = λ z. let a = closed.loses z in let e = p.loses (told_m z) in omega (arith, a, e);
-          commands = λ before cs h. has_synced before cs h frames (p.tree before cs (tree_x before cs h)) p.pushed;
+          commands = λ before cs h. has_synced before cs h frames (p.tree before cs (tree_x before cs h)) p.entries;
           answers = λ z before cs h. subst (λ (f : Combiner). IsPermutation (answers_after f before cs) (chain_items t c))
               (same_rule b x rule) (p.answers (told_m z) before cs (tree_x before cs h));
           ordered = λ z before cs h. subst (λ (f : Combiner). in_order (chain_items t c) ≡ answers_after f before cs)
@@ -218,7 +209,7 @@ module _ {F : Type 0} (s m : RigState) (b x : Batch F) (sound : Sound s) (i : Is
 
   module _ (t : RigState) where
     k_most : (trunk_of x).longest ≤ b.calls
-    k_most = omega (arith, closed.is.longest, closed.is.pushed, n.calls)
+    k_most = omega (arith, closed.is.longest, closed.is.entries, n.calls)
 
     pub room_then : (IsTrue s.device.told → BatchWithin b.calls s m b)
         → (IsTrue m.device.told → WithinRoom (trunk_of x).longest m t (trunk_of x))
@@ -277,52 +268,63 @@ module _ {F : Type 0} (s m : RigState) (b x : Batch F) (sound : Sound s) (i : Is
   pub costs_finished : (t : RigState) → FinishCosts m t (trunk_of x) → BatchCosts s t b
   costs_finished t f =
       let first = closed.session.touches.moves in
-      let S : ShapeNumbers → ℕ → Type 0 = λ q N. (trunk_of x).spent + (t.moves - m.moves) + x.syncs ≤ synced_share q N x.syncs in
-      let most = closed.is.longest in
-      let all : (N : ℕ) → (trunk_of x).pushed ≤ N → IsTrue s.device.told → S s.pool.shape N = λ N few told.
-      subst (λ (q : ShapeNumbers). S q N) shape
-      (within_batch m.pool.shape ((trunk_of x).pushed + (trunk_of x).counted) N (trunk_of x).longest (trunk_of x).resets ((trunk_of x).settled + 1)
-      x.syncs ((trunk_of x).spent + (t.moves - m.moves)) x.syncs closed.session.sound.shape
-      (omega (arith, few, closed.is.adopted, closed.is.is.running.numbers.counted_most)) (omega (arith, most, few))
-      closed.is.unreset (omega (arith, closed.is.settled)) (f.share (told_m told)).within (omega arith)) in
-      let P : ℕ → ℕ → Type 0 = λ N y. batch_spent b + (t.moves - s.moves) ≤ synced_share s.pool.shape N y in
-      let shared : (N : ℕ) → (trunk_of x).pushed ≤ N → IsTrue s.device.told → P N b.syncs = λ N few told.
-      subst (P N) n.syncs
-      (let a = all N few told in omega (arith, a, first, f.later, n.moves)) in
+      let a = (trunk_of x).adopted in
+      let spent = (trunk_of x).spent + (t.moves - m.moves) in
+      let C : ℕ → ℕ → ℕ → Type 0 = λ p N y. batch_spent b + (t.moves - s.moves) ≤ over_share s.pool.shape p (N - p) y in
+      let within : (N : ℕ) → entries_of x ≤ N → IsTrue s.device.told → C a N b.syncs = λ N few told.
+      let all : spent + x.syncs ≤ over_share s.pool.shape a (N - a) x.syncs =
+      subst (λ (q : ShapeNumbers). spent + x.syncs ≤ over_share q a (N - a) x.syncs) shape
+      (within_calls m.pool.shape a ((trunk_of x).pushed + (trunk_of x).counted) N (trunk_of x).longest (trunk_of x).resets
+      ((trunk_of x).settled + 1) x.syncs spent x.syncs (omega (arith, few, closed.is.uncounted))
+      (omega (arith, closed.is.longest, few)) closed.is.unreset (omega (arith, closed.is.settled)) (f.share (told_m told)).within
+      (omega arith)) in
+      subst (C a N) n.syncs (omega (arith, all, first, f.later, n.moves)) in
       record {
         later = omega (arith, first, f.later);
-        share = shared b.calls (omega (arith, closed.is.pushed, n.calls));
-        joined = λ told before cs h. shared (joined_size b.early (load_of s.pool.shape) (before ++ cs))
-            (let size = h.size in let pushed = closed.pushed in omega (arith, size, pushed)) told;
+        share = λ told. subst (λ (p : ℕ). C p b.calls b.syncs) n.adopted
+            (within b.calls (omega (arith, closed.is.entries, n.calls)) told);
+        joined = λ told before cs h.
+            let N = joined_size b.early (load_of s.pool.shape) (before ++ cs) in
+            let size = h.size in
+            let entries = closed.entries in
+            let few : entries_of x ≤ N = omega (arith, size, entries) in
+            let all = within N few told in
+            let rest = calls_within s.pool.shape a N b.syncs (omega (arith, few)) in
+            omega (arith, all, rest);
       }
 
 -- The load couldn't enter the tree.
 module _ {F : Type 0} (s m : RigState) (b x : Batch F) (i : IsBatch s b) (n : CountsClose s m b x) (fault : EmFault)
     (stops : StopsBatch s m b x fault) where
   -- the sync was counted
-  pub counts_unclosed : 0 < length (gathered_in b) → (d : Batch F) → (trunk_of d).spent ≡ (trunk_of x).spent → d.calls ≡ x.calls + 1
+  pub counts_unclosed : 0 < length (gathered_in b) → (d : Batch F) → (trunk_of d).spent ≡ (trunk_of x).spent
+      → (trunk_of d).adopted ≡ (trunk_of x).adopted → d.calls ≡ x.calls + 1
       → d.syncs ≡ x.syncs + 1 → d.early ≡ x.early → CountsSync s m b d
-  counts_unclosed some d spent calls syncs early =
-      let more : (N M : ℕ) → N ≤ M → batch_spent x ≤ synced_share s.pool.shape N x.syncs
-      → batch_spent d ≤ synced_share s.pool.shape M d.syncs = λ N M h w.
-      let one = sync_more s.pool.shape N x.syncs in
-      let rises = synced_share_rises s.pool.shape N M (x.syncs + 1) d.syncs h (omega (arith, syncs)) in
-      omega (arith, w, one, rises, spent, syncs) in
-      record {
-        calls = omega (arith, calls, n.calls);
-        syncs = omega (arith, syncs, n.syncs);
-        early = early ∙ n.early;
-        counts = λ e.
-            let zero = ap (λ (l : Option GatherState). length (ops_in l)) (i.plain e) in
-            absurd (omega (arith, some, zero));
-        moves = omega (arith, n.moves, spent, syncs);
-        share = λ told. more x.calls d.calls (omega (arith, calls)) (n.share told);
-        joined = λ told before cs h.
-            let one = joined_sync b.early (load_of s.pool.shape) (before ++ cs) in
-            more (joined_size b.early (load_of s.pool.shape) (before ++ cs))
-            (joined_size b.early (load_of s.pool.shape) (before ++ cs ++ Sync ∷ [])) (omega (arith, one))
-            (n.joined told before cs h);
-      }
+  counts_unclosed some d spent adopted calls syncs early = record {
+    calls = omega (arith, calls, n.calls);
+    syncs = omega (arith, syncs, n.syncs);
+    early = early ∙ n.early;
+    adopted = adopted ∙ n.adopted;
+    counts = λ e.
+        let zero = ap (λ (l : Option GatherState). length (ops_in l)) (i.plain e) in
+        absurd (omega (arith, some, zero));
+    moves = omega (arith, n.moves, spent, syncs);
+    share = λ told.
+        let a = (trunk_of x).adopted in
+        let w = n.share told in
+        let one = calls_more s.pool.shape a (x.calls - a) x.syncs in
+        let rises = calls_rise s.pool.shape a x.calls d.calls (x.syncs + 1) d.syncs (omega (arith, calls)) (omega (arith, syncs)) in
+        subst (λ (p : ℕ). batch_spent d ≤ over_share s.pool.shape p (d.calls - p) d.syncs) (sym adopted)
+        (omega (arith, w, one, rises, spent, syncs));
+    joined = λ told before cs h.
+        let N = joined_size b.early (load_of s.pool.shape) (before ++ cs) in
+        let M = joined_size b.early (load_of s.pool.shape) (before ++ cs ++ Sync ∷ []) in
+        let size = joined_sync b.early (load_of s.pool.shape) (before ++ cs) in
+        let w = n.joined told before cs h in
+        let one = sync_more s.pool.shape N x.syncs in
+        let rises = synced_share_rises s.pool.shape N M (x.syncs + 1) d.syncs (omega (arith, size)) (omega (arith, syncs)) in
+        omega (arith, w, one, rises, spent, syncs);
+  }
 
   module _ (t : RigState) (leaves : LeavesBatch m t x) where
     pub unfinished : UnfinishedBatch s t b fault
@@ -337,20 +339,24 @@ module _ {F : Type 0} (s m : RigState) (b x : Batch F) (i : IsBatch s b) (n : Co
     }
 
     pub full_unclosed : 0 < length (gathered_in b) → IfFull fault (λ _. 0 < b.calls)
-    full_unclosed some = if_full (0 < b.calls) fault (omega (arith, some, i.pushed))
+    full_unclosed some = if_full (0 < b.calls) fault (omega (arith, some, i.entries))
 
     pub costs_unclosed : BatchCosts s t b
     costs_unclosed =
         let same : t.moves ≡ m.moves = ap (λ (z : RigState). z.moves) leaves.same in
         let first = stops.goes.touches.moves in
-        let P : ℕ → ℕ → Type 0 = λ N y. batch_spent b + (t.moves - s.moves) ≤ synced_share s.pool.shape N y in
-        let shared : (N : ℕ) → batch_spent x ≤ synced_share s.pool.shape N x.syncs → P N b.syncs = λ N w.
-        subst (P N) n.syncs (omega (arith, w, same, first, n.moves)) in
+        let P : ℕ → Type 0 = λ N. batch_spent b + (t.moves - s.moves) ≤ N in
+        let moved : (N : ℕ) → batch_spent x ≤ N → P N = λ N w. omega (arith, w, same, first, n.moves) in
         record {
           later = omega (arith, same, first);
-          share = λ told. subst (λ (N : ℕ). P N b.syncs) n.calls (shared x.calls (n.share told));
-          joined = λ told before cs h. shared (joined_size b.early (load_of s.pool.shape) (before ++ cs))
-              (n.joined told before cs h);
+          share = λ told. subst (λ (a : ℕ). P (over_share s.pool.shape a (b.calls - a) b.syncs)) n.adopted
+              (subst (λ (N : ℕ). P (over_share s.pool.shape (trunk_of x).adopted (N - (trunk_of x).adopted) b.syncs)) n.calls
+              (subst (λ (y : ℕ). P (over_share s.pool.shape (trunk_of x).adopted (x.calls - (trunk_of x).adopted) y)) n.syncs
+              (moved (calls_share s.pool.shape x) (n.share told))));
+          joined = λ told before cs h.
+              let N = joined_size b.early (load_of s.pool.shape) (before ++ cs) in
+              subst (λ (y : ℕ). P (synced_share s.pool.shape N y)) n.syncs
+              (moved (synced_share s.pool.shape N x.syncs) (n.joined told before cs h));
         }
 
     pub room_unclosed : (IsTrue s.device.told → BatchWithin b.calls s m b) → IsTrue s.device.told

@@ -90,9 +90,9 @@ entered_batch b d items left s t assoc can j p = record {
 
 -- The room of what is left of a load is within that of the load.
 module _ (apply : Combiner) (items left : List Record) (s : RigState) (v : Trunk) (sound : Sound s)
-    (is : IsTrunk map_key_of IsAddOp IsMapKept s v) (most : v.longest ≤ v.pushed) (j : JoinsLoad apply items left)
+    (is : IsTrunk map_key_of IsAddOp IsMapKept s v) (most : v.longest ≤ v.pushed + v.adopted) (j : JoinsLoad apply items left)
     (told : IsTrue s.device.told) where
-  far : max v.longest (v.since + length left) ≤ v.pushed + length items
+  far : max v.longest (v.since + length left) ≤ v.pushed + v.adopted + length items
   far =
       let few = joined_few apply items left j in
       omega (arith, few, most, is.running.numbers.since_most)
@@ -104,12 +104,12 @@ module _ (apply : Combiner) (items left : List Record) (s : RigState) (v : Trunk
 
   pub room_entered : (t : RigState)
       → LoadWithin (max v.longest (v.since + length left)) (answers_in apply s v + length left) s t v
-      → LoadWithin (v.pushed + length items) (answers_in apply s v + length items) s t v
-  room_entered t r = room_wider (max v.longest (v.since + length left)) (v.pushed + length items)
+      → LoadWithin (v.pushed + v.adopted + length items) (answers_in apply s v + length items) s t v
+  room_entered t r = room_wider (max v.longest (v.since + length left)) (v.pushed + v.adopted + length items)
       (answers_in apply s v + length left) (answers_in apply s v + length items) s t v sound.shape far more r
 
   pub over_entered : (fault : EmFault)
       → LoadOver (max v.longest (v.since + length left)) (answers_in apply s v + length left) s v fault
-      → LoadOver (v.pushed + length items) (answers_in apply s v + length items) s v fault
-  over_entered fault r = over_wider (max v.longest (v.since + length left)) (v.pushed + length items)
+      → LoadOver (v.pushed + v.adopted + length items) (answers_in apply s v + length items) s v fault
+  over_entered fault r = over_wider (max v.longest (v.since + length left)) (v.pushed + v.adopted + length items)
       (answers_in apply s v + length left) (answers_in apply s v + length items) s v fault sound.shape far more r

@@ -13,7 +13,7 @@ use Rattle.em_tree.specs.Calls.{StopsTrunk}
 use Rattle.em_trunk.specs.declared.trunk.Trunk.{Trunk}
 use Rattle.em_combine.specs.Gather.{GatherState}
 use Rattle.em_combine.specs.Joining.{IsAfter}
-use Rattle.em_map.specs.Batch.{BatchOver, BatchWithin, CommandNeedsMore, CountsCommand, FollowFrom, HasArea, IsBatch, TakesCommand, TakesTo, entered_of, gathered_in, rule_of, trunk_of}
+use Rattle.em_map.specs.Batch.{BatchOver, BatchWithin, CommandNeedsMore, CountsCommand, FollowFrom, HasArea, IsBatch, TakesCommand, TakesTo, entered_of, entries_of, gathered_in, rule_of, trunk_of}
 use Rattle.em_map.specs.Commands.{map_op}
 use Rattle.em_map.specs.Early.{left_of}
 use Rattle.em_map.specs.Gathering.{CanEnter, EntersBatch, TakesLoad}
@@ -49,9 +49,9 @@ module _ {F : Type 0} (s m : RigState) (b x : Batch F) (first : GatherState) (so
       let ops = load_ops s (entered_of b) b.load i.load in
       let calls : x.calls ≡ b.calls = ap (λ (d : Batch F). d.calls) takes.is in
       subst (λ (xs : List Record). IsAfter xs (x.calls + 1)) (sym takes.items)
-      (is_after (entered_of b) (x.calls + 1) (gathered_in b) ops.follow (omega (arith, calls, i.pushed)))
+      (is_after (entered_of b) (x.calls + 1) (gathered_in b) ops.follow (omega (arith, calls, i.entries)))
 
-  module _ (op : Record) (early : b.early ≡ true) (few : b.calls < 2 ^ 40) (is_op : IsAddOp op)
+  module _ (op : Record) (early : b.early ≡ true) (few : b.calls < 2 ^ 40 + (trunk_of b).adopted) (is_op : IsAddOp op)
       (number : op.b ≡ b.calls + 1) (load : GatherState)
       (pushed : load ≡ record first { items = first.items ++ op ∷ [] }) where
     -- the batch with the number counted
@@ -113,7 +113,7 @@ module _ {F : Type 0} (s m : RigState) (b x : Batch F) (first : GatherState) (so
         (stands_lent s m b (gathered_in b) lent (stands_is s b i)) in
         let all = all_ops s m b (record counted { load = Some load }) load op sound i early few lent takes.frames area_is is_op
         number calls_are syncs_are early_is (ap (λ (z : _). z.settle) tree_is) refl in
-        let n : entered_of b ≡ counted.calls - length load.items = omega (arith, calls_are, longer, i.pushed) in
+        let n : entered_of b ≡ counted.calls - length load.items = omega (arith, calls_are, longer, i.entries) in
         can_enter m counted load.items (subst (λ (xs : List Record). Stands m counted xs) (sym items_are) stands)
         (subst (λ (k : ℕ). AreOps k load.items) n
         (subst (λ (xs : List Record). AreOps (entered_of b) xs) (sym items_are) all))
@@ -212,27 +212,27 @@ module _ {F : Type 0} (s m : RigState) (b x : Batch F) (first : GatherState) (so
           (subst (λ (z : Bool). CommandNeedsMore z s (trunk_of b) (length (gathered_in b))) (sym early) exact)
 
       abbrev k : ℕ
-      k = (trunk_of b).pushed + length load.items
+      k = entries_of b + length load.items
 
       abbrev g : ℕ
       g = answers_in (rule_of b) m (trunk_of b) + length load.items
 
       k_few : k ≤ b.calls + 1
-      k_few = let n = longer in omega (arith, n, i.pushed)
+      k_few = let n = longer in omega (arith, n, i.entries)
 
       g_few : IsTrue s.device.told → g ≤ answers_in (rule_of b) s (trunk_of b) + (b.calls + 1 - entered_of b)
       g_few told =
           let n = longer in
           let r = (trunk_lent s m (trunk_of b) lent i.is).reads told in
           let same = answers_alike (rule_of b) s m (trunk_of b) r.model r.given in
-          omega (arith, n, same, i.pushed)
+          omega (arith, n, same, i.entries)
 
-      pub full_room : (IsTrue m.device.told → LoadWithin ((trunk_of counted).pushed + length load.items)
+      pub full_room : (IsTrue m.device.told → LoadWithin (entries_of counted + length load.items)
           (answers_in (rule_of counted) m (trunk_of counted) + length load.items) m t (trunk_of counted))
           → IsTrue s.device.told → BatchWithin (b.calls + 1) s u b
       full_room h told =
           let told_m : IsTrue m.device.told = lent.touches.told ∙ told in
-          let w : LoadWithin k g m t (trunk_of b) = subst (λ (q : _). LoadWithin (q.trunk.pushed + length load.items)
+          let w : LoadWithin k g m t (trunk_of b) = subst (λ (q : _). LoadWithin (q.trunk.pushed + q.trunk.adopted + length load.items)
           (answers_in (apply_of q.settle.kind) m q.trunk + length load.items) m t q.trunk) tree_is (h told_m) in
           subst (λ (z : RigState). BatchWithin (b.calls + 1) s z b) (sym same)
           (load_within s m b (trunk_of b) refl lent i.is sound k g (b.calls + 1) early k_few (g_few told) t told w)
@@ -243,11 +243,11 @@ module _ {F : Type 0} (s m : RigState) (b x : Batch F) (first : GatherState) (so
       over_by (Err fault) h = λ told. load_over s m b (trunk_of b) refl lent i.is sound k g (b.calls + 1) early k_few
           (g_few told) {T = T} (Err fault) h told
 
-      pub full_over : IfErr r (λ fault. IsTrue m.device.told → LoadOver ((trunk_of counted).pushed + length load.items)
+      pub full_over : IfErr r (λ fault. IsTrue m.device.told → LoadOver (entries_of counted + length load.items)
           (answers_in (rule_of counted) m (trunk_of counted) + length load.items) m (trunk_of counted) fault)
           → IfErr r (λ fault. IsTrue s.device.told → BatchOver (b.calls + 1) s b fault)
       full_over h = over_by r (subst (λ (q : _). IfErr r (λ fault. IsTrue m.device.told
-          → LoadOver (q.trunk.pushed + length load.items)
+          → LoadOver (q.trunk.pushed + q.trunk.adopted + length load.items)
           (answers_in (apply_of q.settle.kind) m q.trunk + length load.items) m q.trunk fault)) tree_is h)
 
 -- the operation that was pushed, by an equal number

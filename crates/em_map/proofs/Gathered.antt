@@ -34,7 +34,7 @@ use Rattle.em_map.proofs.Taken.{counts_command, has_entered, has_gathered}
 
 -- The state after an area was lent, if none was held, and a batch with one call more, whose load has the next operation.
 module _ {F : Type 0} (s m : RigState) (b d : Batch F) (load : GatherState) (op : Record) (sound : Sound s) (i : IsBatch s b)
-    (early : b.early ≡ true) (few : b.calls < 2 ^ 40) (lent : MovesPool s m)
+    (early : b.early ≡ true) (few : b.calls < 2 ^ 40 + (trunk_of b).adopted) (lent : MovesPool s m)
     (frames : SharesAreas (areas_of b) 1 s.pool m.pool) (area : HasArea m load) (is_op : IsAddOp op)
     (number : op.b ≡ b.calls + 1) (calls : d.calls ≡ b.calls + 1) (syncs : d.syncs ≡ b.syncs) (joins : d.early ≡ b.early)
     (rule : d.tree.settle ≡ b.tree.settle) (is_load : d.load ≡ Some load) where
@@ -42,7 +42,7 @@ module _ {F : Type 0} (s m : RigState) (b d : Batch F) (load : GatherState) (op 
   v = trunk_of b
 
   entered_length : entered_of b + length (gathered_in b) ≡ b.calls
-  entered_length = omega (arith, i.pushed)
+  entered_length = omega (arith, i.entries)
 
   pub all_ops : AreOps (entered_of b) (gathered_in b ++ op ∷ [])
   all_ops = ops_next (entered_of b) (gathered_in b) op (load_ops s (entered_of b) b.load i.load) is_op
@@ -67,7 +67,7 @@ module _ {F : Type 0} (s m : RigState) (b d : Batch F) (load : GatherState) (op 
     one_longer = ap (λ (xs : List Record). length xs) gathered ∙ length-append (gathered_in b) (op ∷ [])
 
     same_entered : entered_of b ≡ entered_of d
-    same_entered = let n = one_longer in omega (arith, n, calls, i.pushed)
+    same_entered = let n = one_longer in omega (arith, n, calls, i.entries)
 
     gathered_is : IsBatch m d
     gathered_is =
@@ -101,7 +101,8 @@ module _ {F : Type 0} (s m : RigState) (b d : Batch F) (load : GatherState) (op 
           commands = λ before cs h. has_gathered s m b d rule joins lent.touches.shape c op ops calls syncs before cs h
               (subst (λ (x : Trunk). TreeHas (rule_of b) m x before h.closed) (sym trunk)
               (tree_lent s m v lent i.is (rule_of b) before h.closed h.tree))
-              (ap (λ (x : Trunk). x.pushed) trunk) gathered early (omega (arith, long, one, less, area.capacity, block));
+              (ap (λ (x : Trunk). x.pushed + x.adopted) trunk) (ap (λ (x : Trunk). x.adopted) trunk) gathered
+              early (omega (arith, long, one, less, area.capacity, block));
         }
 
     pub counts_gathered : (c : Command) → map_op (b.calls + 1) c ≡ op ∷ [] → CountsCommand c s m b d
@@ -109,16 +110,16 @@ module _ {F : Type 0} (s m : RigState) (b d : Batch F) (load : GatherState) (op 
         let stays = stands_lent s m b (gathered_in b) lent (stands_is s b i) in
         let none : CountsPushes 0 m m v (trunk_of d) = subst (λ (x : Trunk). CountsPushes 0 m m v x) (sym trunk)
         (counts_none m v lent.sound stays.is) in
-        counts_command c op 0 s m m b d sound i ops none (moves_lent s m v lent i.is) lent.touches.told lent.touches.shape
-        (omega arith) (omega (arith, i.pushed)) calls syncs joins lent.sound (λ e. absurd (true≢false (sym early ∙ e)))
+        counts_command c op 0 s m m b d i ops none (moves_lent s m v lent i.is) lent.touches.told lent.touches.shape
+        (omega arith) (omega (arith, i.entries)) calls syncs joins (λ e. absurd (true≢false (sym early ∙ e)))
 
   -- It enters the tree with the load.
   module _ (t : RigState) (left : ℕ) (left_is : left ≡ left_of (gathered_in b ++ op ∷ [])) (some : left ≤ length (gathered_in b) + 1)
       (counts : CountsPushes left m t (trunk_of b) (trunk_of d)) where
     pub counts_entered : (c : Command) → map_op (b.calls + 1) c ≡ op ∷ [] → CountsCommand c s t b d
-    counts_entered c ops = counts_command c op left s m t b d sound i ops counts (moves_lent s m v lent i.is)
-        lent.touches.told lent.touches.shape (omega (arith, left_is)) (omega (arith, some, i.pushed)) calls syncs joins
-        lent.sound (λ e. absurd (true≢false (sym early ∙ e)))
+    counts_entered c ops = counts_command c op left s m t b d i ops counts (moves_lent s m v lent i.is)
+        lent.touches.told lent.touches.shape (omega (arith, left_is)) (omega (arith, some, i.entries)) calls syncs joins
+        (λ e. absurd (true≢false (sym early ∙ e)))
 
     module _ (e : EntersTree (rule_of b) (b.calls + 1) (gathered_in b ++ op ∷ []) m t (trunk_of b) (trunk_of d))
         (pushed : (trunk_of d).pushed ≡ (trunk_of b).pushed + left) (none : load.items ≡ [])
@@ -171,7 +172,7 @@ module _ {F : Type 0} (s m : RigState) (b d : Batch F) (load : GatherState) (op 
             omega (arith, held, used, lost);
         commands = λ before cs h. has_entered s t b d rule joins (e.session.touches.shape ∙ lent.touches.shape) c op ops calls
             syncs before cs h m v (b.calls + 1) (tree_lent s m v lent i.is (rule_of b) before h.closed h.tree) e
-            (omega (arith, pushed, left_is)) no_ops (λ p. full);
+            (omega (arith, pushed, counts.adopted, left_is)) counts.adopted no_ops (λ p. full);
       }
 
     -- The tree gave up.

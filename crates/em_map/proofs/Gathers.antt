@@ -103,9 +103,9 @@ pub can_enter : {F : Type 0} (s : RigState) (b : Batch F) (ops : List Record) â†
 can_enter s b ops i h = record {
   is = i.is;
   are = h.are;
-  few = omega (arith, i.pushed);
+  few = omega (arith, i.entries);
   follow = h.follow;
-  pushed = omega (arith, i.pushed, i.few);
+  pushed = omega (arith, i.entries, i.few);
   longest = i.longest;
   waits = i.waits;
 }

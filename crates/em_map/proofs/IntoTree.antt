@@ -20,6 +20,7 @@ use Rattle.em_tree_cost.specs.Books.{TreeCounts}
 use Rattle.em_tree_cost.specs.Fusing.{synced_share}
 use Rattle.em_tree_cost.specs.Shares.{floors_of}
 use Rattle.em_tree_cost.proofs.Ceilings.{blocks_ceil, ceil_most, ceiling_is}
+use Rattle.em_tree_cost.proofs.Rising.{div_ceil_rises}
 use Rattle.em_tree_model.specs.Meaning.{tree_contents}
 use Rattle.em_tree_model.specs.Tree.{stored_in}
 use Rattle.em_tree.specs.Calls.{StopsTrunk}
@@ -28,7 +29,7 @@ use Rattle.em_trunk.specs.Room.{FullOverRoom, WithinRoom}
 use Rattle.em_trunk.specs.Trunk.{model_of}
 use Rattle.em_trunk.specs.declared.trunk.Trunk.{Trunk}
 use Rattle.em_map.specs.Areas.{GivenWithAreas}
-use Rattle.em_map.specs.Batch.{BatchCosts, BatchOver, BatchWithin, HasCommands, IsBatch, TreeHas, UnfinishedBatch, areas_in, areas_of, batch_spent, contents_after, gathered_in, ops_in, rule_of, trunk_of}
+use Rattle.em_map.specs.Batch.{BatchCosts, BatchOver, BatchWithin, HasCommands, IsBatch, TreeHas, UnfinishedBatch, areas_in, areas_of, batch_spent, calls_share, contents_after, gathered_in, ops_in, rule_of, trunk_of}
 use Rattle.em_map.specs.Contents.{key_record}
 use Rattle.em_map.specs.Early.{joined_size}
 use Rattle.em_map.specs.Handing.{CountsKeeping, HandedTree, KeptPairs}
@@ -39,7 +40,7 @@ use Rattle.em_map.proofs.Closes.{cause_past}
 use Rattle.em_map.proofs.Contents.{keeps_after}
 use Rattle.em_map.proofs.Live.{room_rises, stored_live}
 use Rattle.em_map.proofs.Rooms.{plain_over, plain_within}
-use Rattle.em_map.proofs.Shares.{within_beside}
+use Rattle.em_map.proofs.Shares.{calls_within, within_beside}
 use Rattle.em_map.proofs.Trees.{tree_closed}
 
 -- The answers of n calls at most fill two blocks at most for each that n records fill.
@@ -53,11 +54,11 @@ answers_few shape a n is h =
     ceil_most (ceiling a P) P a (2 * q) (ceiling_is a P (omega (arith, is.block_low))) (omega (arith, h, c.holds, p))
 
 -- What a batch of n calls with y syncs moves beside its tree: one move for each chain of answers, and two for each block of the last.
-beside_few : (q y blocks : ℕ) → blocks ≤ 2 * q → 1 + 2 * blocks + y ≤ 24 * (y + 1) * (q + 1)
+beside_few : (q y blocks : ℕ) → blocks ≤ 2 * q → 1 + 2 * blocks + y ≤ 16 * (y + 1) * (q + 1)
 beside_few q y blocks h =
     let a : 1 * (q + 1) ≤ (y + 1) * (q + 1) = mul-le-mul {n₁ = 1} {m₁ = q + 1} {n₂ = y + 1} {m₂ = q + 1} (omega arith) (omega arith) in
     let b : (y + 1) * 1 ≤ (y + 1) * (q + 1) = mul-le-mul_left (y + 1) (omega arith) in
-    let all : 24 * (y + 1) * (q + 1) ≡ 24 * ((y + 1) * (q + 1)) = omega arith in
+    let all : 16 * (y + 1) * (q + 1) ≡ 16 * ((y + 1) * (q + 1)) = omega arith in
     omega (arith, h, a, b, all)
 
 -- if adds aren't joined early, the size of commands is their number
@@ -80,7 +81,7 @@ module _ {F : Type 0} (s t : RigState) (b : Batch F) (sound : Sound s) (i : IsBa
   no_area = ap areas_in (i.plain plain)
 
   longest_few : (trunk_of b).longest ≤ b.calls
-  longest_few = let most = i.longest in let calls = i.pushed in omega (arith, most, calls)
+  longest_few = let most = i.longest in let calls = i.entries in omega (arith, most, calls)
 
   pub room_handed : (u : RigState) → u.most ≡ t.most
       → (IsTrue s.device.told → WithinRoom (trunk_of b).longest s t (trunk_of b))
@@ -94,16 +95,20 @@ module _ {F : Type 0} (s t : RigState) (b : Batch F) (sound : Sound s) (i : IsBa
   over_handed fault h = plain_over {T = Unit {0}} s b (Err fault) (trunk_of b).longest b.calls plain longest_few h
 
   module _ (w : Trunk) (n : CountsKeeping (rule_of b) s t (trunk_of b) w) where
+    abbrev a : ℕ
+    a = (trunk_of b).adopted
+
+    -- the blocks of the calls that are no adopted record
     abbrev q : ℕ
-    q = blocks_of s.pool.shape b.calls
+    q = blocks_of s.pool.shape (b.calls - a)
 
     -- the moves that came beside those of the tree
-    beside : IsTrue s.device.told → t.moves + batch_spent b ≤ s.moves + w.spent + 24 * (b.syncs + 1) * (q + 1)
+    beside : IsTrue s.device.told → t.moves + batch_spent b ≤ s.moves + w.spent + 16 * (b.syncs + 1) * (q + 1)
     beside z =
         let made = n.moves z in
         let due = i.answers z in
         let given = answers_in (rule_of b) s (trunk_of b) in
-        let blocks = answers_few s.pool.shape given b.calls sound.shape (omega (arith, due)) in
+        let blocks = answers_few s.pool.shape given (b.calls - a) sound.shape (omega (arith, due)) in
         let few = beside_few q b.syncs (ceiling given (payload_of s.pool.shape)) blocks in
         omega (arith, made, few)
 
@@ -114,15 +119,13 @@ module _ {F : Type 0} (s t : RigState) (b : Batch F) (sound : Sound s) (i : IsBa
         let longest : w.longest ≡ (trunk_of b).longest = ap (λ (c : TreeCounts). c.k) counts in
         let resets : w.resets ≡ 0 = ap (λ (c : TreeCounts). c.z) counts ∙ i.unreset in
         let settled : w.settled ≡ (trunk_of b).settled + 1 = ap (λ (c : TreeCounts). c.y) counts in
+        let counted : w.counted ≡ 0 = ap (λ (c : TreeCounts). c.counted) counts ∙ i.uncounted in
         let most = i.longest in
-        let calls = i.pushed in
+        let calls = i.entries in
         let few = i.settled in
-        let P : ℕ → Type 0 = λ N. batch_spent b + (t.moves - s.moves) ≤ synced_share s.pool.shape N b.syncs in
-        let share : IsTrue s.device.told → P b.calls = λ z.
-        let counted : w.counted ≡ (trunk_of b).counted = ap (λ (c : TreeCounts). c.counted) counts in
-        let uncounted : w.counted ≡ 0 = omega (arith, counted, i.adopted, i.is.running.numbers.counted_most) in
-        let all = within_beside s.pool.shape (w.pushed + w.counted) b.calls w.longest w.resets w.settled b.syncs w.spent
-        (24 * (b.syncs + 1) * (q + 1)) sound.shape (omega (arith, pushed, calls, uncounted)) (omega (arith, longest, most, calls)) resets
+        let share : IsTrue s.device.told → batch_spent b + (t.moves - s.moves) ≤ calls_share s.pool.shape b = λ z.
+        let all = within_beside s.pool.shape a (w.pushed + w.counted) b.calls w.longest w.resets w.settled b.syncs w.spent
+        (16 * (b.syncs + 1) * (q + 1)) (omega (arith, pushed, calls, counted)) (omega (arith, longest, most, calls)) resets
         (omega (arith, settled, few)) (n.share z).within (omega arith) in
         let made = beside z in
         omega (arith, all, made, n.later) in
@@ -132,7 +135,10 @@ module _ {F : Type 0} (s t : RigState) (b : Batch F) (sound : Sound s) (i : IsBa
           joined = λ z before cs h.
               let size : joined_size b.early (load_of s.pool.shape) (before ++ cs) ≡ b.calls =
               plain_size b.early (load_of s.pool.shape) (before ++ cs) plain ∙ length-append before cs ∙ sym h.calls in
-              subst P (sym size) (share z);
+              let all = share z in
+              let rest = calls_within s.pool.shape a b.calls b.syncs (omega (arith, calls)) in
+              subst (λ (N : ℕ). batch_spent b + (t.moves - s.moves) ≤ synced_share s.pool.shape N b.syncs) (sym size)
+              (omega (arith, all, rest));
         }
 
     -- it was handed out
@@ -159,7 +165,8 @@ module _ {F : Type 0} (s t : RigState) (b : Batch F) (sound : Sound s) (i : IsBa
           since = ap (λ (c : TreeCounts). c.since) counts;
           settled = omega (arith, settled, few);
           resets = ap (λ (c : TreeCounts). c.z) counts ∙ i.unreset;
-          adopted = ap (λ (c : TreeCounts). c.adopted) counts ∙ i.adopted;
+          adopted = ap (λ (c : TreeCounts). c.adopted) counts;
+          counted = ap (λ (c : TreeCounts). c.counted) counts ∙ i.uncounted;
           waiting = k.waiting;
           given = k.given;
           no_block = k.no_block;
@@ -174,9 +181,14 @@ module _ {F : Type 0} (s t : RigState) (b : Batch F) (sound : Sound s) (i : IsBa
               omega (arith, most, rises);
           beside = λ z.
               let made = beside z in
-              let floors : 24 * (b.syncs + 1) * (q + 1) * 1 ≤ 24 * (b.syncs + 1) * (q + 1) * floors_of s.pool.shape b.calls =
-              mul-le-mul_left (24 * (b.syncs + 1) * (q + 1)) (omega arith) in
-              omega (arith, made, floors, n.later);
+              let Q = blocks_of s.pool.shape b.calls in
+              let rise : q ≤ Q = div_ceil_rises s.pool.shape.block (b.calls - a) b.calls (omega arith) in
+              let more : 16 * (b.syncs + 1) * (q + 1) ≤ 24 * (b.syncs + 1) * (Q + 1) =
+              mul-le-mul {n₁ = 16 * (b.syncs + 1)} {m₁ = q + 1} {n₂ = 24 * (b.syncs + 1)} {m₂ = Q + 1} (omega arith)
+              (omega (arith, rise)) in
+              let floors : 24 * (b.syncs + 1) * (Q + 1) * 1 ≤ 24 * (b.syncs + 1) * (Q + 1) * floors_of s.pool.shape b.calls =
+              mul-le-mul_left (24 * (b.syncs + 1) * (Q + 1)) (omega arith) in
+              omega (arith, made, more, floors, n.later);
         }
 
     -- abandoning moves nothing

@@ -84,12 +84,13 @@ stands_lent s t b ops m i =
     subst (λ (z : Bool). IsTrue z) m.touches.told told in
     record {
       is = stays.is;
-      pushed = i.pushed;
+      entries = i.entries;
       longest = i.longest;
       few = i.few;
+      few_adopted = i.few_adopted;
       settled = i.settled;
       unreset = i.unreset;
-      adopted = i.adopted;
+      uncounted = i.uncounted;
       waits = λ told. subst (λ (x : Tree). WaitsUpTo (b.calls - length ops) x)
           (sym (stays.reads (back told)).model) (i.waits (back told));
       answers = λ told.

@@ -1,4 +1,5 @@
 pub mod Areas
+pub mod Gets
 mod Compared
 pub mod Contents
 pub mod Early
@@ -26,6 +27,7 @@ mod GatherCall
 mod Ends
 mod Batches
 mod Syncs
+mod Over
 mod Handed
 mod IntoTree
 pub mod Stays

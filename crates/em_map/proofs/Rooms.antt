@@ -48,7 +48,7 @@ pub full_given : {F : Type 0} {T : Type 0} {s : RigState} (b : Batch F) (r : Res
 full_given b (Ok x) i h = tt
 full_given b (Err fault) i h =
     full_by fault ((trunk_of b).longest ≡ 0 → ⊥) (0 < b.calls)
-    (some_called (trunk_of b).longest b.calls (omega (arith, i.longest, i.pushed))) h
+    (some_called (trunk_of b).longest b.calls (omega (arith, i.longest, i.entries))) h
 
 -- How many blocks of answers a call counts, by whether adds are joined early.
 answers_plain : (early : Bool) (given most : ℕ) → early ≡ false → if_early early given most ≡ given
@@ -167,7 +167,7 @@ pub held_blocks : {F : Type 0} (s : RigState) (b : Batch F) → Sound s → IsBa
     → length (batch_blocks s b) ≤ tree_room s.pool.shape b.calls + (trunk_of b).answers.blocks
 held_blocks s b sound is told =
     let own = rest_room sound is.is told in
-    let rises = tree_room_rises s.pool.shape (trunk_of b).longest b.calls (omega (arith, is.longest, is.pushed)) in
+    let rises = tree_room_rises s.pool.shape (trunk_of b).longest b.calls (omega (arith, is.longest, is.entries)) in
     omega (arith, own, rises)
 
 -- After a sync it has given none.
@@ -234,6 +234,6 @@ given_counted s m b d n old i told is shape few due plain = by_early b.early ref
         let count = given_most m d i told in
         let low = is.block_low in
         let rises = ceiling_rises (trunk_of d).answers.count (due_most s b n) (payload_of m.pool.shape) (omega (arith, low))
-        (omega (arith, count, due, few, old.pushed)) in
+        (omega (arith, count, due, few, old.entries)) in
         let payload = ap (λ p. ceiling (due_most s b n) (payload_of p)) shape in
         omega (arith, same, blocks, rises, payload)

@@ -75,12 +75,13 @@ module _ {F : Type 0} (held : List ℕ) (s t : RigState) (b : Batch F) (touches 
           alone = i.alone;
           area = area_stays s t b.load touches.shape area i.area;
           load = load_stays s t (entered_of b) b.load i.load;
-          pushed = i.pushed;
+          entries = i.entries;
           longest = i.longest;
           few = i.few;
+          few_adopted = i.few_adopted;
           settled = i.settled;
           unreset = i.unreset;
-          adopted = i.adopted;
+          uncounted = i.uncounted;
           waits = λ told. subst (λ (x : Tree). WaitsUpTo (entered_of b) x) (sym (model (back told))) (i.waits (back told));
           answers = λ told.
               let same = answers_alike (rule_of b) s t (trunk_of b) (model (back told)) (given (back told)) in
@@ -90,6 +91,7 @@ module _ {F : Type 0} (held : List ℕ) (s t : RigState) (b : Batch F) (touches 
         commands = λ before cs h. record {
           calls = h.calls;
           syncs = h.syncs;
+          base = h.base;
           closed = h.closed;
           unclosed = h.unclosed;
           parts = h.parts;

@@ -1,5 +1,5 @@
 -- A sync of a batch that holds no load: its tree is settled, and then its answers are handed out.
-use Rattle.std.specs.Prelude.{◌≡◌, Bool, ◌+◌, ◌<◌, ◌≤◌, ◌^◌, List, [], ◌∷◌, ◌++◌, length, IsTrue, Option, None, Result, Ok, Err, IfErr, IfSome}
+use Rattle.std.specs.Prelude.{◌≡◌, ℕ, Bool, ◌+◌, ◌-◌, ◌<◌, ◌≤◌, ◌^◌, List, [], ◌∷◌, ◌++◌, length, IsTrue, Option, None, Result, Ok, Err, IfErr, IfSome}
 use Rattle.std.proofs.Common.{sym, ap, subst, ◌∙◌, arith}
 use Rattle.std.specs.List.Sorted.{IsPermutation}
 use Rattle.std.specs.Result.{IsErrAnd}
@@ -24,6 +24,7 @@ use Rattle.em_space.proofs.Sessions.{session_trans}
 use Rattle.em_space.proofs.Steps.{same_frames_then}
 use Rattle.em_chain.specs.Chain.{chain_blocks, chain_items}
 use Rattle.em_chain.specs.declared.chain.Chain.{Chain}
+use Rattle.em_adopt_cost.specs.Shares.{over_share}
 use Rattle.em_tree_cost.specs.Books.{TreeCounts, count_settle}
 use Rattle.em_tree_model.specs.Meaning.{nothing, tree_answers, tree_contents}
 use Rattle.em_tree_model.specs.Owed.{owed}
@@ -35,7 +36,7 @@ use Rattle.em_trunk.specs.Room.{FullOverRoom, WithinRoom}
 use Rattle.em_trunk.specs.Trunk.{counts_of, given_by, model_of, trunk_blocks}
 use Rattle.em_trunk.specs.declared.trunk.Trunk.{Trunk}
 use Rattle.em_combine.specs.Gather.{GatherState}
-use Rattle.em_map.specs.Batch.{HasArea, IsBatch, IsLoad, TreeHas, batch_blocks, contents_after, entered_of, gathered_in, ops_in, rule_of, trunk_of}
+use Rattle.em_map.specs.Batch.{HasArea, IsBatch, IsLoad, TreeHas, batch_blocks, batch_spent, contents_after, entered_of, entries_of, gathered_in, ops_in, rule_of, trunk_of}
 use Rattle.em_map.specs.Commands.{map_ops, ops_after}
 use Rattle.em_map.specs.Contents.{WaitsUpTo}
 use Rattle.em_map.specs.Gathering.{CountsTree, SyncedTree, SyncsTree}
@@ -48,7 +49,7 @@ use Rattle.em_map.proofs.Ordered.{in_order_of}
 use Rattle.em_map.proofs.Pushed.{ops_append}
 use Rattle.em_map.proofs.Pushing.{stops_after}
 use Rattle.em_map.proofs.Rules.{same_rule}
-use Rattle.em_map.proofs.Shares.{within_batch}
+use Rattle.em_map.proofs.Shares.{calls_within, within_calls}
 
 -- what the fault of a callee says of the result
 pub syncs_err : {F : Type 0} (s t : RigState) (b d : Batch F) (result : Result Chain EmFault) (e : EmFault)
@@ -63,7 +64,7 @@ ops_synced before cs = ops_append 1 (before ++ cs) (Sync ∷ []) ∙ append-nil 
 
 -- The numbers, once the tree was settled, or gave up: `d` has counts that are those of that tree, and at most one move more
 -- was made.
-module _ {F : Type 0} {s m : RigState} (b d : Batch F) {x : Trunk} (sound : Sound s) (is : IsBatch s b) (few : b.calls < 2 ^ 40)
+module _ {F : Type 0} {s m : RigState} (b d : Batch F) {x : Trunk} (sound : Sound s) (is : IsBatch s b) (few : b.calls < 2 ^ 40 + (trunk_of b).adopted)
     (c : CountsCall (count_settle 0) s m (trunk_of b) x) (calls : d.calls ≡ b.calls + 1) (syncs : d.syncs ≡ b.syncs + 1)
     (early : d.early ≡ b.early) (closed : b.load ≡ None) (none : d.load ≡ None)
     (same : counts_of (trunk_of d) ≡ counts_of x) where
@@ -76,31 +77,44 @@ module _ {F : Type 0} {s m : RigState} (b d : Batch F) {x : Trunk} (sound : Soun
   settled_more : (trunk_of d).settled ≡ (trunk_of b).settled + 1
   settled_more = ap (λ (z : TreeCounts). z.y) (same ∙ c.counts)
 
+  adopted_same : (trunk_of d).adopted ≡ (trunk_of b).adopted
+  adopted_same = ap (λ (z : TreeCounts). z.adopted) (same ∙ c.counts)
+
   resets_same : (trunk_of d).resets ≡ 0
   resets_same = ap (λ (z : TreeCounts). z.z) (same ∙ c.counts) ∙ is.unreset
 
   spent_same : (trunk_of d).spent ≡ x.spent
   spent_same = ap (λ (z : TreeCounts). z.spent) same
 
+  settled_within : IsTrue s.device.told → (n : ℕ) → entries_of b ≤ n
+      → batch_spent d ≤ over_share s.pool.shape (trunk_of b).adopted (n - (trunk_of b).adopted) d.syncs
+  settled_within told n size =
+      let k : x.longest ≡ (trunk_of b).longest = ap (λ (z : TreeCounts). z.k) c.counts in
+      let p : x.pushed ≡ (trunk_of b).pushed = ap (λ (z : TreeCounts). z.n) c.counts in
+      let y : x.settled ≡ (trunk_of b).settled + 1 = ap (λ (z : TreeCounts). z.y) c.counts in
+      let z : x.resets ≡ 0 = ap (λ (z : TreeCounts). z.z) c.counts ∙ is.unreset in
+      let u : x.counted ≡ (trunk_of b).counted = ap (λ (z : TreeCounts). z.counted) c.counts in
+      let all = within_calls s.pool.shape (trunk_of b).adopted (x.pushed + x.counted) n x.longest x.resets x.settled d.syncs
+      x.spent d.syncs (omega (arith, p, size, u, is.uncounted)) (omega (arith, k, is.longest, size)) z
+      (omega (arith, y, is.settled, syncs)) (c.share told).within (omega arith) in
+      omega (arith, all, spent_same)
+
   pub counts_sync : (t : RigState) → t.moves ≤ m.moves + 1 → CountsTree s t b d
   counts_sync t more = record {
     calls = calls;
     syncs = syncs;
     early = early;
+    adopted = adopted_same;
     none = none;
     counts = same ∙ c.counts
         ∙ ap (λ n. count_settle 0 (record (counts_of (trunk_of b)) { spent = n })) (sym spent_same);
     moves = omega (arith, more, c.spent, spent_same, syncs);
-    share = λ told n size.
-        let k : x.longest ≡ (trunk_of b).longest = ap (λ (z : TreeCounts). z.k) c.counts in
-        let p : x.pushed ≡ (trunk_of b).pushed = ap (λ (z : TreeCounts). z.n) c.counts in
-        let y : x.settled ≡ (trunk_of b).settled + 1 = ap (λ (z : TreeCounts). z.y) c.counts in
-        let z : x.resets ≡ 0 = ap (λ (z : TreeCounts). z.z) c.counts ∙ is.unreset in
-        let u : x.counted ≡ (trunk_of b).counted = ap (λ (z : TreeCounts). z.counted) c.counts in
-        let all = within_batch s.pool.shape (x.pushed + x.counted) n x.longest x.resets x.settled d.syncs x.spent d.syncs
-        sound.shape (omega (arith, p, size, u, is.adopted, is.is.running.numbers.counted_most)) (omega (arith, k, is.longest, size)) z
-        (omega (arith, y, is.settled, syncs)) (c.share told).within (omega arith) in
-        omega (arith, all, spent_same);
+    share = λ told. subst (λ (a : ℕ). batch_spent d ≤ over_share s.pool.shape a (d.calls - a) d.syncs) (sym adopted_same)
+        (settled_within told d.calls (omega (arith, is.entries, calls)));
+    joined = λ told n size.
+        let all = settled_within told n (omega (arith, size)) in
+        let rest = calls_within s.pool.shape (trunk_of b).adopted n d.syncs (omega (arith, size)) in
+        omega (arith, all, rest);
   }
 
   -- The tree was settled, and its answers were handed out.
@@ -145,15 +159,16 @@ module _ {F : Type 0} {s m : RigState} (b d : Batch F) {x : Trunk} (sound : Soun
         record {
           is = g.is;
           plain = λ e. none;
-          alone = λ e. omega (arith, pushed_same, calls, syncs, is.alone (sym early ∙ e));
+          alone = λ e. omega (arith, pushed_same, adopted_same, calls, syncs, is.alone (sym early ∙ e));
           area = subst (λ (l : Option GatherState). IfSome l (HasArea t)) (sym none) tt;
           load = subst (λ (l : Option GatherState). IfSome l (IsLoad t (entered_of d))) (sym none) tt;
-          pushed = omega (arith, pushed_same, is.pushed, zero, no_ops, calls, syncs);
-          longest = omega (arith, longest_same, pushed_same, is.longest);
-          few = omega (arith, few, calls);
+          entries = omega (arith, pushed_same, adopted_same, is.entries, zero, no_ops, calls, syncs);
+          longest = omega (arith, longest_same, pushed_same, adopted_same, is.longest);
+          few = omega (arith, few, adopted_same, calls);
+          few_adopted = omega (arith, adopted_same, is.few_adopted);
           settled = omega (arith, settled_more, is.settled, syncs);
           unreset = resets_same;
-          adopted = ap (λ (z : TreeCounts). z.adopted) (same ∙ c.counts) ∙ is.adopted;
+          uncounted = ap (λ (z : TreeCounts). z.counted) (same ∙ c.counts) ∙ is.uncounted;
           waits = λ told. let z = back told in
               subst (λ n. WaitsUpTo n (model_of t w)) (sym new)
               (subst (λ (u : Tree). WaitsUpTo (b.calls + 1) u) (sym (g.model (told_m z)))
@@ -163,7 +178,7 @@ module _ {F : Type 0} {s m : RigState} (b d : Batch F) {x : Trunk} (sound : Soun
               let by_rule : answers_in (rule_of d) t w ≡ answers_in (rule_of b) t w =
               ap (λ (apply : Combiner). answers_in apply t w) (same_rule b d rule) in
               let zero_answers = ap (λ (rs : List Record). length rs) (no_answers (back told)) in
-              omega (arith, by_rule, zero_answers);
+              omega (arith, by_rule, zero_answers, adopted_same, no_ops, calls, is.entries);
         }
 
     has_synced : (before cs : List Command) → TreeHas (rule_of b) s v before cs
@@ -214,7 +229,7 @@ module _ {F : Type 0} {s m : RigState} (b d : Batch F) {x : Trunk} (sound : Soun
       frames = same_frames_then s.pool m.pool t.pool f.changes.frames g.frames;
       pays = pays_then f.changes.pays g.pays g.session.touches.moves;
       loses = λ z. let a = f.changes.loses z in let e = g.loses (told_m z) in omega (arith, a, e);
-      pushed = pushed_same;
+      entries = omega (arith, pushed_same, adopted_same);
       tree = has_synced;
       answers = answers_synced;
       ordered = λ z before cs k. in_order_of (rule_of b) before cs (chain_items t h) (answers_synced z before cs k);
@@ -229,7 +244,7 @@ module _ {F : Type 0} {s m : RigState} (b d : Batch F) {x : Trunk} (sound : Soun
       f.changes g.stops
 
 -- What it did, by the result of handing out.
-module _ {F : Type 0} (s m t : RigState) (b d : Batch F) (x : Trunk) (sound : Sound s) (is : IsBatch s b) (few : b.calls < 2 ^ 40)
+module _ {F : Type 0} (s m t : RigState) (b d : Batch F) (x : Trunk) (sound : Sound s) (is : IsBatch s b) (few : b.calls < 2 ^ 40 + (trunk_of b).adopted)
     (c : CountsCall (count_settle 0) s m (trunk_of b) x) (calls : d.calls ≡ b.calls + 1) (syncs : d.syncs ≡ b.syncs + 1)
     (early : d.early ≡ b.early) (closed : b.load ≡ None) (none : d.load ≡ None) where
   pub synced_to : d.tree.settle ≡ b.tree.settle

@@ -4,7 +4,7 @@ use Rattle.std.specs.List.{All}
 use Rattle.std.specs.List.Sorted.{IsPermutation}
 use Rattle.em_record.specs.Cost.{room}
 use Rattle.em_record.specs.Order.{in_order}
-use Rattle.em_record.specs.Shape.{payload_of}
+use Rattle.em_record.specs.Shape.{ShapeNumbers, payload_of}
 use Rattle.em_record.specs.declared.record.Record.{Record}
 use Rattle.em_model.specs.Live.{live_pairs}
 use Rattle.em_model.specs.Map.{Combiner}
@@ -24,6 +24,7 @@ use Rattle.em_chain.specs.Chain.{IsChain, IsPacked, chain_blocks, chain_items}
 use Rattle.em_chain.specs.Counts.{ceiling}
 use Rattle.em_chain.specs.declared.chain.Chain.{Chain}
 use Rattle.em_tree_model.specs.Meaning.{nothing, tree_answers, tree_contents}
+use Rattle.em_adopt_cost.specs.Shares.{over_share}
 use Rattle.em_tree_cost.specs.Books.{count_push, count_settle}
 use Rattle.em_tree_cost.specs.Fusing.{synced_share}
 use Rattle.em_tree_cost.specs.Shares.{tree_room}
@@ -33,7 +34,7 @@ use Rattle.em_trunk.specs.Trunk.{IsTrunk, TrunkHasFrames, counts_of, given_by, m
 use Rattle.em_trunk.specs.declared.trunk.Trunk.{Trunk}
 use Rattle.em_combine.specs.Gather.{GatherState}
 use Rattle.em_map.specs.Areas.{GivenWithAreas, KeepsAreas, SharesAreas}
-use Rattle.em_map.specs.Commands.{map_op, map_ops, ops_after}
+use Rattle.em_map.specs.Commands.{gets_of, map_op, map_ops, ops_after}
 use Rattle.em_map.specs.Contents.{WaitsUpTo}
 use Rattle.em_map.specs.Early.{gathered_after, joined_size, left_of}
 use Rattle.em_map.specs.Loading.{answers_in}
@@ -50,9 +51,17 @@ batch_blocks s b = trunk_blocks s (trunk_of b)
 abbrev pub batch_unstored : {F : Type 0} → Batch F → ℕ
 batch_unstored b = trunk_unstored (trunk_of b)
 
+-- the operations that its tree counts, and the records that it was adopted with
+abbrev pub entries_of : {F : Type 0} → Batch F → ℕ
+entries_of b = (trunk_of b).pushed + (trunk_of b).adopted
+
 -- at least as many moves as its calls made: those of its tree, and one of each sync for the chain that it handed out
 abbrev pub batch_spent : {F : Type 0} → Batch F → ℕ
 batch_spent b = (trunk_of b).spent + b.syncs
+
+-- the most moves of its calls so far; its adopted records count as calls, but it moved none of them
+abbrev pub calls_share : {F : Type 0} → ShapeNumbers → Batch F → ℕ
+calls_share shape b = over_share shape (trunk_of b).adopted (b.calls - (trunk_of b).adopted) b.syncs
 
 -- how it joins the value of an add to that of its key
 abbrev pub rule_of : {F : Type 0} → Batch F → Combiner
@@ -100,23 +109,24 @@ pub record IsLoad (s : RigState) (n : ℕ) (load : GatherState) : Type 0 where
 abbrev pub entered_of : {F : Type 0} → Batch F → ℕ
 entered_of b = b.calls - length (gathered_in b)
 
--- What ties a batch to its rig: only one that joins adds early gathers operations. Its tree counts no operation that wasn't
--- called, was settled by each sync, never reset, and wasn't adopted; what waits there has the numbers of calls before those that are
--- gathered, and it gave or owes an answer to each of these at most.
+-- What ties a batch to its rig: only one that joins adds early gathers operations. Its tree counts no operation or adopted record
+-- but one for each call, was settled by each sync, and nothing was ever taken out of it; what waits there has the numbers of calls
+-- before those that are gathered, and it gave or owes an answer to each of these at most that is no adopted record.
 pub record IsBatch {F : Type 0} (s : RigState) (b : Batch F) : Type 0 where
   pub is : IsTrunk map_key_of IsAddOp IsMapKept s (trunk_of b)
   pub plain : b.early ≡ false → b.load ≡ None
-  pub alone : b.early ≡ false → (trunk_of b).pushed + b.syncs ≡ b.calls
+  pub alone : b.early ≡ false → entries_of b + b.syncs ≡ b.calls
   pub area : IfSome b.load (HasArea s)
   pub load : IfSome b.load (IsLoad s (entered_of b))
-  pub pushed : (trunk_of b).pushed + length (gathered_in b) + b.syncs ≤ b.calls
-  pub longest : (trunk_of b).longest ≤ (trunk_of b).pushed
-  pub few : b.calls ≤ 2 ^ 40
+  pub entries : entries_of b + length (gathered_in b) + b.syncs ≤ b.calls
+  pub longest : (trunk_of b).longest ≤ entries_of b
+  pub few : b.calls ≤ 2 ^ 40 + (trunk_of b).adopted
+  pub few_adopted : (trunk_of b).adopted ≤ 2 ^ 56
   pub settled : (trunk_of b).settled ≡ b.syncs
   pub unreset : (trunk_of b).resets ≡ 0
-  pub adopted : (trunk_of b).adopted ≡ 0
+  pub uncounted : (trunk_of b).counted ≡ 0
   pub waits : IsTrue s.device.told → WaitsUpTo (entered_of b) (model_of s (trunk_of b))
-  pub answers : IsTrue s.device.told → answers_in (rule_of b) s (trunk_of b) ≤ entered_of b
+  pub answers : IsTrue s.device.told → answers_in (rule_of b) s (trunk_of b) + (trunk_of b).adopted ≤ entered_of b
 
 -- the contents that some commands leave
 abbrev pub contents_after : Combiner → List Command → Stored
@@ -131,18 +141,19 @@ pub record TreeHas (apply : Combiner) (s : RigState) (v : Trunk) (before cs : Li
       (tree_answers map_key_of (add_step_of apply) (given_by s v) (model_of s v))
 
 -- The calls of a batch were these commands, of which the first are those up to and with the last sync. Those of the loads
--- that are closed are in its tree, and the operations of the others are gathered. The tree counts as many operations as
--- joining left of the former.
+-- that are closed are in its tree, and the operations of the others are gathered. Of the former the tree counts as many
+-- operations as joining left of them. An adopted record counts as one of them, a put that came first.
 pub record HasCommands {F : Type 0} (s : RigState) (b : Batch F) (before cs : List Command) : Type 0 where
   pub calls : b.calls ≡ length before + length cs
   pub syncs : b.syncs ≡ syncs_of before + syncs_of cs
+  pub base : (trunk_of b).adopted + gets_of cs ≤ b.calls
   pub closed : List Command
   pub unclosed : List Command
   pub parts : cs ≡ closed ++ unclosed
   pub gathered : gathered_in b ≡ ops_after (before ++ closed) unclosed
   pub tree : TreeHas (rule_of b) s (trunk_of b) before closed
   pub loads : gathered_in b ≡ gathered_after b.early (load_of s.pool.shape) (before ++ cs)
-  pub size : (trunk_of b).pushed + b.syncs + left_of (gathered_in b)
+  pub size : entries_of b + b.syncs + left_of (gathered_in b)
       ≡ joined_size b.early (load_of s.pool.shape) (before ++ cs)
 
 -- A batch with no command.
@@ -189,9 +200,10 @@ pub record CountsCommand {F : Type 0} (c : Command) (s t : RigState) (b d : Batc
   pub calls : d.calls ≡ b.calls + 1
   pub syncs : d.syncs ≡ b.syncs
   pub early : d.early ≡ b.early
+  pub adopted : (trunk_of d).adopted ≡ (trunk_of b).adopted
   pub tree : b.early ≡ false → CountsCall (count_push 0) s t (trunk_of b) (trunk_of d)
   pub moves : batch_spent d + s.moves ≡ batch_spent b + t.moves
-  pub share : IsTrue s.device.told → batch_spent d ≤ synced_share s.pool.shape d.calls d.syncs
+  pub share : IsTrue s.device.told → batch_spent d ≤ calls_share s.pool.shape d
   pub joined : IsTrue s.device.told → (before cs : List Command) → HasCommands s b before cs
       → batch_spent d ≤ synced_share s.pool.shape
       (joined_size b.early (load_of s.pool.shape) (before ++ cs ++ c ∷ [])) d.syncs
@@ -254,10 +266,11 @@ pub record CountsSync {F : Type 0} (s t : RigState) (b d : Batch F) : Type 0 whe
   pub calls : d.calls ≡ b.calls + 1
   pub syncs : d.syncs ≡ b.syncs + 1
   pub early : d.early ≡ b.early
+  pub adopted : (trunk_of d).adopted ≡ (trunk_of b).adopted
   pub counts : b.early ≡ false → counts_of (trunk_of d)
       ≡ count_settle 0 (record (counts_of (trunk_of b)) { spent = (trunk_of d).spent })
   pub moves : t.moves + batch_spent b ≤ s.moves + batch_spent d
-  pub share : IsTrue s.device.told → batch_spent d ≤ synced_share s.pool.shape d.calls d.syncs
+  pub share : IsTrue s.device.told → batch_spent d ≤ calls_share s.pool.shape d
   pub joined : IsTrue s.device.told → (before cs : List Command) → HasCommands s b before cs
       → batch_spent d ≤ synced_share s.pool.shape
       (joined_size b.early (load_of s.pool.shape) (before ++ cs ++ Sync ∷ [])) d.syncs
@@ -296,7 +309,7 @@ FinishesBatch s t b (Err fault) = UnfinishedBatch s t b fault
 pub record BatchCosts {F : Type 0} (s t : RigState) (b : Batch F) : Type 0 where
   pub later : s.moves ≤ t.moves
   pub share : IsTrue s.device.told
-      → batch_spent b + (t.moves - s.moves) ≤ synced_share s.pool.shape b.calls b.syncs
+      → batch_spent b + (t.moves - s.moves) ≤ calls_share s.pool.shape b
   pub joined : IsTrue s.device.told → (before cs : List Command) → HasCommands s b before cs
       → batch_spent b + (t.moves - s.moves)
       ≤ synced_share s.pool.shape (joined_size b.early (load_of s.pool.shape) (before ++ cs)) b.syncs

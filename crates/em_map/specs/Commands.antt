@@ -24,3 +24,9 @@ map_ops cs = map_ops_from 1 cs
 -- those of some commands that come after others
 abbrev pub ops_after : List Command → List Command → List Record
 ops_after before cs = map_ops_from (1 + length before) cs
+
+-- how many gets there are among some commands
+abbrev pub gets_of : List Command → ℕ
+gets_of [] = 0
+gets_of (Get key ∷ cs) = 1 + gets_of cs
+gets_of (c ∷ cs) = gets_of cs

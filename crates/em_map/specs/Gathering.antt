@@ -24,7 +24,7 @@ use Rattle.em_tree.specs.Calls.{StopsTrunk}
 use Rattle.em_trunk.specs.Trunk.{IsTrunk, counts_of, model_of}
 use Rattle.em_combine.specs.Gather.{GatherState}
 use Rattle.em_map.specs.Areas.{SharesAreas}
-use Rattle.em_map.specs.Batch.{FollowFrom, HasArea, HasCommands, IsBatch, StopsBatch, TreeHas, areas_in, areas_of, batch_blocks, batch_spent, batch_unstored, gathered_in, rule_of, trunk_of}
+use Rattle.em_map.specs.Batch.{FollowFrom, HasArea, HasCommands, IsBatch, StopsBatch, TreeHas, areas_in, areas_of, batch_blocks, batch_spent, batch_unstored, calls_share, entries_of, gathered_in, rule_of, trunk_of}
 use Rattle.em_map.specs.Contents.{WaitsUpTo}
 use Rattle.em_map.specs.Early.{joined_size, left_of}
 use Rattle.em_map.specs.Loading.{EntersTree, answers_in}
@@ -56,7 +56,7 @@ pub record CanEnter {F : Type 0} (s : RigState) (b : Batch F) (ops : List Record
   pub few : length ops ≤ b.calls
   pub follow : FollowFrom (b.calls - length ops) ops
   pub pushed : (trunk_of b).pushed + length ops ≤ 2 ^ 40
-  pub longest : (trunk_of b).longest ≤ (trunk_of b).pushed
+  pub longest : (trunk_of b).longest ≤ entries_of b
   pub waits : IsTrue s.device.told → WaitsUpTo (b.calls - length ops) (model_of s (trunk_of b))
 
 -- They entered it: the tree counts what joining left of them.
@@ -79,7 +79,7 @@ pub record ClosedBatch {F : Type 0} (s t : RigState) (b d : Batch F) : Type 0 wh
   pub frames : SharesAreas (areas_of b) 0 s.pool t.pool
   pub pays : Pays (batch_unstored b) (batch_unstored d) s t
   pub loses : IsTrue s.device.told → t.used + length (batch_blocks s b) ≡ s.used + length (batch_blocks t d)
-  pub pushed : (trunk_of d).pushed ≡ (trunk_of b).pushed + left_of (gathered_in b)
+  pub entries : entries_of d ≡ entries_of b + left_of (gathered_in b)
   pub tree : (before cs : List Command) → HasCommands s b before cs
       → TreeHas (rule_of b) t (trunk_of d) before cs
   pub answers : IsTrue s.device.told → answers_in (rule_of b) t (trunk_of d)
@@ -96,8 +96,9 @@ pub record CountsClose {F : Type 0} (s t : RigState) (b d : Batch F) : Type 0 wh
   pub calls : d.calls ≡ b.calls
   pub syncs : d.syncs ≡ b.syncs
   pub early : d.early ≡ b.early
+  pub adopted : (trunk_of d).adopted ≡ (trunk_of b).adopted
   pub moves : batch_spent d + s.moves ≡ batch_spent b + t.moves
-  pub share : IsTrue s.device.told → batch_spent d ≤ synced_share s.pool.shape d.calls d.syncs
+  pub share : IsTrue s.device.told → batch_spent d ≤ calls_share s.pool.shape d
   pub joined : IsTrue s.device.told → (before cs : List Command) → HasCommands s b before cs
       → batch_spent d ≤ synced_share s.pool.shape
       (joined_size b.early (load_of s.pool.shape) (before ++ cs)) d.syncs
@@ -113,7 +114,7 @@ pub record SyncedTree {F : Type 0} (s t : RigState) (b d : Batch F) (c : Chain) 
   pub pays : Pays (batch_unstored b) (batch_unstored d) s t
   pub loses : IsTrue s.device.told → t.used + length (batch_blocks s b)
       ≡ s.used + length (chain_blocks t c ++ batch_blocks t d)
-  pub pushed : (trunk_of d).pushed ≡ (trunk_of b).pushed
+  pub entries : entries_of d ≡ entries_of b
   pub tree : (before cs : List Command) → TreeHas (rule_of b) s (trunk_of b) before cs
       → TreeHas (rule_of b) t (trunk_of d) (before ++ cs ++ Sync ∷ []) []
   pub answers : IsTrue s.device.told → (before cs : List Command) → TreeHas (rule_of b) s (trunk_of b) before cs
@@ -128,13 +129,15 @@ abbrev pub SyncsTree : {F : Type 0} → RigState → RigState → Batch F → Ba
 SyncsTree s t b d (Ok c) = SyncedTree s t b d c
 SyncsTree s t b d (Err fault) = StopsTrunk s t (trunk_of b) (trunk_of d) fault
 
--- The numbers after it, at each exit, of a batch whose size is n at most then.
+-- The numbers after it, at each exit, also by a size n that the batch has at most then.
 pub record CountsTree {F : Type 0} (s t : RigState) (b d : Batch F) : Type 0 where
   pub calls : d.calls ≡ b.calls + 1
   pub syncs : d.syncs ≡ b.syncs + 1
   pub early : d.early ≡ b.early
+  pub adopted : (trunk_of d).adopted ≡ (trunk_of b).adopted
   pub none : d.load ≡ None
   pub counts : counts_of (trunk_of d) ≡ count_settle 0 (record (counts_of (trunk_of b)) { spent = (trunk_of d).spent })
   pub moves : t.moves + batch_spent b ≤ s.moves + batch_spent d
-  pub share : IsTrue s.device.told → (n : ℕ) → (trunk_of b).pushed + b.syncs + 1 ≤ n
+  pub share : IsTrue s.device.told → batch_spent d ≤ calls_share s.pool.shape d
+  pub joined : IsTrue s.device.told → (n : ℕ) → entries_of b + b.syncs + 1 ≤ n
       → batch_spent d ≤ synced_share s.pool.shape n d.syncs

@@ -104,7 +104,8 @@ pub record HandedTree {F : Type 0} (s t : RigState) (b : Batch F) (v : Trunk) : 
   pub since : v.since ≡ (trunk_of b).since
   pub settled : v.settled ≡ b.syncs + 1
   pub resets : v.resets ≡ 0
-  pub adopted : v.adopted ≡ 0
+  pub adopted : v.adopted ≡ (trunk_of b).adopted
+  pub counted : v.counted ≡ 0
   pub waiting : IsTrue s.device.told → waiting_in (model_of t v) ≡ []
   pub given : IsTrue s.device.told → given_by t v ≡ []
   pub no_block : v.answers.blocks ≡ 0

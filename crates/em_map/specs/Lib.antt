@@ -6,3 +6,4 @@ pub mod Loading
 pub mod Batch
 pub mod Gathering
 pub mod Handing
+pub mod Over

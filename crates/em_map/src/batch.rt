@@ -15,12 +15,12 @@
 //! Kept here: numbers rise, so that each operation is above all that wait for its key. Left to the
 //! tree: where operations wait, and when they are settled.
 
-ghost use Rattle.std.specs.Prelude.{◌≡◌, ◌+◌, ◌<◌, ◌^◌, [], ◌∷◌, None, Some, length, true, false, IfOk, IfErr, IfSome, IsTrue, OnOk};
+ghost use Rattle.std.specs.Prelude.{◌≡◌, ℕ, List, ◌+◌, ◌<◌, ◌^◌, [], ◌∷◌, None, Some, length, true, false, IfOk, IfErr, IfSome, IsTrue, OnOk};
 ghost use Rattle.em_model.specs.declared.command.Command as commands;
 ghost use Rattle.em_model.specs.declared.command.Command.TheVariants as command;
 ghost use Rattle.em_record.specs.declared.record.Record as records;
 ghost use Rattle.em_space.specs.Queue.{CanServe};
-ghost use Rattle.em_space.specs.Rig.{IfFull, Sound};
+ghost use Rattle.em_space.specs.Rig.{IfFull, RigState, Sound};
 ghost use Rattle.em_space.specs.Seen.{seen};
 ghost use Rattle.em_map.specs.Batch.{HasArea};
 ghost use Rattle.em_map.specs.Gathering.{GivesBack};
@@ -84,13 +84,14 @@ pub struct Batch<F: Fn(u64, u64) -> u64 + Drop> {
 }
 
 impl<F: Fn(u64, u64) -> u64 + Drop> Batch<F> {
-    ghost use Rattle.em_map.specs.Batch.{BatchCosts, BatchHasFrames, BatchOver, BatchWithin, CanGather, CommandNeedsMore, CountsCommand, CountsSync, FinishesBatch, IsBatch, IsNewBatch, LeavesBatch, SyncNeedsMore, SyncsBatch, TakesTo, gathered_in, trunk_of};
+    ghost use Rattle.em_map.specs.Batch.{BatchCosts, BatchHasFrames, BatchOver, BatchWithin, CanGather, CommandNeedsMore, CountsCommand, CountsSync, FinishesBatch, IsBatch, IsNewBatch, LeavesBatch, SyncNeedsMore, SyncsBatch, TakesTo, entries_of, gathered_in, trunk_of};
     ghost use Rattle.em_map.specs.Commands.{map_op};
     ghost use Rattle.em_map.specs.Early.{left_of};
     ghost use Rattle.em_map.specs.Gathering.{CanEnter, ClosesBatch, CountsClose, CountsTree, EntersBatch, SyncsTree, TakesLoad};
     ghost use Rattle.em_map.specs.Handing.{HandsTree};
     ghost use Rattle.em_map.specs.Loading.{CountsPushes, LoadOver, LoadWithin, answers_in};
     ghost use Rattle.em_map.specs.Batch as batches;
+    ghost use Rattle.em_map.specs.Over.{BeginsOver, IsTreeOf, over_batch};
     ghost use Rattle.em_tree.specs.Calls.{FullIfUntrim, StopsNewTrunk};
     ghost use Rattle.em_trunk.specs.Room.{FullOverRoom, WithinRoom};
 
@@ -132,6 +133,23 @@ impl<F: Fn(u64, u64) -> u64 + Drop> Batch<F> {
         })
     }
 
+    /// A batch over a tree of pairs, as a builder leaves it, whose adds are joined by its rules. The pairs are its first calls, one
+    /// put each: the call after them has the next number. `count` is how many they are. Nothing is moved.
+    pub fn over(tree: Tree<AddSettle<F>>, count: u64) -> Batch<F>
+        requires count { count ≡ tree.trunk.adopted }
+        ensures is { result ≡ over_batch tree count }
+        ensures begins { (s : RigState) (pairs : List (ℕ × ℕ)) → IsTreeOf s tree.trunk pairs
+            → BeginsOver s result pairs }
+    {
+        Batch {
+            tree,
+            calls: count,
+            syncs: 0,
+            early: false,
+            load: None,
+        }
+    }
+
     /// Gives the key this value. It is one push into the tree, or into a load.
     pub fn put<D: Device>(
         &mut self,
@@ -144,7 +162,7 @@ impl<F: Fn(u64, u64) -> u64 + Drop> Batch<F> {
         requires ready { ⟦<AddSettle<F> as Settle>⟧.IsReady self.old.tree.settle }
         requires free { CanServe (seen D.state rig.old).pool }
         requires area { CanGather (seen D.state rig.old) self.old }
-        requires few { self.old.calls < 2 ^ 40 }
+        requires few { self.old.calls < 2 ^ 40 + (trunk_of self.old).adopted }
         ensures rule { self.new.tree.settle ≡ self.old.tree.settle }
         ensures takes { TakesTo (command.Put key value) (seen D.state rig.old)
             (seen D.state rig.new) self.old self.new result }
@@ -167,7 +185,7 @@ impl<F: Fn(u64, u64) -> u64 + Drop> Batch<F> {
         requires ready { ⟦<AddSettle<F> as Settle>⟧.IsReady self.old.tree.settle }
         requires free { CanServe (seen D.state rig.old).pool }
         requires area { CanGather (seen D.state rig.old) self.old }
-        requires few { self.old.calls < 2 ^ 40 }
+        requires few { self.old.calls < 2 ^ 40 + (trunk_of self.old).adopted }
         ensures rule { self.new.tree.settle ≡ self.old.tree.settle }
         ensures takes { TakesTo (command.Del key) (seen D.state rig.old)
             (seen D.state rig.new) self.old self.new result }
@@ -191,7 +209,7 @@ impl<F: Fn(u64, u64) -> u64 + Drop> Batch<F> {
         requires ready { ⟦<AddSettle<F> as Settle>⟧.IsReady self.old.tree.settle }
         requires free { CanServe (seen D.state rig.old).pool }
         requires area { CanGather (seen D.state rig.old) self.old }
-        requires few { self.old.calls < 2 ^ 40 }
+        requires few { self.old.calls < 2 ^ 40 + (trunk_of self.old).adopted }
         ensures rule { self.new.tree.settle ≡ self.old.tree.settle }
         ensures takes { TakesTo (command.Get key) (seen D.state rig.old)
             (seen D.state rig.new) self.old self.new result }
@@ -220,7 +238,7 @@ impl<F: Fn(u64, u64) -> u64 + Drop> Batch<F> {
         requires ready { ⟦<AddSettle<F> as Settle>⟧.IsReady self.old.tree.settle }
         requires free { CanServe (seen D.state rig.old).pool }
         requires area { CanGather (seen D.state rig.old) self.old }
-        requires few { self.old.calls < 2 ^ 40 }
+        requires few { self.old.calls < 2 ^ 40 + (trunk_of self.old).adopted }
         ensures rule { self.new.tree.settle ≡ self.old.tree.settle }
         ensures takes { TakesTo (command.Add key value) (seen D.state rig.old)
             (seen D.state rig.new) self.old self.new result }
@@ -252,7 +270,7 @@ impl<F: Fn(u64, u64) -> u64 + Drop> Batch<F> {
         requires is { IsBatch (seen D.state rig.old) self.old }
         requires ready { ⟦<AddSettle<F> as Settle>⟧.IsReady self.old.tree.settle }
         requires free { CanServe (seen D.state rig.old).pool }
-        requires few { self.old.calls < 2 ^ 40 }
+        requires few { self.old.calls < 2 ^ 40 + (trunk_of self.old).adopted }
         ensures rule { self.new.tree.settle ≡ self.old.tree.settle }
         ensures syncs { SyncsBatch (seen D.state rig.old) (seen D.state rig.new)
             self.old self.new result }
@@ -380,7 +398,7 @@ impl<F: Fn(u64, u64) -> u64 + Drop> Batch<F> {
         requires ready { ⟦<AddSettle<F> as Settle>⟧.IsReady self.old.tree.settle }
         requires free { CanServe (seen D.state rig.old).pool }
         requires area { CanGather (seen D.state rig.old) self.old }
-        requires few { self.old.calls < 2 ^ 40 }
+        requires few { self.old.calls < 2 ^ 40 + (trunk_of self.old).adopted }
         requires what { what < 4 }
         ensures rule { self.new.tree.settle ≡ self.old.tree.settle }
         ensures takes { (given : commands.Command) → map_op (self.old.calls + 1) given
@@ -417,7 +435,7 @@ impl<F: Fn(u64, u64) -> u64 + Drop> Batch<F> {
         requires ready { ⟦<AddSettle<F> as Settle>⟧.IsReady self.old.tree.settle }
         requires free { CanServe (seen D.state rig.old).pool }
         requires plain { self.old.early ≡ false }
-        requires few { self.old.calls < 2 ^ 40 }
+        requires few { self.old.calls < 2 ^ 40 + (trunk_of self.old).adopted }
         requires what { what < 4 }
         ensures rule { self.new.tree.settle ≡ self.old.tree.settle }
         ensures takes { (given : commands.Command) → map_op (self.old.calls + 1) given
@@ -460,7 +478,7 @@ impl<F: Fn(u64, u64) -> u64 + Drop> Batch<F> {
         requires free { CanServe (seen D.state rig.old).pool }
         requires area { CanGather (seen D.state rig.old) self.old }
         requires early { self.old.early ≡ true }
-        requires few { self.old.calls < 2 ^ 40 }
+        requires few { self.old.calls < 2 ^ 40 + (trunk_of self.old).adopted }
         requires what { what < 4 }
         ensures rule { self.new.tree.settle ≡ self.old.tree.settle }
         ensures takes { (given : commands.Command) → map_op (self.old.calls + 1) given
@@ -535,12 +553,12 @@ impl<F: Fn(u64, u64) -> u64 + Drop> Batch<F> {
         ensures counts { CountsPushes (left_of load.old.items) (seen D.state rig.old)
             (seen D.state rig.new) (trunk_of self.old) (trunk_of self.new) }
         ensures room { IsTrue (seen D.state rig.old).device.told
-            → LoadWithin ((trunk_of self.old).pushed + length load.old.items)
+            → LoadWithin (entries_of self.old + length load.old.items)
             (answers_in (batches.rule_of self.old) (seen D.state rig.old) (trunk_of self.old)
             + length load.old.items) (seen D.state rig.old) (seen D.state rig.new)
             (trunk_of self.old) }
         ensures over { IfErr result (λ fault. IsTrue (seen D.state rig.old).device.told
-            → LoadOver ((trunk_of self.old).pushed + length load.old.items)
+            → LoadOver (entries_of self.old + length load.old.items)
             (answers_in (batches.rule_of self.old) (seen D.state rig.old) (trunk_of self.old)
             + length load.old.items) (seen D.state rig.old) (trunk_of self.old) fault) }
     {
@@ -585,7 +603,7 @@ impl<F: Fn(u64, u64) -> u64 + Drop> Batch<F> {
         requires closed { self.old.load ≡ None }
         requires ready { ⟦<AddSettle<F> as Settle>⟧.IsReady self.old.tree.settle }
         requires free { CanServe (seen D.state rig.old).pool }
-        requires few { self.old.calls < 2 ^ 40 }
+        requires few { self.old.calls < 2 ^ 40 + (trunk_of self.old).adopted }
         ensures rule { self.new.tree.settle ≡ self.old.tree.settle }
         ensures syncs { SyncsTree (seen D.state rig.old) (seen D.state rig.new)
             self.old self.new result }

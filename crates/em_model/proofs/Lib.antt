@@ -1,5 +1,6 @@
 pub mod AnswerLaws
 pub mod Ascending
+pub mod BaseLaws
 pub mod LiveLaws
 pub mod MapLaws
 pub mod PairLaws

@@ -1,8 +1,9 @@
 -- Worked rows: lists of commands and their answers, which the definitions compute.
-use Rattle.std.proofs.Common.{◌≡◌, [], ◌∷◌, refl, Some, None}
+use Rattle.std.proofs.Common.{◌≡◌, ◌+◌, [], ◌∷◌, ◌++◌, refl, Some, None}
 use Rattle.em_model.specs.declared.command.Command.TheVariants.{Put, Del, Get, Add, Sync, Push, Pop, Interval, Stab}
+use Rattle.em_model.specs.Base.{map_of, puts_of}
 use Rattle.em_model.specs.Live.{live_keys}
-use Rattle.em_model.specs.Map.{Combiner, map_answers}
+use Rattle.em_model.specs.Map.{Combiner, map_answers, map_answers_from}
 use Rattle.em_model.specs.Queue.{queue_answers}
 use Rattle.em_model.specs.Stab.{stab_answers}
 use Rattle.em_model.specs.MapAnswers.{answer_record, answers_after}
@@ -97,6 +98,26 @@ no_pairs_left = refl
 
 no_pairs_of_others : pairs_after no_adds (Push 5 1 ∷ Interval 5 5 ∷ Get 5 ∷ Pop ∷ Stab 5 ∷ Del 5 ∷ []) ≡ []
 no_pairs_of_others = refl
+
+-- values are added
+abbrev sum : Combiner
+sum = λ x y. x + y
+
+-- a map that begins at pairs has their values, and an add joins its value to one of them
+base_of_two :
+    map_answers_from sum (map_of ((1, 2) ∷ (3, 1) ∷ [])) (Get 3 ∷ Add 3 4 ∷ Get 3 ∷ Get 2 ∷ [])
+    ≡ Some 1 ∷ Some 5 ∷ None ∷ []
+base_of_two = refl
+
+-- and answers as one that gets a put for each pair first
+puts_of_two :
+    map_answers sum (puts_of ((1, 2) ∷ (3, 1) ∷ []) ++ Get 3 ∷ Add 3 4 ∷ Get 3 ∷ Get 2 ∷ [])
+    ≡ Some 1 ∷ Some 5 ∷ None ∷ []
+puts_of_two = refl
+
+-- a map that begins at no pair is empty
+base_of_none : map_answers_from sum (map_of []) (Get 3 ∷ Add 3 4 ∷ Get 3 ∷ []) ≡ None ∷ Some 4 ∷ []
+base_of_none = refl
 
 -- elements of one key leave in the order of their pushes, whatever their values
 queue_of_one_key :

@@ -1,4 +1,5 @@
 pub mod Ascending
+pub mod Base
 pub mod Live
 pub mod Map
 pub mod MapAnswers

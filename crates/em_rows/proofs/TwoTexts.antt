@@ -10,7 +10,7 @@ use Rattle.em_space.proofs.Steps.{block_cause, cause_after}
 use Rattle.em_chain.specs.Effects.{Unmoved}
 use Rattle.em_ends.specs.Opens.{text_in}
 use Rattle.em_ends.specs.Stop.{fault_counts, reading}
-use Rattle.em_ends.specs.declared.status.Malform.TheVariants.{Text, Aig}
+use Rattle.em_ends.specs.declared.status.Malform.TheVariants.{Text, Base, Aig}
 use Rattle.em_ends.specs.declared.stop.Stop.{Stop}
 use Rattle.em_ends.specs.declared.stop.Stop.TheVariants.{Fault, Read, Write, Em}
 use Rattle.em_answers.specs.Print.{PrintCause}
@@ -41,6 +41,7 @@ fed_stop : (tells : Bool) (kind : RowKind) (a b : List ℕ) (faults mid after : 
     → RowsCause tells kind b faults after s t stop
 fed_stop tells kind a b faults mid after s t (Fault (Text fault) line) e later cause = λ told.
     ap (row_fault kind) (sym (e told)) ∙ cause told
+fed_stop tells kind a b faults mid after s t (Fault (Base fault) place) e later cause = cause
 fed_stop tells kind a b faults mid after s t (Fault (Aig fault) place) e later cause = cause
 fed_stop tells kind a b faults mid after s t Read e later cause = omega (arith, later, cause)
 fed_stop tells kind a b faults mid after s t Write e later cause = cause
@@ -67,6 +68,7 @@ pub first_stop : (tells : Bool) (plan : Plan) (a b : List ℕ) (faults after : �
     → RowsCause tells plan.first a faults after s t stop
     → TextsCause tells plan a b (reading faults) (reading after) s t stop
 first_stop tells plan a b faults after s t (Fault (Text fault) line) cause = λ told. inl (cause told)
+first_stop tells plan a b faults after s t (Fault (Base fault) place) cause = cause
 first_stop tells plan a b faults after s t (Fault (Aig fault) place) cause = cause
 first_stop tells plan a b faults after s t Read cause = cause
 first_stop tells plan a b faults after s t Write cause = absurd cause
@@ -79,6 +81,7 @@ second_stop : (tells : Bool) (plan : Plan) (a b : List ℕ) (faults mid after : 
     → TextsCause tells plan a b (reading faults) (reading after) s u stop
 second_stop tells plan a b faults mid after held s t u (Fault (Text fault) line) none later touches cause =
     λ told. inr (none told, cause told)
+second_stop tells plan a b faults mid after held s t u (Fault (Base fault) place) none later touches cause = cause
 second_stop tells plan a b faults mid after held s t u (Fault (Aig fault) place) none later touches cause = cause
 second_stop tells plan a b faults mid after held s t u Read none later touches cause = omega (arith, later, cause)
 second_stop tells plan a b faults mid after held s t u Write none later touches cause = absurd cause
@@ -115,6 +118,7 @@ pub texts_around : (tells : Bool) (plan : Plan) (a b : List ℕ) (faults after :
     → TextsCause tells plan a b (reading faults) (reading after) t u stop
     → TextsCause tells plan a b (reading faults) (reading after) s v stop
 texts_around tells plan a b faults after held s t u v (Fault (Text fault) line) before then still cause = cause
+texts_around tells plan a b faults after held s t u v (Fault (Base fault) place) before then still cause = cause
 texts_around tells plan a b faults after held s t u v (Fault (Aig fault) place) before then still cause = cause
 texts_around tells plan a b faults after held s t u v Read before then still cause = cause
 texts_around tells plan a b faults after held s t u v Write before then still cause = cause
@@ -126,6 +130,7 @@ pub texts_read : (tells : Bool) (plan : Plan) (a b : List ℕ) (faults after wri
     (stop : Stop) → TextsCause tells plan a b (reading faults) (reading after) s t stop
     → TextsCause tells plan a b (fault_counts faults write) (fault_counts after write_after) s t stop
 texts_read tells plan a b faults after write write_after s t (Fault (Text fault) line) cause = cause
+texts_read tells plan a b faults after write write_after s t (Fault (Base fault) place) cause = cause
 texts_read tells plan a b faults after write write_after s t (Fault (Aig fault) place) cause = cause
 texts_read tells plan a b faults after write write_after s t Read cause = cause
 texts_read tells plan a b faults after write write_after s t Write cause = absurd (omega (arith, cause))

@@ -12,7 +12,7 @@ use Rattle.em_lines.specs.declared.text.FileKind.{FileKind}
 use Rattle.em_lines.specs.declared.text.FileKind.TheVariants as files
 use Rattle.em_ends.specs.Opens.{text_in}
 use Rattle.em_ends.specs.Stop.{Faults}
-use Rattle.em_ends.specs.declared.status.Malform.TheVariants.{Text, Aig}
+use Rattle.em_ends.specs.declared.status.Malform.TheVariants.{Text, Base, Aig}
 use Rattle.em_ends.specs.declared.stop.Stop.{Stop}
 use Rattle.em_ends.specs.declared.stop.Stop.TheVariants.{Fault, Read, Write, Em}
 use Rattle.em_map.specs.Areas.{KeepsAreas}
@@ -65,6 +65,7 @@ abbrev pub TextsCause : Bool → Plan → List ℕ → List ℕ → Faults → F
 TextsCause tells plan a b faults after old new (Fault (Text fault) line) = IsTrue tells
     → (row_fault plan.first a ≡ Some (fault, line))
     ⊎ ((row_fault plan.first a ≡ None) × (row_fault plan.second b ≡ Some (fault, line)))
+TextsCause tells plan a b faults after old new (Fault (Base fault) place) = ⊥
 TextsCause tells plan a b faults after old new (Fault (Aig fault) place) = ⊥
 TextsCause tells plan a b faults after old new Read = Rose faults.read after.read
 TextsCause tells plan a b faults after old new Write = Rose faults.write after.write

@@ -7,7 +7,7 @@ use Rattle.em_space.specs.Rig.{Cause, RigState}
 use Rattle.em_lines.specs.CommandLine.{before_parsed}
 use Rattle.em_lines.specs.Lines.{lines_of}
 use Rattle.em_lines.specs.Stream.{after_line}
-use Rattle.em_ends.specs.declared.status.Malform.TheVariants.{Text, Aig}
+use Rattle.em_ends.specs.declared.status.Malform.TheVariants.{Text, Base, Aig}
 use Rattle.em_ends.specs.declared.stop.Stop.{Stop}
 use Rattle.em_ends.specs.declared.stop.Stop.TheVariants.{Fault, Read, Write, Em}
 use Rattle.em_rows.specs.Rows.{row_fault, rows_from}
@@ -47,6 +47,7 @@ pub record ReadsRows (kind : RowKind) (text left : List ℕ) : Type 0 where
 abbrev pub RowsCause : Bool → RowKind → List ℕ → ℕ → ℕ → RigState → RigState → Stop → Type 0
 RowsCause tells kind text faults after old new (Fault (Text fault) line) =
     IsTrue tells → row_fault kind text ≡ Some (fault, line)
+RowsCause tells kind text faults after old new (Fault (Base fault) place) = ⊥
 RowsCause tells kind text faults after old new (Fault (Aig fault) place) = ⊥
 RowsCause tells kind text faults after old new Read = Rose faults after
 RowsCause tells kind text faults after old new Write = ⊥

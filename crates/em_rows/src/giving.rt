@@ -22,7 +22,7 @@ use em_lines::LineStop;
 use em_services::Service;
 use em_space::Rig;
 
-/// Gives all rows of a text to a service, up to the first fault. The service has at most 2^39 commands, and takes the commands
+/// Gives all rows of a text to a service, up to the first fault. The service takes 2^39 commands more, and those
 /// of such rows. The feed stands at the begin of an open slot, and the frames of a call are free. The bound on moves says
 /// something only of a service that had no sync. `Fault` is the first faulty line, `Read` comes if the shelf failed, and
 /// `Em` if the rig did; after a stop only `abandon` may be called on the service.
@@ -37,12 +37,13 @@ pub fn give_rows<D: Device, H: Shelf, S: Service>(
     requires sound { Sound (seen D.state rig.old) }
     requires is { S.IsService service.old (seen D.state rig.old) }
     requires free { CanTake (S.areas service.old) (seen D.state rig.old).pool }
-    requires few { (S.counts service.old).n ≤ 2 ^ 39 }
+    requires few { (S.counts service.old).n + 2 ^ 39 ≤ S.most service.old }
     requires ready { ((H.stand shelf.old).slot feed.old.slot).ready ≡ true }
     requires place { feed.old.place ≡ 0 }
     ensures goes { KeepsAreas (S.areas service.old) (S.areas service.new)
         (S.blocks service.old (seen D.state rig.old)) (seen D.state rig.old) (seen D.state rig.new) }
     ensures joins { S.combiner service.new ≡ S.combiner service.old }
+    ensures bounds { S.most service.new ≡ S.most service.old }
     ensures sizes { S.size service.new ≡ S.size service.old }
     ensures frames { S.HasItsFrames service.new (seen D.state rig.new) }
     ensures is { OnOk result (S.IsService service.new (seen D.state rig.new)) }

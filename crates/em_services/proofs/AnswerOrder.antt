@@ -8,6 +8,8 @@ use Rattle.em_model.specs.Map.{Combiner, map_answers_from, no_keys, state_after}
 use Rattle.em_model.specs.declared.command.Command.{Command}
 use Rattle.em_model.specs.declared.command.Command.TheVariants.{Put, Add, Del, Get, Sync, Push, Pop, Interval, Stab}
 use Rattle.em_model.proofs.AnswerLaws.{answers_few}
+use Rattle.em_map.specs.Commands.{gets_of}
+use Rattle.em_map.proofs.Gets.{gets_answered}
 use Rattle.em_sorting.specs.Lacking.{AllLack}
 
 -- no two of these records have the same words a and b
@@ -128,12 +130,13 @@ answers_lack apply before cs xs e =
     unlike_lack [] xs (subst AllUnlike (sym e)
     (rise_unlike n (answers_after apply before cs) (answers_rise n cs (map_answers_from apply m cs))))
 
-pub answers_most : (apply : Combiner) (before cs : List Command) (xs : List Record) → in_order xs ≡ answers_after apply before cs
-    → length xs ≤ length cs
-answers_most apply before cs xs e =
+-- each is that of a get
+pub answers_gets : (apply : Combiner) (before cs : List Command) (xs : List Record) → in_order xs ≡ answers_after apply before cs
+    → length xs ≤ gets_of cs
+answers_gets apply before cs xs e =
     let n = length_order xs in
     let m = ap (λ (ys : List Record). length ys) e in
-    let l = answers_few apply (1 + length before) (state_after apply no_keys before) cs in omega (arith, n, m, l)
+    let l = gets_answered apply before cs in omega (arith, n, m, l)
 
 -- the records of the answers are no more than the commands
 pub records_few : (apply : Combiner) (before cs : List Command) → length (answers_after apply before cs) ≤ length cs

@@ -20,12 +20,12 @@ use Rattle.em_tree_cost.specs.Shares.{chain_share, tree_room}
 use Rattle.em_services.specs.BatchLaws.{n_is}
 use Rattle.em_tree_cost.proofs.Ceilings.{ceil_is, ceil_mono, ceiling_is}
 use Rattle.em_tree_cost.proofs.Rising.{queue_share_rises}
-use Rattle.em_map.specs.Batch.{BatchCosts, BatchOver, BatchWithin, FinishedBatch, HasCommands, UnfinishedBatch, answers_room, areas_of, batch_blocks, batch_spent, rule_of}
+use Rattle.em_map.specs.Batch.{BatchCosts, BatchOver, BatchWithin, FinishedBatch, HasCommands, UnfinishedBatch, answers_room, areas_of, batch_blocks, batch_spent, rule_of, trunk_of}
 use Rattle.em_map.specs.declared.batch.Batch.{Batch}
 use Rattle.em_services.specs.BatchService.{AreAnswers, IsGivenBatch, OrdersAnswers, answers_share, batch_counts, entered_size, map_share, map_size, ordering_moves, ordering_room}
 use Rattle.em_map.specs.Areas.{GivenWithAreas}
 use Rattle.em_services.specs.Service.{CanAnswer, GivesFrames, LeavesAnswers, WithinAllowance, FullOverRoom, WithinRoom}
-use Rattle.em_services.proofs.AnswerOrder.{answers_lack, answers_most}
+use Rattle.em_services.proofs.AnswerOrder.{answers_gets, answers_lack}
 use Rattle.em_services.proofs.BatchSizes.{answers_within, batch_room, entered_within}
 use Rattle.em_services.proofs.Moves.{call_moves}
 use Rattle.em_record.specs.Cost.{room}
@@ -59,12 +59,12 @@ calls_are s b before cs h = n_is b s before cs h
 
 -- no more answers were given than commands
 answers_count : {F : Type 0} (s m : RigState) (b : Batch F) (c : Chain) → FinishedBatch s m b c
-    → IsGivenBatch s b → IsTrue s.device.told → c.count ≤ b.calls
+    → IsGivenBatch s b → IsTrue s.device.told → c.count + (trunk_of b).adopted ≤ b.calls
 answers_count s m b c f i z =
     let n = length_items m c f.chain (f.session.touches.told ∙ z) in
-    let l = answers_most (rule_of b) i.before i.since (chain_items m c) (f.ordered z i.before i.since i.has) in
-    let calls = i.has.calls in
-    omega (arith, n, l, calls)
+    let l = answers_gets (rule_of b) i.before i.since (chain_items m c) (f.ordered z i.before i.since i.has) in
+    let base = i.has.base in
+    omega (arith, n, l, base)
 
 -- They are no more than the size of its commands.
 answers_size : {F : Type 0} (s m : RigState) (b : Batch F) (c : Chain) → FinishedBatch s m b c
@@ -202,7 +202,7 @@ module _ {F : Type 0} (s m t : RigState) (b : Batch F) (c : Chain) (f : Finished
         let low : 128 ≤ m.pool.shape.block = f.session.sound.shape.block_low in
         let blocks = packed_blocks m c low f.chain told (f.packed z) in
         let most = lists_fit m.pool.shape c.count b.calls (lists_room m c)
-        f.session.sound.shape few (omega (arith, blocks)) in
+        f.session.sound.shape (omega (arith, few)) (omega (arith, blocks)) in
         rw (← f.frames.shape) most
 
     pub answers_room_is : (result : Result Chain EmFault) → OrdersAnswers m t c result

@@ -30,7 +30,7 @@ use Rattle.em_tree_walk.proofs.Losses.{chain_length}
 use Rattle.em_trunk.specs.Trunk.{given_by, model_of, trunk_blocks}
 use Rattle.em_trunk.specs.declared.trunk.Trunk.{Trunk}
 use Rattle.em_map.specs.Areas.{GivenWithAreas}
-use Rattle.em_map.specs.Batch.{BatchWithin, HasCommands, IsBatch, areas_in, areas_of, batch_blocks, batch_spent, rule_of}
+use Rattle.em_map.specs.Batch.{BatchWithin, HasCommands, IsBatch, areas_in, areas_of, batch_blocks, batch_spent, rule_of, trunk_of}
 use Rattle.em_map.specs.Handing.{HandedTree}
 use Rattle.em_map.specs.Loading.{answers_in}
 use Rattle.em_map.specs.declared.batch.Batch.{Batch}
@@ -39,7 +39,8 @@ use Rattle.em_services.specs.BatchLaws.{n_is}
 use Rattle.em_services.specs.BatchService.{IsGivenBatch, batch_counts, entered_size, map_share, map_size}
 use Rattle.em_services.specs.DumpLaws.{pairs_records_few}
 use Rattle.em_services.specs.Listing.{CanList, HasFew, HasRecords, ListsPairs, ListsWithin, listing_moves, listing_room}
-use Rattle.em_services.specs.Service.{CanAnswer, FullOverRoom, GivesFrames, LeavesAnswers, WithinAllowance, WithinRoom, records_of_pairs}
+use Rattle.em_map.specs.Over.{records_of_pairs}
+use Rattle.em_services.specs.Service.{CanAnswer, FullOverRoom, GivesFrames, LeavesAnswers, WithinAllowance, WithinRoom}
 use Rattle.em_services.proofs.BatchSizes.{batch_room}
 use Rattle.em_services.proofs.DumpMoves.{dump_moves, end_moves}
 use Rattle.em_services.proofs.PairRecords.{has_pairs}
@@ -70,15 +71,15 @@ module _ {F : Type 0} (s m : RigState) (b : Batch F) (v : Trunk) (h : HandedTree
       let n = n_is b s before cs k in
       omega (arith, few, n)
 
-  pub handed_few : (rule : Combiner) → rule ≡ rule_of b → IsTrue m.device.told → HasFew rule (2 ^ 40) m v
-  handed_few rule same z =
+  pub handed_few : (trunk_of b).adopted ≡ 0 → (rule : Combiner) → rule ≡ rule_of b → IsTrue m.device.told → HasFew rule (2 ^ 40) m v
+  handed_few own rule same z =
       let here : IsTrue s.device.told = sym h.session.touches.told ∙ z in
       let few = pairs_few i.before i.since i.has in
       let calls = i.is.few in
       subst (λ (r : Combiner). HasFew r (2 ^ 40) m v) (sym same) (record {
         list = records_of_pairs (pairs_after (rule_of b) (i.before ++ i.since));
         has = handed_pairs here i.before i.since i.has;
-        few = omega (arith, few, calls);
+        few = omega (arith, few, calls, own);
       })
 
   -- and the frames for listing these are free.
@@ -104,7 +105,7 @@ module _ {F : Type 0} (s m : RigState) (b : Batch F) (v : Trunk) (h : HandedTree
       let settled = h.settled in
       let few = i.is.few in
       let all = i.is.alone plain in
-      omega (arith, settled, few, all)
+      omega (arith, settled, few, i.is.few_adopted, all)
 
   -- No answer is left of it,
   none_due : IsTrue s.device.told → answers_in (rule_of b) m v ≡ 0
@@ -135,7 +136,7 @@ module _ {F : Type 0} (s m : RigState) (b : Batch F) (v : Trunk) (h : HandedTree
       let none = none_filled z in
       let longest = h.longest in
       let pushed = i.is.longest in
-      let calls = i.is.pushed in
+      let calls = i.is.entries in
       let rises = ceiling_rises n b.calls (payload_of m.pool.shape) (omega (arith, low)) few in
       let tree = tree_room_rises m.pool.shape v.longest b.calls (omega (arith, longest, pushed, calls)) in
       let fits = commands_room m.pool.shape b.calls b.calls (ceiling b.calls (payload_of m.pool.shape))
@@ -248,12 +249,12 @@ module _ {F : Type 0} (s m : RigState) (b : Batch F) (v : Trunk) (h : HandedTree
           let few = pairs_few before cs k in
           let list = ceil_mono (ceiling n P) (div_ceil c P) P n c (ceiling_is n P some) (ceil_is c P some) few in
           let longest = i.is.longest in
-          let pushed = i.is.pushed in
+          let pushed = i.is.entries in
           let entered : entered_size b ≤ c = let all = i.is.alone plain in omega (arith, all) in
           let beside = h.beside z in
           let end = end_is z n (within (told_m z) _ (handed_pairs z before cs k)).moves in
           let all = end_moves shape c (v.pushed + v.adopted) v.longest (ceiling n P) b.syncs (batch_spent b) v.spent s.moves m.moves t.moves
-          (let same = h.pushed in let none = h.adopted in omega (arith, same, none, pushed)) (let same = h.longest in omega (arith, same, longest, pushed))
+          (let same = h.pushed in let own = h.adopted in omega (arith, same, own, pushed)) (let same = h.longest in omega (arith, same, longest, pushed))
           list later beside end in
           rw (← n_is b s before cs k) (dump_moves shape c (entered_size b) b.syncs (batch_spent b) t.moves s.moves sound.shape
           entered all)

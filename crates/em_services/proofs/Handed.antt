@@ -18,7 +18,7 @@ use Rattle.em_tree_cost.specs.Shares.{tree_room}
 use Rattle.em_tree_cost.proofs.Rising.{tree_room_rises}
 use Rattle.em_tree_walk.proofs.Losses.{chain_length}
 use Rattle.em_map.specs.Areas.{KeepsAreas, SharesAreas}
-use Rattle.em_map.specs.Batch.{BatchHasFrames, CountsSync, HasCommands, SyncedBatch, answers_room, areas_of, batch_blocks, batch_spent, rule_of}
+use Rattle.em_map.specs.Batch.{BatchHasFrames, CountsSync, HasCommands, SyncedBatch, answers_room, areas_of, batch_blocks, batch_spent, rule_of, trunk_of}
 use Rattle.em_map.specs.declared.batch.Batch.{Batch}
 use Rattle.em_map.proofs.Rooms.{held_blocks, none_given}
 use Rattle.em_map.proofs.Stays.{BatchStays, batch_beside}
@@ -26,7 +26,7 @@ use Rattle.em_ready.proofs.RoomLaws.{room_rises}
 use Rattle.em_services.specs.BatchLaws.{frames_stay}
 use Rattle.em_services.specs.BatchService.{IsGivenBatch, answers_share, batch_counts, entered_size, map_share, map_size}
 use Rattle.em_services.specs.Service.{FramesOut}
-use Rattle.em_services.proofs.AnswerOrder.{answers_most}
+use Rattle.em_services.proofs.AnswerOrder.{answers_gets}
 use Rattle.em_services.proofs.BatchSizes.{answers_later, batch_room, entered_all}
 use Rattle.em_services.proofs.Moves.{within_map}
 
@@ -43,12 +43,15 @@ module _ {F : Type 0} (s m : RigState) (b d : Batch F) (c : Chain) (f : SyncedBa
   pub handed_told : IsTrue s.device.told → IsTrue m.device.told
   handed_told z = f.session.touches.told ∙ z
 
-  pub handed_count : IsTrue s.device.told → c.count ≤ b.calls
-  handed_count z =
+  pub handed_fewer : IsTrue s.device.told → c.count + (trunk_of b).adopted ≤ b.calls
+  handed_fewer z =
       let n = length_items m c f.chain (handed_told z) in
-      let l = answers_most (rule_of b) i.before i.since (chain_items m c) (f.ordered z i.before i.since i.has) in
-      let calls = i.has.calls in
-      omega (arith, n, l, calls)
+      let l = answers_gets (rule_of b) i.before i.since (chain_items m c) (f.ordered z i.before i.since i.has) in
+      let base = i.has.base in
+      omega (arith, n, l, base)
+
+  pub handed_count : IsTrue s.device.told → c.count ≤ b.calls
+  handed_count z = let n = handed_fewer z in omega (arith, n)
 
   pub handed_size : IsTrue s.device.told → (before cs : List Command) → HasCommands s b before cs
       → c.count ≤ map_size b.early s.pool.shape (before ++ cs ++ Sync ∷ [])

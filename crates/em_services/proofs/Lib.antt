@@ -11,6 +11,7 @@ pub mod DumpSyncs
 pub mod Handed
 pub mod InOrder
 pub mod ListedPairs
+pub mod Loads
 pub mod Moves
 pub mod OrderedBatch
 pub mod PairRecords

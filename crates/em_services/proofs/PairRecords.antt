@@ -23,7 +23,7 @@ use Rattle.em_map.specs.Batch.{contents_after}
 use Rattle.em_map.specs.Contents.{key_record, value_record}
 use Rattle.em_map.proofs.Contents.{contents_found}
 use Rattle.em_services.specs.Listing.{HasRecords}
-use Rattle.em_services.specs.Service.{records_of_pairs}
+use Rattle.em_map.specs.Over.{records_of_pairs}
 
 -- Their keys rise.
 above : (k low : ℕ) (ps : List (ℕ × ℕ)) → k < low → RisesFrom low (keys_of ps)

@@ -31,7 +31,7 @@ use Rattle.em_services.specs.Service.{CanSync, FullOverRoom, GivesAtSync, Within
 use Rattle.em_services.proofs.AnswerOrder.{answers_lack}
 use Rattle.em_services.proofs.BatchAnswers.{ceiling_share}
 use Rattle.em_services.proofs.BatchSizes.{entered_later}
-use Rattle.em_services.proofs.Handed.{handed_beside, handed_blocks, handed_count, handed_entered, handed_frames, handed_goes, handed_has, handed_is, handed_size, handed_told, handed_tree, handed_used, handed_within, settled_room}
+use Rattle.em_services.proofs.Handed.{handed_beside, handed_blocks, handed_count, handed_entered, handed_fewer, handed_frames, handed_goes, handed_has, handed_is, handed_size, handed_told, handed_tree, handed_used, handed_within, settled_room}
 use Rattle.em_services.proofs.Moves.{call_moves, share_at, sync_spends, times_rise, two_rooms}
 use Rattle.em_services.proofs.SyncRoom.{sync_room}
 
@@ -58,7 +58,7 @@ module _ {F : Type 0} (s m : RigState) (b d : Batch F) (c : Chain) (f : SyncedBa
     areas = omega (arith, f.frames.areas, free.areas);
     is = f.chain;
     few = λ z.
-        let n = handed_count s m b d c f i (sym f.session.touches.told ∙ z) in
+        let n = handed_fewer s m b d c f i (sym f.session.touches.told ∙ z) in
         let few = i.is.few in omega (arith, n, few);
     lacks = λ z. answers_lack (rule_of b) i.before i.since (chain_items m c)
         (f.ordered (sym f.session.touches.told ∙ z) i.before i.since i.has);

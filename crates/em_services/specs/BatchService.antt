@@ -11,7 +11,7 @@ use Rattle.em_space.specs.declared.fault.EmFault.{EmFault}
 use Rattle.em_chain.specs.Chain.{IsChain, IsPacked, chain_blocks, chain_items}
 use Rattle.em_chain.specs.declared.chain.Chain.{Chain}
 use Rattle.em_tree_cost.specs.Shares.{batch_share, chain_share, queue_share, tree_room}
-use Rattle.em_map.specs.Batch.{HasCommands, IsBatch, batch_spent, batch_unstored, trunk_of}
+use Rattle.em_map.specs.Batch.{HasCommands, IsBatch, batch_spent, batch_unstored, entries_of}
 use Rattle.em_map.specs.Early.{joined_size}
 use Rattle.em_map.specs.declared.batch.Batch.{Batch}
 use Rattle.em_services.specs.Service.{ServiceCounts}
@@ -34,9 +34,9 @@ map_share shape n = batch_share shape n + answers_share shape n
 abbrev pub map_size : Bool → ShapeNumbers → List Command → ℕ
 map_size early shape cs = joined_size early (load_of shape) cs
 
--- the size of the commands of a batch whose operations entered its tree, and of its syncs: after a sync that of all
+-- the size of the commands of a batch that are in its tree, and of its syncs: after a sync that of all
 abbrev pub entered_size : {F : Type 0} → Batch F → ℕ
-entered_size b = (trunk_of b).pushed + b.syncs
+entered_size b = entries_of b + b.syncs
 
 -- A batch with the commands that were given to it: up to and with the last sync, and since.
 pub record IsGivenBatch {F : Type 0} (s : RigState) (b : Batch F) : Type 0 where

@@ -3,6 +3,7 @@ pub mod BatchService
 pub mod DumpLaws
 pub mod InOrder
 pub mod Listing
+pub mod LoadLaws
 pub mod ScanLaws
 pub mod ScanService
 pub mod Service

@@ -1,5 +1,5 @@
 -- What every service promises: docs/CONTRACTS.md, "Services".
-use Rattle.std.specs.Prelude.{ℕ, ◌+◌, ◌*◌, ◌++◌, List, false, IsTrue, Option, Some, None, ◌≡◌, ◌≤◌, IfSome, [], length, map, ◌<◌}
+use Rattle.std.specs.Prelude.{ℕ, ◌+◌, ◌*◌, ◌++◌, List, false, IsTrue, Option, Some, None, ◌≡◌, ◌≤◌, IfSome, [], length, ◌<◌}
 use Rattle.em_record.specs.Shape.{ShapeNumbers, fan_of, IsShape}
 use Rattle.em_lines.specs.declared.text.FileKind.{FileKind}
 use Rattle.em_lines.specs.declared.text.FileKind.TheVariants.{Map, Queue, Stab, Dump}
@@ -17,9 +17,9 @@ use Rattle.em_space.specs.Queue.{Pays}
 use Rattle.em_chain.specs.Chain.{IsChain, IsPacked, chain_blocks}
 use Rattle.em_chain.specs.declared.chain.Chain.{Chain}
 use Rattle.em_map.specs.Areas.{GivenWithAreas}
+use Rattle.em_map.specs.Over.{records_of_pairs}
 use Rattle.em_plain.specs.Room.{StaysWithin}
 use Rattle.em_model.specs.StabAnswers.{stab_pairs}
-use Rattle.em_settle.specs.Map.{map_record}
 use Rattle.em_space.specs.declared.fault.EmFault.{EmFault}
 
 -- The numbers of a service.
@@ -33,10 +33,6 @@ pub record ServiceCounts : Type 0 where
   pub spent : ShapeNumbers → ℕ
   -- the blocks that it holds and that weren't stored since they came into use
   pub unstored : ℕ
-
--- the records of pairs of a key and its value: (K, 0, 0, V)
-abbrev pub records_of_pairs : List (ℕ × ℕ) → List Record
-records_of_pairs pairs = map (λ p. map_record p.0 p.1) pairs
 
 -- the records that are due at the end of a file of this kind, after some commands that come after others: of a map the answers
 -- to the later ones, since a sync gave the others; of an interval list those to all; of a dump the pairs that all leave

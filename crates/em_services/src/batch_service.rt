@@ -7,7 +7,7 @@ ghost use Rattle.std.specs.Prelude.{◌≡◌, ◌<◌, ◌^◌, Some, ◌+◌, 
 ghost use Rattle.em_space.specs.Queue.{CanServe};
 ghost use Rattle.em_space.specs.Rig.{Sound};
 ghost use Rattle.em_space.specs.Seen.{seen};
-ghost use Rattle.em_map.specs.Batch.{BatchOver, BatchWithin, CanGather, CountsCommand, IsBatch, IsNewBatch, TakesTo};
+ghost use Rattle.em_map.specs.Batch.{BatchOver, BatchWithin, CanGather, CountsCommand, IsBatch, IsNewBatch, TakesTo, trunk_of};
 ghost use Rattle.em_services.specs.BatchLaws as laws;
 ghost use Rattle.em_services.specs.BatchService.{AreAnswers, IsGivenBatch, OrdersAnswers, batch_counts, map_share, map_size};
 ghost use Rattle.em_lines.specs.Kind.{IsOfKind};
@@ -63,7 +63,7 @@ pub(crate) fn give_batch<D: Device, F: Fn(u64, u64) -> u64 + Drop>(
     requires ready { ⟦<AddSettle<F> as Settle>⟧.IsReady batch.old.tree.settle }
     requires free { CanServe (seen D.state rig.old).pool }
     requires area { CanGather (seen D.state rig.old) batch.old }
-    requires few { batch.old.calls < 2 ^ 40 }
+    requires few { batch.old.calls < 2 ^ 40 + (trunk_of batch.old).adopted }
     requires kind { IsOfKind kind.Map command }
     requires other { command ≡ variants.Sync → ⊥ }
     ensures rule { batch.new.tree.settle ≡ batch.old.tree.settle }
@@ -88,7 +88,10 @@ pub(crate) fn give_batch<D: Device, F: Fn(u64, u64) -> u64 + Drop>(
 /// The answers of a batch in order. If the list claims more answers than a batch may have, the
 /// device lost what was stored.
 #[tactic(auto, using(crate::proofs::OrderedBatch::no_queue_made, crate::proofs::OrderedBatch::too_many))]
-fn order_answers<D: Device>(rig: &mut Rig<'_, D>, answers: Chain) -> Result<Chain, EmFault>
+pub(crate) fn order_answers<D: Device>(
+    rig: &mut Rig<'_, D>,
+    answers: Chain,
+) -> Result<Chain, EmFault>
     requires are { AreAnswers (seen D.state rig.old) answers }
     ensures orders { OrdersAnswers (seen D.state rig.old) (seen D.state rig.new) answers result }
 {
@@ -123,6 +126,8 @@ impl<F: Fn(u64, u64) -> u64 + Drop> Service for Batch<F> {
     ghost HasItsFrames = { λ b s. BatchHasFrames s b };
 
     ghost counts = { λ b. batch_counts b };
+
+    ghost most = { λ b. 2 ^ 40 + (trunk_of b).adopted };
 
     ghost frames = { 2 };
 

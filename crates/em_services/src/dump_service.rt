@@ -4,7 +4,7 @@
 //!     batch --sync--> answers, which are released
 //!     batch --into_tree--> tree --drain--> [1: 2] [3: 1]
 
-ghost use Rattle.std.specs.Prelude.{◌≡◌, ◌++◌, ◌<◌, false, IfErr, IfOk, Some};
+ghost use Rattle.std.specs.Prelude.{◌≡◌, ◌+◌, ◌++◌, ◌^◌, ◌<◌, IfErr, IfOk, Some};
 ghost use Rattle.em_chain.specs.Chain.{IsChain, chain_blocks, empty_chain};
 ghost use Rattle.em_chain.specs.Row.{Frees};
 ghost use Rattle.em_lines.specs.declared.text.FileKind.TheVariants as kind;
@@ -12,6 +12,7 @@ ghost use Rattle.em_record.specs.Cost.{room as stated_room};
 ghost use Rattle.em_services.specs.BatchLaws as batches;
 ghost use Rattle.em_services.specs.BatchService.{IsGivenBatch, batch_counts, map_share};
 ghost use Rattle.em_services.specs.DumpLaws as laws;
+ghost use Rattle.em_services.specs.DumpLaws.{IsOwnBatch};
 ghost use Rattle.em_services.specs.Service.{size_of};
 ghost use Rattle.em_services.specs.SizeLaws as sizes;
 ghost use Rattle.em_settle.specs.Add.{apply_of};
@@ -53,7 +54,7 @@ fn give_up<D: Device>(rig: &mut Rig<'_, D>, answers: Chain) -> Result<Chain, EmF
 }
 
 impl<F: Fn(u64, u64) -> u64 + Drop> Service for Dump<F> {
-    ghost use Rattle.em_map.specs.Batch.{BatchHasFrames, HasCommands, areas_of, batch_blocks, rule_of};
+    ghost use Rattle.em_map.specs.Batch.{BatchHasFrames, HasCommands, areas_of, batch_blocks, rule_of, trunk_of};
 
     type Rule = AddSettle<F>;
 
@@ -70,11 +71,13 @@ impl<F: Fn(u64, u64) -> u64 + Drop> Service for Dump<F> {
     ghost blocks = { λ v s. batch_blocks s v.batch };
 
     ghost IsService = { λ v s. IsGivenBatch s v.batch
-        × ⟦<AddSettle<F> as Settle>⟧.IsReady v.batch.tree.settle × (v.batch.early ≡ false) };
+        × ⟦<AddSettle<F> as Settle>⟧.IsReady v.batch.tree.settle × IsOwnBatch v.batch };
 
     ghost HasItsFrames = { λ v s. BatchHasFrames s v.batch };
 
     ghost counts = { λ v. batch_counts v.batch };
+
+    ghost most = { λ v. 2 ^ 40 + (trunk_of v.batch).adopted };
 
     ghost frames = { 2 };
 

@@ -4,6 +4,7 @@
 
 mod batch_service;
 mod dump_service;
+mod load_service;
 mod map_rule;
 mod ordering;
 mod pair_list;
@@ -12,6 +13,7 @@ mod service;
 mod stab_service;
 
 pub use dump_service::Dump;
+pub use load_service::Load;
 pub use map_rule::MapRule;
 pub use ordering::put_in_order;
 pub use service::Service;

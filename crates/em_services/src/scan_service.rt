@@ -97,6 +97,8 @@ impl<F: Fn(u64, u64) -> u64 + Drop> Service for ScanMap<F> {
 
     ghost counts = { λ m. list_counts m.list };
 
+    ghost most = { λ v. 2 ^ 40 };
+
     ghost frames = { 1 };
 
     ghost areas = { λ m. 0 };
@@ -194,6 +196,8 @@ impl Service for ScanStab {
     ghost HasItsFrames = { λ v s. StabHasFrame s v };
 
     ghost counts = { λ v. list_counts v.list };
+
+    ghost most = { λ v. 2 ^ 40 };
 
     ghost frames = { 1 };
 

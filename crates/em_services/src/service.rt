@@ -57,6 +57,8 @@ pub trait Service {
     ghost HasItsFrames: { Self → RigState → Type 0 };
     /// Its numbers.
     ghost counts: { Self → ServiceCounts };
+    /// The most commands that it takes.
+    ghost most: { Self → ℕ };
     /// It holds this many single frames.
     ghost frames: { ℕ };
     /// The areas that it holds: one at most.
@@ -85,6 +87,7 @@ pub trait Service {
         ensures is { IfOk result (λ v. IsService v (seen D.state rig.new)) }
         ensures has { IfOk result (λ v. Has v (seen D.state rig.new) [] []) }
         ensures joins { IfOk result (λ v. combiner v ≡ combiner_of rule) }
+        ensures bounds { IfOk result (λ v. most v ≡ 2 ^ 40) }
         ensures none_out { IfOk result (λ v. areas v ≡ 0) }
         ensures sizes { IfOk result (λ v. size v ≡ size_by rule) }
         ensures goes { OnErr result (Goes [] (seen D.state rig.old) (seen D.state rig.new)) }
@@ -101,12 +104,13 @@ pub trait Service {
         requires sound { Sound (seen D.state rig.old) }
         requires is { IsService self.old (seen D.state rig.old) }
         requires free { CanTake (areas self.old) (seen D.state rig.old).pool }
-        requires few { (counts self.old).n < 2 ^ 40 }
+        requires few { (counts self.old).n < most self.old }
         requires kind { IsOfKind KIND command }
         requires other { command ≡ variants.Sync → ⊥ }
         ensures goes { KeepsAreas (areas self.old) (areas self.new)
             (blocks self.old (seen D.state rig.old)) (seen D.state rig.old) (seen D.state rig.new) }
         ensures joins { combiner self.new ≡ combiner self.old }
+        ensures bounds { most self.new ≡ most self.old }
         ensures sizes { size self.new ≡ size self.old }
         ensures frames { HasItsFrames self.new (seen D.state rig.new) }
         ensures is { OnOk result (IsService self.new (seen D.state rig.new)) }
@@ -139,10 +143,11 @@ pub trait Service {
         requires sound { Sound (seen D.state rig.old) }
         requires is { IsService self.old (seen D.state rig.old) }
         requires free { CanSync (areas self.old) (seen D.state rig.old).pool }
-        requires few { (counts self.old).n < 2 ^ 40 }
+        requires few { (counts self.old).n < most self.old }
         ensures goes { KeepsAreas (areas self.old) (areas self.new)
             (blocks self.old (seen D.state rig.old)) (seen D.state rig.old) (seen D.state rig.new) }
         ensures joins { combiner self.new ≡ combiner self.old }
+        ensures bounds { most self.new ≡ most self.old }
         ensures sizes { size self.new ≡ size self.old }
         ensures frames { HasItsFrames self.new (seen D.state rig.new) }
         ensures is { OnOk result (IsService self.new (seen D.state rig.new)) }

@@ -72,6 +72,8 @@ impl Service for Stab {
 
     ghost counts = { λ v. stab_counts v };
 
+    ghost most = { λ v. 2 ^ 40 };
+
     ghost frames = { 2 };
 
     ghost areas = { λ v. 0 };

@@ -3,13 +3,13 @@ use Rattle.std.specs.Prelude.{ℕ, List, ◌++◌, codes, decimal}
 use Rattle.em_record.specs.declared.fault.ShapeFault.{ShapeFault}
 use Rattle.em_record.specs.declared.fault.ShapeFault.TheVariants.{BlockRange, FramesRange, FramesMultiple}
 use Rattle.em_lines.specs.declared.text.TextKind.{TextKind}
-use Rattle.em_lines.specs.declared.text.TextKind.TheVariants.{BadNumber, TooLarge, BadSeparator, Unknown, EmptyLine, LowAboveHigh, TooLong}
+use Rattle.em_lines.specs.declared.text.TextKind.TheVariants.{BadNumber, TooLarge, BadSeparator, Unknown, EmptyLine, LowAboveHigh, TooLong, OutOfOrder}
 use Rattle.em_frames.specs.declared.device.BeginFault.TheVariants.{Failed}
 use Rattle.em_frames.specs.declared.device.BeginFault.TheVariants as begin
 use Rattle.em_space.specs.declared.fault.EmFault.{EmFault}
 use Rattle.em_space.specs.declared.fault.EmFault.TheVariants.{DeviceFault, Full, Damaged}
 use Rattle.em_ends.specs.declared.status.Malform.{Malform}
-use Rattle.em_ends.specs.declared.status.Malform.TheVariants.{Text, Aig}
+use Rattle.em_ends.specs.declared.status.Malform.TheVariants.{Text, Base, Aig}
 use Rattle.em_ends.specs.declared.stop.Stop.{Stop}
 use Rattle.em_ends.specs.declared.stop.Stop.TheVariants.{Fault, Read, Write, Em}
 use Rattle.em_tool.specs.declared.failure.Failure.{Failure}
@@ -30,10 +30,12 @@ text_words Unknown = codes "an unknown word"
 text_words EmptyLine = codes "an empty line"
 text_words LowAboveHigh = codes "the low end is above the high end"
 text_words TooLong = codes "too many lines"
+text_words OutOfOrder = codes "the key isn't above the one before"
 
 -- the fault of an input and its place
 abbrev pub malform_text : Malform → ℕ → List ℕ
 malform_text (Text kind) line = codes "line " ++ (decimal line ++ (codes ": " ++ text_words kind))
+malform_text (Base kind) line = codes "base line " ++ (decimal line ++ (codes ": " ++ text_words kind))
 malform_text (Aig kind) place = codes "the circuit is faulty at " ++ decimal place
 
 -- why the rig gave up

@@ -32,6 +32,7 @@ fn text_words(kind: TextKind) -> &'static str
         TextKind::EmptyLine => "an empty line",
         TextKind::LowAboveHigh => "the low end is above the high end",
         TextKind::TooLong => "too many lines",
+        TextKind::OutOfOrder => "the key isn't above the one before",
     }
 }
 
@@ -43,6 +44,10 @@ fn write_malform<W: fmt::Write>(f: &mut fmt::Formatter<W>, kind: Malform, place:
         Malform::Text(kind) => {
             let words = text_words(kind);
             write!(f, "line {place}: {words}")
+        }
+        Malform::Base(kind) => {
+            let words = text_words(kind);
+            write!(f, "base line {place}: {words}")
         }
         Malform::Aig(_) => write!(f, "the circuit is faulty at {place}"),
     }

@@ -1,5 +1,5 @@
 -- A tree that gets puts, and a drain of it, over a device that doesn't tell what it holds.
-use Rattle.std.specs.Prelude.{◌≡◌, ℕ, ◌<◌, false, Result, Ok, Err}
+use Rattle.std.specs.Prelude.{◌≡◌, ℕ, ◌<◌, ◌^◌, false, Result, Ok, Err}
 use Rattle.em_frames.specs.Pool.{GivenFrames, SameFrames}
 use Rattle.em_settle.specs.Map.{IsMapKept, IsMapOp, map_key_of, map_step_of}
 use Rattle.em_settle.specs.declared.map.MapSettle.{MapSettle}
@@ -41,6 +41,24 @@ pub record StopsPuts (s t : RigState) (v : Trunk) : Type 0 where
 abbrev pub GetsPuts : {T : Type 0} → RigState → RigState → Trunk → ℕ → Result T EmFault → Type 0
 GetsPuts s t v n (Ok x) = GotPuts s t v n
 GetsPuts s t v n (Err fault) = StopsPuts s t v
+
+-- A tree of which a drain may be made. Both areas are free.
+pub record CanDrain (s : RigState) (v : Trunk) : Type 0 where
+  pub rig : IsServing s
+  pub areas : 1 < s.pool.free_areas
+  pub is : IsTrunk map_key_of IsMapOp IsMapKept s v
+  pub settled : v.settled < 2 ^ 100
+  pub resets : v.resets < 2 ^ 100
+
+-- A tree got puts, and all were settled. As many frames are free.
+pub record SettledPuts (s t : RigState) (v : Trunk) : Type 0 where
+  pub can : CanDrain t v
+  pub frames : SameFrames s.pool t.pool
+
+-- the same by the result
+abbrev pub SettlesPuts : {T : Type 0} → RigState → RigState → Trunk → Result T EmFault → Type 0
+SettlesPuts s t v (Ok x) = SettledPuts s t v
+SettlesPuts s t v (Err fault) = StopsPuts s t v
 
 -- A drain of such a tree.
 pub record HasDrain (s : RigState) (d : Drain MapSettle) : Type 0 where

@@ -3,7 +3,7 @@ ghost use Rattle.std.specs.Prelude.{◌≡◌, ◌+◌, ◌<◌, ◌≤◌, ◌^
 ghost use Rattle.em_frames.specs.Pool.{SameFrames};
 ghost use Rattle.em_space.specs.Rig.{Sound};
 ghost use Rattle.em_space.specs.Seen.{seen};
-ghost use Rattle.em_tree_part_tests.specs.Drains.{EndsTree, GetsPuts, GivesRecords, HasDrain, HasPuts, IsServing};
+ghost use Rattle.em_tree_part_tests.specs.Drains.{CanDrain, EndsTree, GetsPuts, GivesRecords, HasDrain, HasPuts, IsServing};
 
 use em_bulk::Drain;
 use em_devices::{Cost, Quiet, ended, opened};
@@ -16,7 +16,7 @@ use std::alloc::Global;
 use std::test::Fail;
 
 /// A prime above the number of puts, so that each has a key of its own.
-const PRIME: u64 = 20_011;
+pub(crate) const PRIME: u64 = 20_011;
 
 /// The key of the put of this number.
 fn key_of(number: u64) -> u64 {
@@ -45,7 +45,7 @@ fn push_next<D: Device>(
 }
 
 /// Pushes this many puts.
-fn push_all<D: Device>(
+pub(crate) fn push_all<D: Device>(
     rig: &mut Rig<'_, D>,
     tree: &mut Tree<MapSettle>,
     puts: u64,
@@ -93,14 +93,13 @@ fn take_all<D: Device>(
 }
 
 /// The first records of a tree. The others are given up.
-fn drain_up_to<D: Device>(
+pub(crate) fn drain_up_to<D: Device>(
     rig: &mut Rig<'_, D>,
     tree: Tree<MapSettle>,
-    puts: u64,
     most: u64,
     given: &mut Vec<Record>,
 ) -> Result<(), EmFault>
-    requires { HasPuts (seen D.state rig.old) tree.trunk puts }
+    requires { CanDrain (seen D.state rig.old) tree.trunk }
     ensures { EndsTree (seen D.state rig.old) (seen D.state rig.new) }
 {
     let mut drain = Drain::new(rig, tree);
@@ -130,7 +129,7 @@ fn serve<D: Device>(
 {
     let mut tree = Tree::new(rig, MapSettle {})?;
     match push_all(rig, &mut tree, puts) {
-        Ok(()) => drain_up_to(rig, tree, puts, most, given),
+        Ok(()) => drain_up_to(rig, tree, most, given),
         Err(fault) => {
             tree.abandon(rig);
             Err(fault)

@@ -115,7 +115,7 @@ pub(super) fn wrong_in(rt: &HostRuntime, row: &str) -> Result<Option<(u8, u64)>,
 /// Command files. The shelf is called once to open the file, once for each 3 bytes of it, and once where the
 /// end is found. The output of a queue is called for each 3 bytes of a line. That of the others gets all lines at
 /// a sync, at the end of the run or at its stop, and is called for each 3 bytes of them.
-const ROWS: [&str; 14] = [
+const ROWS: [&str; 16] = [
     // A map. The device: 25 calls; a release makes none, nor does a freed block that is taken. Call 0 begins it. Then 2 store
     // the tree's leaf and root, and 1 the block of the commands. At the end 4 load the root, load the commands, store them as
     // the leaf's buffer, and store the root; 1 loads the root and finds that buffer. The load makes 5: it loads root and leaf,
@@ -166,6 +166,17 @@ const ROWS: [&str; 14] = [
     // above, of which the last one comes after its line was printed, and 25 at the end, two of them for the block of the value
     // that is left. The shelf: 19 calls, 17 of them for 49 bytes; the sync ends in call 9. The output: 2 calls.
     "map --early --block=128 --frames=64 a|put 1 5/add 1 1/get 1/sync/add 1 1/add 1 1/get 1/||6/8/|0|25 0,26 2|10 0,9 2|1 0,1 2",
+    // A dump. The device: 32 calls. 17 up to a tree in which nothing waits: one that begins it, 2 for leaf and root, 1 for the block of
+    // the commands, 4, 1, 5 and 1 as above, 1 that stores the block of the values, and 1 that finds one leaf. 10 take the pairs out of it:
+    // 2 load the root, and find that no buffer is full, nor the leaf's begun; 2 load root and leaf, and 1 the values; 1 stores the leaf,
+    // which is empty; 2 load both to release them, and 2 store a new leaf and root. 1 stores the pairs. 1 loads the root, and finds no
+    // buffer; 2 load root and leaf to release them. The last one reads the pairs. The shelf: 12 calls, 10 of them for 30 bytes. The
+    // output: 3 calls for 8 bytes.
+    "dump --block=128 --frames=64 a|put 3 1/put 1 2/put 2 9/del 2/||1 2/3 1/|0|32 0|12 0|3 0+3",
+    // The same pairs with a sync, which prints nothing. The device: 49 calls. 19 up to the end of the sync, of which the last two store the
+    // answers and load their block to release it. 15 up to a tree in which nothing waits, two of them to load and store the value; then 10, 1,
+    // 3 and 1 as above. The shelf: 16 calls, 14 of them for 41 bytes.
+    "dump --block=128 --frames=64 a|put 3 1/get 3/sync/put 1 2/put 2 9/del 2/||1 2/3 1/|0|49 0|16 0|3 0+3",
     // A queue. The device: 3 calls. Call 0 begins it, and two store the leaf and the root of an empty tree. The items
     // stand in memory. The shelf: 17 calls, 15 of them for 43 bytes. The pops end in calls 8, 12, 13 and 15, and call 16
     // finds the end. The output: 7 calls, two for each line of 4 bytes.

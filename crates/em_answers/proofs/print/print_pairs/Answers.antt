@@ -1,7 +1,7 @@
 use Rattle.std.proofs.Common.{◌++◌, ap, ◌∙◌, arith}
 use Rattle.em_space.specs.Seen.{seen}
 use Rattle.em_chain.specs.Reader.{reader_items}
-use Rattle.em_answers.specs.Answer.{pair_line, pairs_text}
+use Rattle.em_lines.specs.BaseLine.{pair_line, pairs_text}
 use Rattle.em_answers.specs.Print.{pairs_in}
 use Rattle.em_answers.proofs.Looking.{keeps_looking, looks_next, reads_on}
 use Rattle.em_ends.proofs.Printing.{part_step, sent_step}

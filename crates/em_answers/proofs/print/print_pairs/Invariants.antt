@@ -2,7 +2,7 @@ use Rattle.std.proofs.Common.{◌+◌, ◌++◌, ◌≤◌, IsTrue}
 use Rattle.em_io.specs.Sink.{Sent}
 use Rattle.em_space.specs.Seen.{seen}
 use Rattle.em_chain.specs.Reader.{owed, reader_items}
-use Rattle.em_answers.specs.Answer.{pairs_text}
+use Rattle.em_lines.specs.BaseLine.{pairs_text}
 use Rattle.em_answers.specs.Print.{KeepsBlocks, LooksAt, pairs_in}
 use Rattle.em_answers.proofs.print.print_pairs.Given as goal
 

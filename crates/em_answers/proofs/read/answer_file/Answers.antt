@@ -74,6 +74,6 @@ returns-clause-moves g c = λ t.
 pub returns-clause-most : goal.returns-clause-most
 returns-clause-most g c =
     let k = c.print_answers.ensures.keeps in
-    same_keeps g.S.Service.room g.H.Shelf.tells g.S.Service.KIND _ _ (seen g.D.Device.state c.read_answers.new.rig)
+    same_keeps g.S.Service.room g.H.Shelf.tells _ (seen g.D.Device.state c.read_answers.new.rig)
     (seen g.D.Device.state c.print_answers.new.rig) k.goes.touches.shape k.goes.touches.told k.most
     c.in_ok-answers.ensures.most

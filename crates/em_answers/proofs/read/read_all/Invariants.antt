@@ -22,7 +22,7 @@ invariant-loop-next g l =
     let now = seen g.D.Device.state l.rig in
     let text = rest l.fn.feed (g.H.Shelf.stand l.fn.shelf) in
     let left = rest l.feed (g.H.Shelf.stand l.shelf) in
-    let n = (g.S.Service.counts l.service).n in
+    let size = g.S.Service.size l.fn.service first.pool.shape in
     let held = g.S.Service.blocks l.fn.service first in
     record {
       goes : KeepsAreas (g.S.Service.areas l.fn.service) (g.S.Service.areas l.service) held first now;
@@ -31,28 +31,29 @@ invariant-loop-next g l =
       sizes : g.S.Service.size l.service ≡ g.S.Service.size l.fn.service;
       is : g.S.Service.IsService l.service now;
       within : Within first held (g.S.Service.blocks l.service now);
-      given : List Command;
-      alone : StandsAlone g.S.Service.allowance g.S.Service.room
-          (g.S.Service.size l.fn.service first.pool.shape given)
+      bounds : g.S.Service.most l.service ≡ g.S.Service.most l.fn.service;
+      taken : List Command;
+      alone : StandsAlone g.S.Service.allowance g.S.Service.room (size (g.base ++ taken))
           (g.S.Service.blocks l.service now) (g.S.Service.counts l.service) now;
-      has : g.S.Service.Has l.service now (up_to_sync given) (since_sync given);
+      has : g.S.Service.Has l.service now (up_to_sync (g.base ++ taken)) (since_sync (g.base ++ taken));
       printed : IsTrue first.device.told → g.W.Sink.state l.out
-          ≡ g.W.Sink.took (g.W.Sink.state l.fn.out) (synced_text (g.S.Service.combiner l.fn.service) kind given);
+          ≡ g.W.Sink.took (g.W.Sink.state l.fn.out) (synced_text (g.S.Service.combiner l.fn.service) kind (g.base ++ taken));
       write_later : g.W.Sink.faults l.fn.out ≤ g.W.Sink.faults l.out;
-      number : l.number ≡ n + 1;
-      few : n ≤ 2 ^ 40;
-      place : l.feed.place ≤ 48 * n;
+      n : (g.S.Service.counts l.service).n ≡ length taken + length g.base;
+      number : l.number ≡ length taken + 1;
+      few : length taken ≤ 2 ^ 40;
+      place : l.feed.place ≤ 48 * length taken;
       reads : Reads g.H.Shelf.tells l.fn.feed (g.H.Shelf.stand l.fn.shelf)
           l.feed (g.H.Shelf.stand l.shelf);
       later : g.H.Shelf.faults l.fn.shelf ≤ g.H.Shelf.faults l.shelf;
-      stabs_most : l.stabs ≤ n;
+      stabs_most : l.stabs ≤ length taken;
       good : IsTrue g.H.Shelf.tells
-          → good_commands kind text ≡ given ++ (parsed_from kind (n + 1) (lines_of left)).good;
+          → good_commands kind text ≡ taken ++ (parsed_from kind (length taken + 1) (lines_of left)).good;
       fault : IsTrue g.H.Shelf.tells
-          → first_fault kind text ≡ (parsed_from kind (n + 1) (lines_of left)).fault;
-      counted : IsTrue g.H.Shelf.tells → Counted kind text left n;
+          → first_fault kind text ≡ (parsed_from kind (length taken + 1) (lines_of left)).fault;
+      counted : IsTrue g.H.Shelf.tells → Counted kind text left (length taken);
       stabs : IsTrue g.H.Shelf.tells → length (stab_answers (good_commands kind text)) ≡ l.stabs
-          + length (stab_answers (parsed_from kind (n + 1) (lines_of left)).good);
+          + length (stab_answers (parsed_from kind (length taken + 1) (lines_of left)).good);
     }
 
 abbrev pub decreases-loop-next : goal.decreases-loop-next

@@ -9,8 +9,8 @@ use Rattle.em_answers.specs.Answer.{synced_text}
 use Rattle.em_answers.proofs.AnswerBlocks.{records_blocks}
 use Rattle.em_answers.proofs.Due.{unprinted}
 use Rattle.em_answers.proofs.Listing.{alone_unused, no_counts}
-use Rattle.em_answers.proofs.ReadingStops.{stops_answers, stops_around, stops_new}
-use Rattle.em_answers.proofs.Rooms.{answers_keep, call_keeps, same_keeps}
+use Rattle.em_answers.proofs.ReadingStops.{stops_answers, stops_around, stops_new, stops_none}
+use Rattle.em_answers.proofs.Rooms.{answers_keep, call_keeps, keeps_none, same_keeps}
 use Rattle.em_answers.proofs.ServiceMoves.{all_reads, new_reads, reads_around}
 use Rattle.em_answers.proofs.read.read_answers.Goals as goal
 
@@ -39,10 +39,11 @@ pub returns-in-Err-clause-most : goal.returns-in-Err-clause-most
 returns-in-Err-clause-most g c =
     let e = c.in-Err.ensures in
     let s = seen g.D.Device.state c.args.rig.now in
-    call_keeps g.S.Service.allowance g.S.Service.room g.H.Shelf.tells g.S.Service.KIND _ _ [] [] 0 no_counts s
+    keeps_none g.S.Service.room g.H.Shelf.tells g.S.Service.KIND _ _ (seen g.D.Device.state c.new.new.rig)
+    (call_keeps 0 g.S.Service.allowance g.S.Service.room g.H.Shelf.tells g.S.Service.KIND _ _ [] [] 0 no_counts s
     (seen g.D.Device.state c.new.new.rig) g.met.S.Service.rising_room c.requires.unused.sound.shape e.goes.touches
     (alone_unused g.S.Service.allowance g.S.Service.room s c.requires.unused c.requires.none_moved) (λ t. e.room)
-    (λ t. omega arith) (λ t. omega arith)
+    (λ t. omega arith) (λ t. omega arith))
 
 pub returns-in-Ok-answers-clause-records : goal.returns-in-Ok-answers-clause-records
 returns-in-Ok-answers-clause-records g c = λ t d.
@@ -93,7 +94,7 @@ returns-in-Ok-answers-clause-moves g c = λ t.
     g.S.Service.KIND _ _ (g.S.Service.blocks service u) (g.S.Service.counts service)
     (seen g.D.Device.state c.args.rig.now) u (seen g.D.Device.state c.answers.new.rig) laws.rising
     (r.sizes ∙ c.in-Ok.ensures.sizes) r.goes.sound.shape (r.goes.touches.told ∙ made.touches.told)
-    (r.goes.touches.shape ∙ made.touches.shape) r.alone.alone (c.in-Ok-answers.ensures.moves _ _ (r.has t)) (r.taken t) (laws.n_is service u _ _ (r.has t))
+    (r.goes.touches.shape ∙ made.touches.shape) r.alone.alone (c.in-Ok-answers.ensures.moves _ _ (r.has t)) (let few = r.taken t in omega (arith, few)) (laws.n_is service u _ _ (r.has t))
     (laws.syncs_few service u _ _ (r.has t))
 
 pub returns-in-Ok-answers-clause-most : goal.returns-in-Ok-answers-clause-most
@@ -103,10 +104,11 @@ returns-in-Ok-answers-clause-most g c =
     let laws = g.met.S.Service in
     let r = c.in-Ok-read_all.ensures in
     let a = c.in-Ok-answers.ensures in
-    answers_keep g.S.Service.allowance g.S.Service.room g.H.Shelf.tells g.S.Service.KIND _ _ _
+    keeps_none g.S.Service.room g.H.Shelf.tells g.S.Service.KIND _ _ (seen g.D.Device.state c.answers.new.rig)
+    (answers_keep [] g.S.Service.allowance g.S.Service.room g.H.Shelf.tells g.S.Service.KIND _ _ _
     (g.S.Service.blocks service u) (g.S.Service.counts service) u (seen g.D.Device.state c.answers.new.rig)
-    laws.rising_room r.goes.sound.shape a.gives.touches r.alone.alone (λ t. a.room _ _ (r.has t)) r.taken
-    (λ t. laws.n_is service u _ _ (r.has t))
+    laws.rising_room r.goes.sound.shape a.gives.touches r.alone.alone tt (λ t. a.room _ _ (r.has t)) r.taken
+    (λ t. laws.n_is service u _ _ (r.has t)))
 
 pub returns-in-Err-answers-clause-synced : goal.returns-in-Err-answers-clause-synced
 returns-in-Err-answers-clause-synced g c = λ t d.
@@ -125,7 +127,7 @@ returns-in-Err-answers-clause-moves g c = λ t.
     g.S.Service.KIND _ _ (g.S.Service.blocks service u) (g.S.Service.counts service)
     (seen g.D.Device.state c.args.rig.now) u (seen g.D.Device.state c.answers.new.rig) laws.rising
     (r.sizes ∙ c.in-Ok.ensures.sizes) r.goes.sound.shape (r.goes.touches.told ∙ made.touches.told)
-    (r.goes.touches.shape ∙ made.touches.shape) r.alone.alone (c.in-Err-answers.ensures.moves _ _ (r.has t)) (r.taken t) (laws.n_is service u _ _ (r.has t))
+    (r.goes.touches.shape ∙ made.touches.shape) r.alone.alone (c.in-Err-answers.ensures.moves _ _ (r.has t)) (let few = r.taken t in omega (arith, few)) (laws.n_is service u _ _ (r.has t))
     (laws.syncs_few service u _ _ (r.has t))
 
 pub returns-in-Err-answers-clause-stop : goal.returns-in-Err-answers-clause-stop
@@ -142,13 +144,13 @@ returns-in-Err-answers-clause-stop g c =
     let a = c.in-Err-answers.ensures in
     let service = c.read_all.new.service in
     let now = g.S.Service.blocks service u in
-    stops_answers g.H.Shelf g.W.Sink g.S.Service.allowance g.S.Service.room kind c.args.feed.now
+    stops_none g.H.Shelf g.W.Sink _ g.S.Service.KIND _ _ _ _ _ _ _ _ (stops_answers [] g.H.Shelf g.W.Sink g.S.Service.allowance g.S.Service.room kind c.args.feed.now
     c.args.shelf.now c.read_all.new.shelf c.args.out.now c.read_all.new.out _
     (g.S.Service.blocks c.in-Ok.service m) now (g.S.Service.counts service) s m u v c.in-Err-answers.fault
-    g.met.S.Service.rising_room made.touches made.within r.goes r.alone.alone a.gives a.owes a.cause r.taken
+    g.met.S.Service.rising_room made.touches made.within r.goes r.alone.alone a.gives a.owes a.cause r.taken tt
     (λ t. g.met.S.Service.n_is service u _ _ (r.has t) ∙ ap (λ (cs : List Command). length cs) (sync_parts good))
     (λ t. subst (λ (cs : List Command). FullOverRoom g.S.Service.room (size_of kind cs) now u
-    c.in-Err-answers.fault) (sync_parts good) (a.full _ _ (r.has t)))
+    c.in-Err-answers.fault) (sync_parts good) (a.full _ _ (r.has t))))
 
 pub returns-in-Err-answers-clause-most : goal.returns-in-Err-answers-clause-most
 returns-in-Err-answers-clause-most g c =
@@ -157,20 +159,22 @@ returns-in-Err-answers-clause-most g c =
     let laws = g.met.S.Service in
     let r = c.in-Ok-read_all.ensures in
     let a = c.in-Err-answers.ensures in
-    answers_keep g.S.Service.allowance g.S.Service.room g.H.Shelf.tells g.S.Service.KIND _ _ _
+    keeps_none g.S.Service.room g.H.Shelf.tells g.S.Service.KIND _ _ (seen g.D.Device.state c.answers.new.rig)
+    (answers_keep [] g.S.Service.allowance g.S.Service.room g.H.Shelf.tells g.S.Service.KIND _ _ _
     (g.S.Service.blocks service u) (g.S.Service.counts service) u (seen g.D.Device.state c.answers.new.rig)
-    laws.rising_room r.goes.sound.shape a.gives.touches r.alone.alone (λ t. a.room _ _ (r.has t)) r.taken
-    (λ t. laws.n_is service u _ _ (r.has t))
+    laws.rising_room r.goes.sound.shape a.gives.touches r.alone.alone tt (λ t. a.room _ _ (r.has t)) r.taken
+    (λ t. laws.n_is service u _ _ (r.has t)))
 
 pub returns-in-Err-read_all-clause-stop : goal.returns-in-Err-read_all-clause-stop
 returns-in-Err-read_all-clause-stop g c =
     let m = seen g.D.Device.state c.new.new.rig in
-    stops_around g.H.Shelf g.W.Sink g.S.Service.allowance g.S.Service.room g.S.Service.KIND c.args.feed.now
+    stops_around _ g.H.Shelf g.W.Sink g.S.Service.allowance g.S.Service.room g.S.Service.KIND c.args.feed.now
     c.args.shelf.now c.read_all.new.shelf c.args.out.now c.read_all.new.out []
     (seen g.D.Device.state c.args.rig.now) m
     (seen g.D.Device.state c.read_all.new.rig) (seen g.D.Device.state c.abandon.new.rig)
     c.in-Err-read_all.stop c.in-Ok.ensures.makes.touches c.abandon.ensures.gives.touches
-    c.abandon.ensures.unmoved c.in-Err-read_all.ensures.stop
+    c.abandon.ensures.unmoved
+    (stops_none g.H.Shelf g.W.Sink _ g.S.Service.KIND _ _ _ _ _ _ _ _ c.in-Err-read_all.ensures.stop)
 
 pub returns-in-Err-read_all-clause-synced : goal.returns-in-Err-read_all-clause-synced
 returns-in-Err-read_all-clause-synced g c = λ t d.
@@ -189,6 +193,7 @@ returns-in-Err-read_all-clause-moves g c = λ t.
 pub returns-in-Err-read_all-clause-most : goal.returns-in-Err-read_all-clause-most
 returns-in-Err-read_all-clause-most g c =
     let touches = c.abandon.ensures.gives.touches in
-    same_keeps g.S.Service.room g.H.Shelf.tells g.S.Service.KIND _ _ (seen g.D.Device.state c.read_all.new.rig)
+    same_keeps g.S.Service.room g.H.Shelf.tells _ (seen g.D.Device.state c.read_all.new.rig)
     (seen g.D.Device.state c.abandon.new.rig) touches.shape touches.told c.abandon.ensures.unmoved.same.most
-    c.in-Err-read_all.ensures.most
+    (keeps_none g.S.Service.room g.H.Shelf.tells g.S.Service.KIND _ _ (seen g.D.Device.state c.read_all.new.rig)
+    c.in-Err-read_all.ensures.most)

@@ -27,6 +27,7 @@ loop-next-init g c =
       goes = goes_on_nothing _ _ s r.sound;
       free = r.free;
       joins = refl;
+      bounds = refl;
       sizes = refl;
       is = r.is;
       within = within_same s _;
@@ -127,6 +128,12 @@ returns-in_default-clause-moves g c = λ told start before cs h m.
     (inv.since start before cs h m).within
 
 -- the service takes a row
+pub take-requires-clause-few : goal.take-requires-clause-few
+take-requires-clause-few g c =
+    let inv = c.loop-next.invariant in
+    let m = rw c.in-Some.is at c.in-Ok.ensures.number in
+    omega (arith, m, inv.number, inv.counted, inv.bounds, c.requires.few)
+
 pub take-requires-clause-kind : goal.take-requires-clause-kind
 take-requires-clause-kind g c =
     row_fits c.args.kind g.S.Service.KIND c.in-Some.command c.requires.fits (rw c.in-Some.is at c.in-Ok.ensures.kind)
@@ -191,6 +198,7 @@ loop-next-preserved g c =
       goes = goes_on_within _ _ _ held _ first mid last inv.goes inv.within v.goes;
       free = takes_shared _ _ mid.pool last.pool inv.free v.goes.frames;
       joins = v.joins ∙ inv.joins;
+      bounds = v.bounds ∙ inv.bounds;
       sizes = v.sizes ∙ inv.sizes;
       is = v.is;
       within = within_then first mid held _ _ inv.goes.touches inv.within v.takes.within;

@@ -23,6 +23,7 @@ invariant-loop-next g l =
       goes : KeepsAreas (g.S.Service.areas l.fn.service) (g.S.Service.areas l.service) held first now;
       free : CanTake (g.S.Service.areas l.service) now.pool;
       joins : g.S.Service.combiner l.service ≡ g.S.Service.combiner l.fn.service;
+      bounds : g.S.Service.most l.service ≡ g.S.Service.most l.fn.service;
       sizes : g.S.Service.size l.service ≡ g.S.Service.size l.fn.service;
       is : g.S.Service.IsService l.service now;
       within : Within first held (g.S.Service.blocks l.service now);

@@ -1,4 +1,3 @@
-use Rattle.std.proofs.Common.{◌≤◌}
 use Rattle.em_space.specs.Seen.{seen}
 use Rattle.em_tree_part_tests.specs.Builders.{GotPairs}
 use Rattle.em_tree_part_tests.proofs.built.push_all.Given as goal

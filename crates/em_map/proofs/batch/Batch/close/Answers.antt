@@ -45,7 +45,7 @@ pub returns-in-None-clause-counts : goal.returns-in-None-clause-counts
 returns-in-None-clause-counts g c =
     let b = c.args.self.now in
     let s = seen g.D.Device.state c.args.rig.now in
-    counts_close 0 s s s b (record b { load = c.replace.new.dest }) c.requires.sound c.requires.is
+    counts_close 0 s s s b (record b { load = c.replace.new.dest }) c.requires.is
     (counts_none s (trunk_of b) c.requires.sound c.requires.is.is) refl (omega arith) (omega arith) refl refl refl
 
 pub returns-in-Some-clause-closes : goal.returns-in-Some-clause-closes

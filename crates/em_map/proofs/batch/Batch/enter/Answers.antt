@@ -5,7 +5,7 @@ use Rattle.em_settle.specs.declared.add.AddSettle.{AddSettle}
 use Rattle.em_space.specs.Seen.{seen}
 use Rattle.em_chain.proofs.Parts.{err_of}
 use Rattle.em_combine.specs.Joining.{JoinsLoad}
-use Rattle.em_map.specs.Batch.{rule_of, trunk_of}
+use Rattle.em_map.specs.Batch.{entries_of, rule_of, trunk_of}
 use Rattle.em_map.specs.Loading.{LoadOver, answers_in}
 use Rattle.em_map.proofs.Entering.{entered_batch, joined_few, joined_ops, joins_by, left_later, over_entered, room_entered}
 use Rattle.em_map.proofs.batch.Batch.enter.Given as given
@@ -57,7 +57,7 @@ returns-in_err-push_all-clause-over g c =
     let s = seen g.D.Device.state c.args.rig.now in
     let n = length c.args.load.now.items in
     err_of _ _ (λ fault. IsTrue s.device.told
-    → LoadOver ((trunk_of b).pushed + n) (answers_in (rule_of b) s (trunk_of b) + n) s (trunk_of b) fault)
+    → LoadOver (entries_of b + n) (answers_in (rule_of b) s (trunk_of b) + n) s (trunk_of b) fault)
     c.from_residual.ensures.1 (λ told. over_entered (rule_of b) c.args.load.now.items c.records.result.now s (trunk_of b)
     c.requires.sound c.requires.can.is c.requires.can.longest (joins g ((goal.at.returns-in_err-push_all-clause-over g c).After-records)) told _
     (c.in_err-push_all.ensures.over told))

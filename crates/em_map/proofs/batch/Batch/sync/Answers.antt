@@ -39,4 +39,4 @@ returns-in-Err-clause-counts g c =
     let x = c.close.new.self in
     counts_unclosed (seen g.D.Device.state c.args.rig.now) (seen g.D.Device.state c.close.new.rig) c.args.self.now x
     c.requires.is c.in-Err.ensures.counts c.in-Err.fault c.in-Err.ensures.closes.1 c.in-Err.ensures.some
-    (record { tree = x.tree; calls = x.calls + 1; syncs = x.syncs + 1; early = x.early; load = x.load }) refl refl refl refl
+    (record { tree = x.tree; calls = x.calls + 1; syncs = x.syncs + 1; early = x.early; load = x.load }) refl refl refl refl refl

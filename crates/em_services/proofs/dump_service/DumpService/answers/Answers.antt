@@ -21,7 +21,7 @@ list_pairs-requires-clause-free g c =
     let b = c.args.self.batch in
     let v = c.in-Ok.tree.trunk in
     let e = c.in-Ok.ensures in
-    handed_free s m b v e.hands c.requires.is.0 c.requires.is.2 c.requires.free
+    handed_free s m b v e.hands c.requires.is.0 c.requires.is.2.plain c.requires.free
 
 pub list_pairs-requires-clause-resets : goal.list_pairs-requires-clause-resets
 list_pairs-requires-clause-resets g c =
@@ -30,7 +30,7 @@ list_pairs-requires-clause-resets g c =
     let b = c.args.self.batch in
     let v = c.in-Ok.tree.trunk in
     let e = c.in-Ok.ensures in
-    handed_resets s m b v e.hands c.requires.is.0 c.requires.is.2
+    handed_resets s m b v e.hands c.requires.is.0 c.requires.is.2.plain
 
 pub list_pairs-requires-clause-settled : goal.list_pairs-requires-clause-settled
 list_pairs-requires-clause-settled g c =
@@ -39,7 +39,7 @@ list_pairs-requires-clause-settled g c =
     let b = c.args.self.batch in
     let v = c.in-Ok.tree.trunk in
     let e = c.in-Ok.ensures in
-    handed_settled s m b v e.hands c.requires.is.0 c.requires.is.2
+    handed_settled s m b v e.hands c.requires.is.0 c.requires.is.2.plain
 
 pub list_pairs-requires-clause-few : goal.list_pairs-requires-clause-few
 list_pairs-requires-clause-few g c =
@@ -48,7 +48,7 @@ list_pairs-requires-clause-few g c =
     let b = c.args.self.batch in
     let v = c.in-Ok.tree.trunk in
     let e = c.in-Ok.ensures in
-    handed_few s m b v e.hands c.requires.is.0 c.requires.is.2 (apply_of c.in-Ok.tree.settle.kind)
+    handed_few s m b v e.hands c.requires.is.0 c.requires.is.2.plain c.requires.is.2.own (apply_of c.in-Ok.tree.settle.kind)
     (ap (λ r. apply_of r.kind) e.rule)
 
 pub returns-in-Ok-clause-gives : goal.returns-in-Ok-clause-gives
@@ -60,7 +60,7 @@ returns-in-Ok-clause-gives g c =
     let e = c.in-Ok.ensures in
     let t = seen g.D.Device.state c.list_pairs.new.rig in
     let lists = subst (λ r. ListsPairs (apply_of r.kind) m t v c.list_pairs.result) e.rule c.list_pairs.ensures.lists in
-    pairs_gives s m b v e.hands c.requires.is.0 c.requires.is.2 t c.list_pairs.result lists
+    pairs_gives s m b v e.hands c.requires.is.0 c.requires.is.2.plain t c.list_pairs.result lists
 
 pub returns-in-Ok-clause-leaves : goal.returns-in-Ok-clause-leaves
 returns-in-Ok-clause-leaves g c =
@@ -71,7 +71,7 @@ returns-in-Ok-clause-leaves g c =
     let e = c.in-Ok.ensures in
     let t = seen g.D.Device.state c.list_pairs.new.rig in
     let lists = subst (λ r. ListsPairs (apply_of r.kind) m t v c.list_pairs.result) e.rule c.list_pairs.ensures.lists in
-    pairs_leaves s m b v e.hands c.requires.is.0 c.requires.is.2 t c.list_pairs.result lists
+    pairs_leaves s m b v e.hands c.requires.is.0 c.requires.is.2.plain t c.list_pairs.result lists
 
 pub returns-in-Ok-clause-items : goal.returns-in-Ok-clause-items
 returns-in-Ok-clause-items g c =
@@ -82,7 +82,7 @@ returns-in-Ok-clause-items g c =
     let e = c.in-Ok.ensures in
     let t = seen g.D.Device.state c.list_pairs.new.rig in
     let lists = subst (λ r. ListsPairs (apply_of r.kind) m t v c.list_pairs.result) e.rule c.list_pairs.ensures.lists in
-    pairs_items s m b v e.hands c.requires.is.0 c.requires.is.2 t c.list_pairs.result lists
+    pairs_items s m b v e.hands c.requires.is.0 c.requires.is.2.plain t c.list_pairs.result lists
 
 pub returns-in-Ok-clause-cause : goal.returns-in-Ok-clause-cause
 returns-in-Ok-clause-cause g c =
@@ -93,7 +93,7 @@ returns-in-Ok-clause-cause g c =
     let e = c.in-Ok.ensures in
     let t = seen g.D.Device.state c.list_pairs.new.rig in
     let lists = subst (λ r. ListsPairs (apply_of r.kind) m t v c.list_pairs.result) e.rule c.list_pairs.ensures.lists in
-    pairs_cause s m b v e.hands c.requires.is.0 c.requires.is.2 t c.list_pairs.result lists
+    pairs_cause s m b v e.hands c.requires.is.0 c.requires.is.2.plain t c.list_pairs.result lists
 
 pub returns-in-Ok-clause-owes : goal.returns-in-Ok-clause-owes
 returns-in-Ok-clause-owes g c =
@@ -104,7 +104,7 @@ returns-in-Ok-clause-owes g c =
     let e = c.in-Ok.ensures in
     let t = seen g.D.Device.state c.list_pairs.new.rig in
     let lists = subst (λ r. ListsPairs (apply_of r.kind) m t v c.list_pairs.result) e.rule c.list_pairs.ensures.lists in
-    pairs_owes s m b v e.hands c.requires.is.0 c.requires.is.2 t c.list_pairs.result lists c.requires.sound
+    pairs_owes s m b v e.hands c.requires.is.0 c.requires.is.2.plain t c.list_pairs.result lists c.requires.sound
 
 pub returns-in-Ok-clause-full : goal.returns-in-Ok-clause-full
 returns-in-Ok-clause-full g c =
@@ -115,7 +115,7 @@ returns-in-Ok-clause-full g c =
     let e = c.in-Ok.ensures in
     let t = seen g.D.Device.state c.list_pairs.new.rig in
     let lists = subst (λ r. ListsPairs (apply_of r.kind) m t v c.list_pairs.result) e.rule c.list_pairs.ensures.lists in
-    pairs_full s m b v e.hands c.requires.is.0 c.requires.is.2 t c.list_pairs.result lists c.requires.sound
+    pairs_full s m b v e.hands c.requires.is.0 c.requires.is.2.plain t c.list_pairs.result lists c.requires.sound
 
 pub returns-in-Ok-clause-room : goal.returns-in-Ok-clause-room
 returns-in-Ok-clause-room g c =
@@ -127,7 +127,7 @@ returns-in-Ok-clause-room g c =
     let t = seen g.D.Device.state c.list_pairs.new.rig in
     let within = subst (λ r. IsTrue m.device.told → (xs : List Record) → HasRecords (apply_of r.kind) m v xs
     → ListsWithin (apply_of r.kind) (trunk_blocks m v) m t v (length xs)) e.rule c.list_pairs.ensures.within in
-    pairs_room s m b v e.hands c.requires.is.0 c.requires.is.2 t within c.requires.sound e.room
+    pairs_room s m b v e.hands c.requires.is.0 c.requires.is.2.plain t within c.requires.sound e.room
 
 pub returns-in-Ok-clause-moves : goal.returns-in-Ok-clause-moves
 returns-in-Ok-clause-moves g c =
@@ -139,7 +139,7 @@ returns-in-Ok-clause-moves g c =
     let t = seen g.D.Device.state c.list_pairs.new.rig in
     let within = subst (λ r. IsTrue m.device.told → (xs : List Record) → HasRecords (apply_of r.kind) m v xs
     → ListsWithin (apply_of r.kind) (trunk_blocks m v) m t v (length xs)) e.rule c.list_pairs.ensures.within in
-    pairs_moves s m b v e.hands c.requires.is.0 c.requires.is.2 t within c.requires.sound e.costs.later
+    pairs_moves s m b v e.hands c.requires.is.0 c.requires.is.2.plain t within c.requires.sound e.costs.later
 
 pub returns-in-Err-clause-room : goal.returns-in-Err-clause-room
 returns-in-Err-clause-room g c =
@@ -158,7 +158,7 @@ returns-in-Err-clause-moves g c =
     let t = seen g.D.Device.state c.into_tree.new.rig in
     let b = c.args.self.batch in
     within_equal (Some map_share) _ _ b.syncs (batch_counts b).spent s t
-    (plain_size b s.pool.shape (before ++ cs) c.requires.is.2)
+    (plain_size b s.pool.shape (before ++ cs) c.requires.is.2.plain)
     (unfinished_moves s t b c.in-Err.fault c.in-Err.ensures.hands c.in-Err.ensures.costs c.requires.sound before cs h)
 
 pub returns-in-Err-clause-owes : goal.returns-in-Err-clause-owes

@@ -30,7 +30,10 @@ returns-in-Ok-clause-is g c =
           c.sync.new.self c.in-Ok.handed e.syncs c.requires.is.0 (seen g.D.Device.state c.give_up.new.rig)
           c.give_up.ensures.goes,
       rw (e.rule) c.requires.is.1,
-      e.counts.early ∙ c.requires.is.2,
+      record {
+        plain = e.counts.early ∙ c.requires.is.2.plain;
+        own = e.counts.adopted ∙ c.requires.is.2.own;
+      },
     )
 
 pub returns-in-Ok-clause-has : goal.returns-in-Ok-clause-has
@@ -74,7 +77,7 @@ returns-in-Ok-clause-moves g c = λ kind before cs h.
     let b = c.args.self.now.batch in
     let e = c.give_up.ensures in
     within_equal (Some map_share) _ _ (b.syncs + 1) (batch_counts b).spent s t
-    (plain_size b s.pool.shape (before ++ cs ++ Sync ∷ []) c.requires.is.2)
+    (plain_size b s.pool.shape (before ++ cs ++ Sync ∷ []) c.requires.is.2.plain)
     (dropped_moves s (seen g.D.Device.state c.sync.new.rig) t b c.sync.new.self c.in-Ok.handed c.in-Ok.ensures.syncs
     c.requires.is.0 c.in-Ok.ensures.counts c.requires.sound e.goes e.frees.moves before cs h)
 
@@ -84,7 +87,7 @@ returns-in-Ok-clause-share g c = λ kind. ok_still _ c.give_up.result (λ told b
     let b = c.args.self.now.batch in
     let d = c.sync.new.self in
     subst (λ (n : ℕ). (batch_counts d).spent s.pool.shape ≤ (d.syncs + 1) * map_share s.pool.shape n)
-    (plain_size b s.pool.shape (before ++ cs ++ Sync ∷ []) c.requires.is.2)
+    (plain_size b s.pool.shape (before ++ cs ++ Sync ∷ []) c.requires.is.2.plain)
     (handed_within s (seen g.D.Device.state c.sync.new.rig) b d c.in-Ok.handed c.in-Ok.ensures.syncs c.requires.is.0
     c.in-Ok.ensures.counts told before cs h))
 
@@ -123,7 +126,7 @@ returns-in-Err-clause-moves g c = λ kind before cs h.
     let t = seen g.D.Device.state c.sync.new.rig in
     let b = c.args.self.now.batch in
     within_equal (Some map_share) _ _ (b.syncs + 1) (batch_counts b).spent s t
-    (plain_size b s.pool.shape (before ++ cs ++ Sync ∷ []) c.requires.is.2)
+    (plain_size b s.pool.shape (before ++ cs ++ Sync ∷ []) c.requires.is.2.plain)
     (unsynced_moves s t b c.sync.new.self c.in-Err.fault c.in-Err.ensures.syncs c.in-Err.ensures.counts c.requires.is.0
     c.requires.sound before cs h)
 

@@ -14,7 +14,7 @@ returns-clause-moves g c = λ before cs h.
     let b = c.args.self.now.batch in
     let all = before ++ cs ++ c.args.command ∷ [] in
     within_equal (Some map_share) _ _ b.syncs (batch_counts b).spent s t
-    (plain_size b s.pool.shape all c.requires.is.2)
+    (plain_size b s.pool.shape all c.requires.is.2.plain)
     (take_moves c.args.command s t b c.give_batch.new.batch c.requires.sound c.give_batch.ensures.counts before cs h)
 
 pub returns-clause-room : goal.returns-clause-room
@@ -39,4 +39,4 @@ returns-clause-is g c =
     all_still _ _ _ c.give_batch.result
     (take_is _ c.args.command (seen g.D.Device.state c.args.rig.now) (seen g.D.Device.state c.give_batch.new.rig)
     c.args.self.now.batch c.give_batch.new.batch c.give_batch.result e.takes c.requires.is.0)
-    (rw (e.rule) c.requires.is.1) (e.counts.early ∙ c.requires.is.2)
+    (rw (e.rule) c.requires.is.1) (record { plain = e.counts.early ∙ c.requires.is.2.plain; own = e.counts.adopted ∙ c.requires.is.2.own })
